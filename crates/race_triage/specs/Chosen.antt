@@ -1,4 +1,4 @@
--- Which verdicts are told. All notions here are this project's own.
+-- Which verdicts are printed. All notions here are this project's own.
 use Rattle.std.specs.Prelude.{◌≡◌, ℕ, ◌+◌, ◌-◌, ◌^◌, ◌==◌, ◌&&◌, ◌||◌, nat_eq, not, Bool, true, false, cond, max, min, List, [], ◌++◌, drop, filter, length, count_by, is_some, option_map, Option, Some, None}
 use Rattle.std.specs.List.{list_any, starts_with}
 use Rattle.indexmap.specs.IndexSet.{IndexSet, keys}
@@ -13,7 +13,7 @@ use Rattle.race_triage.specs.declared.verdicts.Outcome.TheVariants.{Race, Undeci
 use Rattle.race_triage.specs.declared.verdicts.Outcome.{Outcome}
 use Rattle.race_triage.specs.declared.verdicts.Verdict.{Verdict}
 
--- the part to which what is said belongs
+-- the kind of an outcome
 abbrev pub part_of : Outcome → Part
 part_of (Race how events threads) = Races
 part_of (Undecided tried) = Open
@@ -25,74 +25,75 @@ is_same Open Open = true
 is_same Never Never = true
 is_same p q = false
 
--- whether the verdict belongs to the part
+-- whether the verdict is of this kind
 abbrev pub is_of : Part → Verdict → Bool
 is_of p v = is_same p (part_of v.outcome)
 
--- the text stands somewhere in the line
+-- the text occurs in the line
 abbrev pub stands_in : List ℕ → List ℕ → Bool
 stands_in text line = (length text == 0) || list_any (λ n. starts_with nat_eq (drop n line) text) (before (length line))
 
--- it stands in one of the two lines
+-- the text occurs in one of the two lines
 abbrev pub is_in : List ℕ → List ℕ → List ℕ → Bool
 is_in first second text = stands_in text first || stands_in text second
 
--- The filters keep a block with these two lines: it has one of the texts `only`, where there are some, and none of `hide`.
+-- The filters keep a block with these two lines: a text of `only` occurs in them, if there are any, and no text of
+-- `hide` does.
 abbrev pub is_shown : List (List ℕ) → List (List ℕ) → List ℕ → List ℕ → Bool
 is_shown only hide first second = not (list_any (is_in first second) hide) && ((length only == 0) || list_any (is_in first second) only)
 
--- they keep the block of this verdict
+-- the filters keep the block of this verdict
 abbrev pub is_kept : Recording → List (List ℕ) → List (List ℕ) → Verdict → Bool
 is_kept r only hide v = is_shown only hide (event_words_at r v.first) (event_words_at r v.second)
 
--- the pairs of places whose races are known, where some may be
+-- the pairs of locations whose races are known, if any were given
 abbrev pub known_places : {S : Type 0} → Option (IndexSet (ℕ × ℕ) S) → Option (List (ℕ × ℕ))
 known_places known = option_map keys known
 
--- the places of the verdict are among them
+-- the verdict's pair of locations is one of these
 abbrev pub is_known : Option (List (ℕ × ℕ)) → Verdict → Bool
 is_known None v = false
 is_known (Some places) v = list_any (same_places v.row.places) places
 
--- it is a race, and known
+-- the verdict is a race, and is known
 abbrev pub is_known_race : Option (List (ℕ × ℕ)) → Verdict → Bool
 is_known_race known v = is_of Races v && is_known known v
 
--- it is told
+-- the verdict is printed
 abbrev pub is_told : Recording → Option (List (ℕ × ℕ)) → List (List ℕ) → List (List ℕ) → Verdict → Bool
 is_told r known only hide v = not (is_known_race known v) && is_kept r only hide v
 
--- it is left out by the filters
+-- the filters leave the verdict out
 abbrev pub is_hidden : Recording → Option (List (ℕ × ℕ)) → List (List ℕ) → List (List ℕ) → Verdict → Bool
 is_hidden r known only hide v = not (is_known_race known v) && not (is_kept r only hide v)
 
--- the verdicts that may be told, in their order: races, what is undecided, and what is apart where that is asked for
+-- the verdicts that may be printed, in order: races, undecided verdicts, and apart verdicts if they are wanted
 abbrev pub in_order : Bool → List Verdict → List Verdict
 in_order apart vs = filter (is_of Races) vs ++ filter (is_of Open) vs ++ cond apart (filter (is_of Never) vs) []
 
--- how many there are, where it is told
+-- the number of such verdicts, if it is counted
 abbrev pub told_count : Bool → (Verdict → Bool) → List Verdict → Option ℕ
 told_count false test vs = None
 told_count true test vs = Some (capped (count_by test vs))
 
--- What is told of all verdicts: those that are neither known races nor left out by a filter. The races that are known are counted where
--- races may be known, and what the filters left out where there is a filter.
+-- The chosen verdicts are those that are neither known races nor left out by a filter. Known races are counted if a
+-- text of known races was given, and hidden blocks if there is a filter.
 pub record AreChosen (r : Recording) (known : Option (List (ℕ × ℕ))) (only hide : List (List ℕ)) (apart : Bool) (vs : List Verdict) (c : Chosen) : Type 0 where
   pub verdicts : c.verdicts.items ≡ filter (is_told r known only hide) (in_order apart vs)
   pub races : c.races ≡ capped (count_by (is_of Races) c.verdicts.items)
   pub known_races : c.known ≡ told_count (is_some known) (is_known_race known) (in_order apart vs)
   pub hidden : c.hidden ≡ told_count (not (length only == 0) || not (length hide == 0)) (is_hidden r known only hide) (in_order apart vs)
 
--- so many more, and no more than 64 bits hold
+-- n plus m, but at most 2^64 - 1, or n if n is greater
 abbrev pub raised : ℕ → ℕ → ℕ
 raised n m = min (n + m) (max n (2 ^ 64 - 1))
 
--- the same where it is told
+-- the same, if it is counted
 abbrev pub more_of : Option ℕ → ℕ → Option ℕ
 more_of None m = None
 more_of (Some n) m = Some (raised n m)
 
--- What was chosen so far, and what is once some verdicts more were considered.
+-- What is chosen before and after some more verdicts are considered.
 pub record AreConsidered (r : Recording) (known : Option (List (ℕ × ℕ))) (only hide : List (List ℕ)) (some : List Verdict) (old new : Chosen) : Type 0 where
   pub verdicts : new.verdicts.items ≡ old.verdicts.items ++ filter (is_told r known only hide) some
   pub races : new.races ≡ raised old.races (count_by (λ v. is_told r known only hide v && is_of Races v) some)

@@ -1,4 +1,4 @@
--- Which races a text names, and which pairs of places these are. All notions here are this project's own.
+-- The races that a text names, and their pairs of locations. All notions here are this project's own.
 use Rattle.std.specs.Prelude.{◌≡◌, ◌↔◌, ◌⊎◌, ◌&&◌, ◌<◌, ◌≤◌, ℕ, nat_eq, not, min, max, Bool, true, List, ◌∷◌, ◌++◌, filter, length, slice_get, slice_index, Contains, Vec, Some, codes}
 use Rattle.std.specs.List.{after_first, before_first, list_any, slice_split, starts_with}
 use Rattle.std.specs.declared.alloc.Global.{Global}
@@ -9,29 +9,30 @@ use Rattle.race_triage.specs.Chosen.{is_known}
 use Rattle.race_triage.specs.Places.{IsSpot}
 use Rattle.race_triage.specs.declared.verdicts.Verdict.{Verdict}
 
--- the first line of a block `race`
+-- the first line of a `race` block
 abbrev pub is_head : List ℕ → Bool
 is_head line = starts_with nat_eq line (codes "race ")
 
--- the line of an access: it begins with two blanks, and with no third
+-- the line of an access: it begins with exactly two blanks
 abbrev pub is_access : List ℕ → Bool
 is_access line = starts_with nat_eq line (codes "  ") && not (starts_with nat_eq line (codes "   "))
 
--- the lines of accesses, up to the next block `race`
+-- the access lines up to the next `race` block
 abbrev pub accesses_in : List (List ℕ) → List (List ℕ)
 accesses_in lines = filter is_access (before_first is_head lines)
 
--- A line has this location: what stands behind its second bar, without the blanks at the ends. A line with less than two bars has none.
+-- The location of a line is the text after its second bar, without blanks at its ends. A line with fewer than two
+-- bars has none.
 abbrev pub IsLocation : List ℕ → List ℕ → Type 0
 IsLocation line location =
     let behind = after_first is_bar (trimmed line) in
     (list_any is_bar behind ≡ true) × (location ≡ trimmed (after_first is_bar behind))
 
--- these are the first two lines of accesses
+-- these are the first two access lines
 abbrev pub AreFirstTwo : List (List ℕ) → List ℕ → List ℕ → Type 0
 AreFirstTwo lines one other = (more : List (List ℕ)) × (accesses_in lines ≡ one ∷ other ∷ more)
 
--- Among the lines there is a block `race` whose accesses are these two: they are the first two lines of accesses behind its first line.
+-- The lines have a `race` block with these two accesses: the first two access lines after the block's first line.
 pub record IsBlock (lines : List (List ℕ)) (one other : List ℕ) : Type 0 where
   pub before : List (List ℕ)
   pub head : List ℕ
@@ -40,11 +41,11 @@ pub record IsBlock (lines : List (List ℕ)) (one other : List ℕ) : Type 0 whe
   pub race : is_head head ≡ true
   pub accesses : AreFirstTwo behind one other
 
--- a block `race` with two accesses stands in the text
+-- the text has a `race` block with two accesses
 abbrev pub HasBlock : List ℕ → Type 0
 HasBlock text = (one other : List ℕ) × IsBlock (slice_split is_line_feed text) one other
 
--- A block `race` of the text names these two locations, that of its first access first.
+-- A `race` block of the text names these two locations, the location of its first access first.
 abbrev pub NamesRace : List ℕ → List ℕ → List ℕ → Type 0
 NamesRace text x y =
     (one other : List ℕ) × IsBlock (slice_split is_line_feed text) one other × IsLocation one x × IsLocation other y
@@ -53,20 +54,21 @@ NamesRace text x y =
 abbrev pub ArePlaces : List (Vec ℕ Global) → List ℕ → List ℕ → ℕ → ℕ → Type 0
 ArePlaces keys x y p q = (m n : ℕ) × IsSpot keys x m × IsSpot keys y n × (p ≡ min m n) × (q ≡ max m n)
 
--- These pairs of places are those whose two locations the text names.
+-- These are exactly the pairs of locations that the text names.
 abbrev pub AreKnown : List (Vec ℕ Global) → List ℕ → List (ℕ × ℕ) → Type 0
 AreKnown keys text pairs =
     (p q : ℕ) → Contains pairs (p, q) ↔ ((x y : List ℕ) × NamesRace text x y × ArePlaces keys x y p q)
 
--- A verdict, whose two events lie at its two places, is known only where the text names their two locations, in one order or the other.
+-- Take a verdict whose two events are at its two locations. It is known only if the text names the two locations, in
+-- either order.
 abbrev pub OnlyNamed : Recording → List ℕ → List ℕ → List (ℕ × ℕ) → Type 0
 OnlyNamed r numbers text pairs =
     (v : Verdict) (x y : List ℕ) → v.first < length r.events → v.second < length r.events
     → slice_get r.locations v.first ≡ Some x → slice_get r.locations v.second ≡ Some y
     → AreAt (slice_index numbers) v.row.places v.first v.second → is_known (Some pairs) v ≡ true → NamesRace text x y ⊎ NamesRace text y x
 
--- A verdict on two places, the lesser first, at which its two events lie, is known if the text names their two locations, in one order or
--- the other.
+-- Take a verdict whose two events are at its two locations, the lesser number first. It is known if the text names
+-- the two locations, in either order.
 abbrev pub AllNamed : Recording → List ℕ → List ℕ → List (ℕ × ℕ) → Type 0
 AllNamed r numbers text pairs =
     (v : Verdict) (x y : List ℕ) → v.first < length r.events → v.second < length r.events

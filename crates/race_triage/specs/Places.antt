@@ -1,21 +1,21 @@
--- Places: the locations of events, by their numbers. `r` is the recording of a trace.
+-- The locations of events, by their numbers. `r` is the recording of a trace.
 use Rattle.std.specs.Prelude.{◌≡◌, ◌↔◌, ℕ, ◌<◌, nat_eq, cond, map, take, List, [], ◌∷◌, ◌++◌, Some, Vec, length, slice_get, slice_index}
 use Rattle.std.specs.List.{fold, list_any, position_or_len}
 use Rattle.std.specs.Cmp.Lexicographic.{pointwise}
 use Rattle.std.specs.declared.alloc.Global.{Global}
 use Rattle.rapid_text.specs.Recording.{Recording}
 
--- Each event has a number. Two events have one number exactly where their locations are one, byte by byte.
+-- Each event has a number. Two events have the same number exactly if their locations are equal, byte by byte.
 pub record AreNumbers (r : Recording) (numbers : List ℕ) : Type 0 where
   pub len : length numbers ≡ length r.events
   pub same : (d e : ℕ) → d < length r.events → e < length r.events
       → (slice_index numbers d ≡ slice_index numbers e) ↔ (slice_get r.locations d ≡ slice_get r.locations e)
 
--- the text stands first at place n of a numbered set
+-- n is the index at which the text first occurs in the set
 abbrev pub IsSpot : List (Vec ℕ Global) → List ℕ → ℕ → Type 0
 IsSpot keys name n = (position_or_len (λ v. pointwise nat_eq name v.items) keys ≡ n) × (n < length keys)
 
--- what was found stays where it was
+-- each text keeps its index
 abbrev pub AreKept : List (Vec ℕ Global) → List (Vec ℕ Global) → Type 0
 AreKept old new = (name : List ℕ) (k : ℕ) → IsSpot old name k → IsSpot new name k
 
@@ -24,18 +24,19 @@ pub record AreNumbered (r : Recording) (n : ℕ) (keys : List (Vec ℕ Global)) 
   pub len : length numbers ≡ n
   pub spots : (e : ℕ) (name : List ℕ) → e < n → slice_get r.locations e ≡ Some name → IsSpot keys name (slice_index numbers e)
 
--- the texts with one more, where it is not among them
+-- the texts, with one more if it is new
 abbrev pub with_text : List (List ℕ) → List ℕ → List (List ℕ)
 with_text texts name = cond (list_any (pointwise nat_eq name) texts) texts (texts ++ name ∷ [])
 
--- the texts of a list, each once, in the order of their first uses
+-- the different texts of a list, in the order of their first use
 abbrev pub first_uses : List (List ℕ) → List (List ℕ)
 first_uses names = fold with_text [] names
 
--- the texts of a numbered set
+-- the texts of a set, in the order of their numbers
 abbrev pub texts_of : List (Vec ℕ Global) → List (List ℕ)
 texts_of keys = map (λ (v : Vec ℕ Global). v.items) keys
 
--- The set has the locations of the first n events, by their first uses: so the trace alone says which number a location has.
+-- The set has the locations of the first n events, in the order of their first use. So the trace alone decides which
+-- number a location has.
 abbrev pub AreFirstUses : Recording → ℕ → List (Vec ℕ Global) → Type 0
 AreFirstUses r n keys = texts_of keys ≡ first_uses (take n r.locations)

@@ -1,4 +1,5 @@
--- What is told of a trace is one, whichever call tells it. `r` is the trace's recording, `place` tells the place of each event.
+-- All calls print the same for a trace. `r` is the trace's recording, and `place` gives the number of each event's
+-- location.
 use Rattle.std.specs.Prelude.{◌≡◌, ◌≤◌, ℕ, Bool, List, Option, All, length}
 use Rattle.rapid_text.specs.Recording.{Recording, IsWellFormed}
 use Rattle.trace_rules.specs.Rules.{IsDisciplined}
@@ -10,11 +11,11 @@ use Rattle.race_triage.specs.declared.totals.Totals.{Totals}
 use Rattle.race_triage.specs.declared.verdicts.TheConstants.{MAX_PLACES}
 use Rattle.race_triage.specs.declared.verdicts.Verdict.{Verdict}
 
--- the trace is well formed, and keeps the rules
+-- the trace is well formed and keeps the rules
 abbrev pub IsLegal : Recording → Type 0
 IsLegal r = IsWellFormed r × IsDisciplined r.events
 
--- A right list of the verdicts on a trace.
+-- A correct list of the verdicts on a trace.
 pub record AreRight (r : Recording) (place : ℕ → ℕ) (tries : ℕ) (apart : Bool) (vs : List Verdict) : Type 0 where
   pub verdicts : All (IsVerdict r place tries apart) vs
   pub complete : AreAllTold r.events place vs
@@ -22,7 +23,7 @@ pub record AreRight (r : Recording) (place : ℕ → ℕ) (tries : ℕ) (apart :
   pub few : length vs ≤ MAX_PLACES
   pub rising : AreRising vs
 
--- two right lists tell the same verdicts in the same order, and what is counted of the one is counted of the other
+-- two correct lists have the same verdicts in the same order, and the same counts
 abbrev pub VerdictsAreOne : Type 0
 VerdictsAreOne =
     (r : Recording) (place : ℕ → ℕ) (tries : ℕ) (apart : Bool) (vs ws : List Verdict)
@@ -31,7 +32,7 @@ VerdictsAreOne =
     → AreRight r place tries apart ws
     → (in_order apart vs ≡ in_order apart ws) × ((t u : Totals) → AreTotals r vs t → AreTotals r ws u → t ≡ u)
 
--- so their text is one
+-- so they have the same text
 abbrev pub TextsAreOne : Type 0
 TextsAreOne =
     (r : Recording) (place : ℕ → ℕ) (tries : ℕ) (apart : Bool) (known : Option (List (ℕ × ℕ))) (only hide : List (List ℕ)) (vs ws : List Verdict) (c d : Chosen)

@@ -1,8 +1,8 @@
--- Tables of one trace.
+-- The tables of one trace.
 use Rattle.std.specs.Prelude.{◌≡◌, length}
 use Rattle.race_triage.specs.declared.tables.Tables.{Tables}
 
--- The orders and the acquires are of the trace, and each event has the number of its place.
+-- The orders and the acquires are those of the trace, and each event has the number of its location.
 pub record AreTables (t : Tables) : Type 0 where
   pub clocks : t.clocks.now ≡ t.indexed.now
   pub must : t.must.now ≡ t.indexed.now

@@ -1,4 +1,4 @@
--- The text that lists the verdicts of a trace. `r` is the trace's recording. All notions here are this project's own.
+-- The text that `triage` prints for a trace. `r` is the trace's recording. All notions here are this project's own.
 use Rattle.std.specs.Prelude.{◌≡◌, ℕ, ◌+◌, nat_lt, Bool, false, cond, List, [], ◌++◌, length, take, filter, flat_map, sum_by, count_by, slice_get, Option, Some, None, codes}
 use Rattle.rapid_text.specs.Canonical.{name_at}
 use Rattle.rapid_text.specs.Recording.{Recording}
@@ -18,11 +18,11 @@ use Rattle.race_triage.specs.declared.verdicts.Outcome.{Outcome}
 use Rattle.race_triage.specs.declared.verdicts.Outcome.TheVariants.{Race, Undecided, Apart}
 use Rattle.race_triage.specs.declared.verdicts.Verdict.{Verdict}
 
--- how many pairs there are of all kinds
+-- the number of pairs of all kinds
 abbrev pub all_in : Counts → ℕ
 all_in c = capped (c.candidates + c.open_pairs + c.guarded + c.forced)
 
--- What is counted of a trace and of its verdicts.
+-- The counts of a trace and of its verdicts.
 pub record AreTotals (r : Recording) (vs : List Verdict) (t : Totals) : Type 0 where
   pub events : t.events ≡ length r.events
   pub threads : t.threads ≡ length r.threads
@@ -36,7 +36,7 @@ pub record AreTotals (r : Recording) (vs : List Verdict) (t : Totals) : Type 0 w
   pub undecided : t.undecided ≡ capped (count_by (is_of Open) vs)
   pub apart : t.apart ≡ capped (count_by (is_of Never) vs)
 
--- the lines of what is counted
+-- the lines of the counts
 abbrev pub trace_lines : Totals → List ℕ
 trace_lines t = count_line (codes "events") t.events ++ count_line (codes "threads") t.threads ++ count_line (codes "pairs") t.pairs
 
@@ -53,7 +53,8 @@ place_lines t =
 abbrev pub totals_text : Totals → List ℕ
 totals_text t = trace_lines t ++ kind_lines t ++ place_lines t
 
--- how many pairs a block is of: the candidates; where there is none, the open ones; where all are apart, all
+-- The number of pairs that a block stands for. For an apart verdict these are all pairs. Otherwise they are the
+-- candidates, or the open pairs if there is no candidate.
 abbrev pub pairs_by : Outcome → Counts → ℕ
 pairs_by Apart c = all_in c
 pairs_by o c = cond (nat_lt 0 c.candidates) c.candidates c.open_pairs
@@ -61,11 +62,11 @@ pairs_by o c = cond (nat_lt 0 c.candidates) c.candidates c.open_pairs
 abbrev pub pairs_text : Verdict → List ℕ
 pairs_text v = codes " pairs" ++ number_text (pairs_by v.outcome v.row.counts)
 
--- that, and of how many variables
+-- the number of pairs, and the number of their variables
 abbrev pub open_text : Verdict → List ℕ
 open_text v = pairs_text v ++ codes " variables" ++ number_text v.variables
 
--- the word for what is said, and the two events
+-- the word for the outcome, and the two event numbers
 abbrev pub word_text : List ℕ → Verdict → List ℕ
 word_text word v = word ++ number_text v.first ++ number_text v.second
 
@@ -74,11 +75,11 @@ how_words Candidate = codes " candidate"
 how_words Beyond = codes " beyond"
 how_words Turned = codes " turned"
 
--- how large the schedule is that shows a race
+-- the size of the schedule that shows a race
 abbrev pub size_text : ℕ → ℕ → List ℕ
 size_text events threads = codes " events" ++ number_text events ++ codes " threads" ++ number_text threads
 
--- the first line of a block, without its end
+-- the first line of a block, without the line feed
 abbrev pub head_by : Outcome → Verdict → List ℕ
 head_by (Race how events threads) v = word_text (codes "race") v ++ how_words how ++ open_text v ++ size_text events threads
 head_by (Undecided tried) v = word_text (codes "undecided") v ++ open_text v ++ codes " tried" ++ number_text tried
@@ -92,7 +93,7 @@ abbrev pub is_held_by : Recording → ℕ → Option ℕ → ℕ → Bool
 is_held_by r e None l = false
 is_held_by r e (Some t) l = nat_lt 0 (hold_count (take e r.events) t l)
 
--- the locks that event e's thread holds before it, in rising number
+-- the locks that the thread of event e holds before it, in the order of their numbers
 abbrev pub held_locks : Recording → ℕ → List ℕ
 held_locks r e = filter (is_held_by r e (thread_at r.events e)) (before (length r.locks))
 
@@ -106,7 +107,7 @@ abbrev pub access_by : Recording → ℕ → Option Event → List ℕ
 access_by r e None = []
 access_by r e (Some v) = codes "  " ++ event_words_at r e ++ codes "\n" ++ lock_lines r (held_locks r e)
 
--- the line of event e, and a line for each lock that is held
+-- the line of event e, and a line for each lock that its thread holds
 abbrev pub access_text : Recording → ℕ → List ℕ
 access_text r e = access_by r e (slice_get r.events e)
 
@@ -117,16 +118,16 @@ block_text r v = head_line v ++ access_text r v.first ++ access_text r v.second
 abbrev pub block_texts : Recording → List Verdict → List ℕ
 block_texts r vs = flat_map (block_text r) vs
 
--- how many blocks were left out, where that is told
+-- how many blocks were left out, if that is counted
 abbrev pub left_out_text : List ℕ → Option ℕ → List ℕ
 left_out_text word None = []
 left_out_text word (Some n) = count_line word n
 
--- the counts, a block for each chosen verdict, and how many were left out
+-- the counts, a block for each chosen verdict, and the numbers of blocks left out
 abbrev pub triage_words : Recording → Totals → Chosen → List ℕ
 triage_words r t c = totals_text t ++ block_texts r c.verdicts.items ++ left_out_text (codes "known") c.known ++ left_out_text (codes "hidden") c.hidden
 
--- The text lists the chosen verdicts, and counts all.
+-- The text lists the chosen verdicts, and counts all verdicts.
 pub record IsTriageText (r : Recording) (vs : List Verdict) (c : Chosen) (text : List ℕ) : Type 0 where
   pub totals : Totals
   pub counted : AreTotals r vs totals

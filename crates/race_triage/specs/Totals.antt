@@ -1,5 +1,5 @@
--- What is counted of a trace, whichever verdicts tell it. `r` is the trace's recording, `place` tells the place of each event. All notions
--- here are this project's own.
+-- The counts of a trace, whoever finds the verdicts. `r` is the trace's recording, and `place` gives the number of
+-- each event's location. All notions here are this project's own.
 use Rattle.std.specs.Prelude.{◌≡◌, ◌≢◌, ◌≤◌, ◌<◌, ◌+◌, ℕ, Bool, true, List, All, AllPairs, Any, length}
 use Rattle.rapid_text.specs.Recording.{Recording, IsWellFormed}
 use Rattle.rapid_text.specs.declared.event.Event.{Event}
@@ -15,15 +15,15 @@ use Rattle.race_triage.specs.declared.totals.Totals.{Totals}
 use Rattle.race_triage.specs.declared.verdicts.TheConstants.{MAX_PLACES}
 use Rattle.race_triage.specs.declared.verdicts.Verdict.{Verdict}
 
--- These are the pairs of places of the trace's conflicting pairs, each once and with the lesser place first.
+-- These are the pairs of locations of the trace's conflicting pairs. Each occurs once, with the lesser number first.
 pub record ArePlacesOf (T : List Event) (place : ℕ → ℕ) (places : List (ℕ × ℕ)) : Type 0 where
   pub rising : All (λ (p : ℕ × ℕ). p.0 ≤ p.1) places
   pub once : AllPairs (λ (p q : ℕ × ℕ). p ≢ q) places
   pub conflicts : All (HaveConflict T place) places
   pub all : (a b : ℕ) → a < b → IsConflicting T a b → Any (λ (p : ℕ × ℕ). is_between p.0 p.1 (place a) (place b) ≡ true) places
 
--- The counts are those of the whole trace: of all its events and threads, of all its conflicting pairs and of those of each kind, and of all their
--- pairs of places.
+-- The counts are those of the whole trace: its events and threads, its conflicting pairs of each kind, and their
+-- pairs of locations.
 pub record AreTotalsOf (r : Recording) (place : ℕ → ℕ) (t : Totals) : Type 0 where
   pub events : t.events ≡ length r.events
   pub threads : t.threads ≡ length r.threads
@@ -37,7 +37,7 @@ pub record AreTotalsOf (r : Recording) (place : ℕ → ℕ) (t : Totals) : Type
   pub count : t.places ≡ length places
   pub parts : t.places ≡ t.races + t.undecided + t.apart
 
--- what is counted of a right list of verdicts is counted of the trace
+-- the counts over a correct list of verdicts are the counts of the trace
 abbrev pub TotalsAreOfTheTrace : Type 0
 TotalsAreOfTheTrace =
     (r : Recording) (place : ℕ → ℕ) (tries : ℕ) (apart : Bool) (vs : List Verdict) (t : Totals)

@@ -1,5 +1,6 @@
--- What is said of a pair of places, and of the pair of events that is told of it. `T` is the events of a trace, `r` its recording, `place`
--- tells the place of each event. All notions here are this project's own.
+-- What a verdict says of a pair of locations, and of the pair of events that it names. `T` is the events of a trace,
+-- and `r` is its recording. `place` gives the number of each event's location. All notions here are this project's
+-- own.
 use Rattle.std.specs.Prelude.{◌≡◌, ◌≢◌, ◌⊎◌, ℕ, ◌<◌, ◌≤◌, ◌%◌, ◌/◌, ◌==◌, ◌&&◌, nat_lt, max, min, count_by, Bool, true, false, List, [], ◌∷◌, ◌++◌, All, AllPairs, Contains, length, take, slice_get, slice_index, slice_index_or, Option, Some, None, ⊤}
 use Rattle.rapid_text.specs.Recording.{Recording}
 use Rattle.rapid_text.specs.declared.event.Event.{Event}
@@ -31,7 +32,8 @@ use Rattle.race_triage.specs.declared.verdicts.Outcome.{Outcome}
 use Rattle.race_triage.specs.declared.verdicts.Outcome.TheVariants.{Race, Undecided, Apart}
 use Rattle.race_triage.specs.declared.verdicts.Verdict.{Verdict}
 
--- A schedule of so many events, which are of so many threads, shows the pair: the list that is found of a race of this kind.
+-- A schedule with these numbers of events and threads shows the pair. It is the one that is found for a race of this
+-- kind.
 pub record IsShownBy (T : List Event) (a b : ℕ) (how : How) (events threads : ℕ) : Type 0 where
   pub schedule : List ℕ
   pub found : IsFoundAs T a b how schedule
@@ -39,47 +41,47 @@ pub record IsShownBy (T : List Event) (a b : ℕ) (how : How) (events threads : 
   pub shows : Shows T schedule a b
   pub size : HasSize T schedule events threads
 
--- the outcome is a race that such a schedule shows, found as is told
+-- the outcome is a race that such a schedule shows, and `how` is true
 abbrev pub IsRaceOf : Recording → ℕ → ℕ → How → Outcome → Type 0
 IsRaceOf r a b how o = (events threads : ℕ) × (o ≡ Race how events threads) × IsShownBy r.events a b how events threads × IsShownAs r a b how
 
--- the same of an open pair
+-- the same for an open pair
 abbrev pub IsOpenRace : Recording → ℕ → ℕ → Outcome → Type 0
 IsOpenRace r a b o = IsRaceOf r a b Beyond o ⊎ IsRaceOf r a b Turned o
 
--- What an outcome says of the pair of events: a race is shown by a schedule, and how it is shown is as told.
+-- What an outcome says of the pair of events: if it is a race, a schedule shows the pair, and `how` is true.
 abbrev pub IsOutcome : Recording → ℕ → ℕ → Outcome → Type 0
 IsOutcome r a b (Race how events threads) = IsShownBy r.events a b how events threads × IsShownAs r a b how
 IsOutcome r a b (Undecided tried) = ⊤
 IsOutcome r a b Apart = ⊤
 
--- there is no candidate
+-- there are open pairs and no candidate
 abbrev pub HasOpen : Counts → Type 0
 HasOpen c = (c.candidates ≡ 0) × (0 < c.open_pairs)
 
--- Which outcome there is for which counts: where there is a candidate a race, where there are open pairs alone a race or nothing that is known,
--- else the two places are apart.
+-- Which outcome fits which counts. If there is a candidate, it is a race. If there are only open pairs, it is a race
+-- or undecided. Otherwise the two locations are apart.
 abbrev pub IsOutcomeFor : Counts → Outcome → Type 0
 IsOutcomeFor c (Race Candidate events threads) = 0 < c.candidates
 IsOutcomeFor c (Race how events threads) = HasOpen c
 IsOutcomeFor c (Undecided tried) = HasOpen c
 IsOutcomeFor c Apart = (c.candidates ≡ 0) × (c.open_pairs ≡ 0)
 
--- the two events are told: of what is apart, only where that was asked for
+-- the verdict names two events; an apart verdict does so only on request
 abbrev pub IsTold : Bool → Outcome → Type 0
 IsTold apart (Race how events threads) = ⊤
 IsTold apart (Undecided tried) = ⊤
 IsTold apart Apart = apart ≡ true
 
--- whether there are open pairs, and no candidate: such a row has tries
+-- whether the row has open pairs and no candidate, so that it has tries
 abbrev pub has_tries : Row → Bool
 has_tries row = row.counts.candidates == 0 && nat_lt 0 row.counts.open_pairs
 
--- how many steps the tries of one row share, where so many rows have tries
+-- how many search steps the tries of one row share, if n rows have tries
 abbrev pub budget_for : ℕ → ℕ
 budget_for n = min BUDGET (4294967296 / max n 1)
 
--- So many steps the tries of one row share. The rows of all pairs of places decide it.
+-- The tries of one row share this many search steps. The rows of all pairs of locations decide the number.
 pub record IsBudget (r : Recording) (place : ℕ → ℕ) (budget : ℕ) : Type 0 where
   pub rows : List Row
   pub are : All (IsRow r place) rows
@@ -88,22 +90,22 @@ pub record IsBudget (r : Recording) (place : ℕ → ℕ) (budget : ℕ) : Type 
   pub complete : AreComplete r.events place rows
   pub is : budget ≡ budget_for (count_by has_tries rows)
 
--- No schedule of the pair was found by so many steps: no list in the order of the trace shows it, and the search from there found nothing. So
--- many steps are left.
+-- No schedule of the pair was found: none in the order of the trace shows it, and a search with this many steps found
+-- nothing. `left` steps are left.
 abbrev pub IsMissed : List Event → ℕ → ℕ → ℕ → ℕ → Type 0
 IsMissed T a b budget left = IsNeverShownInOrder T a b × IsTurned T a b budget None × IsLeft T a b budget left
 
--- a schedule of the pair is found by so many steps
+-- a schedule of the pair is found with this many steps
 abbrev pub IsFoundBy : List Event → ℕ → ℕ → ℕ → Type 0
 IsFoundBy T a b budget = IsShownInOrder T a b ⊎ ((P : List ℕ) × IsTurned T a b budget (Some P))
 
--- None of these pairs was found, which are given by their later event and then by their earlier one. Each is tried by the steps that those before
--- it left.
+-- No schedule was found for any of these pairs, which have their later event first. Each search has the steps that
+-- the searches before it left.
 abbrev pub AreMissed : List Event → ℕ → List Try → ℕ → Type 0
 AreMissed T budget [] left = left ≡ budget
 AreMissed T budget (t ∷ ts) left = (m : ℕ) × IsMissed T t.pair.1 t.pair.0 budget m × AreMissed T m ts left
 
--- The pair is one of these, and none before it was found.
+-- The pair is one of these. No schedule was found for those before it.
 pub record IsFirstFound (T : List Event) (budget : ℕ) (tried : List Try) (pair : ℕ × ℕ) : Type 0 where
   pub at : ℕ
   pub one : Try
@@ -113,8 +115,8 @@ pub record IsFirstFound (T : List Event) (budget : ℕ) (tried : List Try) (pair
   pub earlier : AreMissed T budget (take at tried) left
   pub found : IsFoundBy T pair.1 pair.0 left
 
--- The pair is the first that was found of those that are tried: of the least open pairs of the two places, one for each variable and two
--- threads, the first `tries`. They share a budget of steps.
+-- The pair is the first tried one for which a schedule was found. The tries are the first `tries` of the least open
+-- pairs at the two locations, one for each variable and two threads. They share a budget of steps.
 pub record IsFirstOfTried (r : Recording) (place : ℕ → ℕ) (tries : ℕ) (places pair : ℕ × ℕ) : Type 0 where
   pub tried : List Try
   pub first : AreFirstTries r place places tries tried
@@ -122,7 +124,7 @@ pub record IsFirstOfTried (r : Recording) (place : ℕ → ℕ) (tries : ℕ) (p
   pub shared : IsBudget r place budget
   pub found : IsFirstFound r.events budget tried pair
 
--- Of those that are tried, and there are `count`, none was found.
+-- There are `count` tries, and no schedule was found for any of them.
 pub record AreTriedInVain (r : Recording) (place : ℕ → ℕ) (tries : ℕ) (places : ℕ × ℕ) (count : ℕ) : Type 0 where
   pub tried : List Try
   pub first : AreFirstTries r place places tries tried
@@ -132,13 +134,13 @@ pub record AreTriedInVain (r : Recording) (place : ℕ → ℕ) (tries : ℕ) (p
   pub left : ℕ
   pub none : AreMissed r.events budget tried left
 
--- of what is apart the least of all, where it is told; else 0 and 0
+-- an apart verdict names the least conflicting pair, or 0 and 0 if it was not requested
 abbrev pub IsPairApart : Recording → (ℕ → ℕ) → Bool → ℕ × ℕ → ℕ × ℕ → Type 0
 IsPairApart r place true places pair = IsLeastPair r place places AnyPair (Some pair)
 IsPairApart r place false places pair = pair ≡ (0, 0)
 
--- Which pair is told, by its later event and then by its earlier one: of a race with a candidate the least candidate, of another race the first
--- that was found of those that were tried, and of what is undecided the least open pair.
+-- Which pair a verdict names, the later event first. With a candidate it is the least candidate. For another race it
+-- is the first tried pair for which a schedule was found. For an undecided verdict it is the least open pair.
 abbrev pub IsPairFor : Recording → (ℕ → ℕ) → ℕ → Bool → ℕ × ℕ → ℕ × ℕ → Outcome → Type 0
 IsPairFor r place tries apart places pair (Race Candidate events threads) = IsLeastPair r place places CandidatePair (Some pair)
 IsPairFor r place tries apart places pair (Race how events threads) = IsFirstOfTried r place tries places pair
@@ -146,24 +148,24 @@ IsPairFor r place tries apart places pair (Undecided tried) =
     IsLeastPair r place places OpenPair (Some pair) × AreTriedInVain r place tries places tried
 IsPairFor r place tries apart places pair Apart = IsPairApart r place apart places pair
 
--- What holds of each verdict, where the first `tries` open pairs of two places are tried.
+-- What holds for each verdict, if the first `tries` open pairs of two locations are tried.
 pub record IsVerdict (r : Recording) (place : ℕ → ℕ) (tries : ℕ) (apart : Bool) (v : Verdict) : Type 0 where
   pub first : v.first < length r.events
   pub second : v.second < length r.events
-  -- The counts are those of all conflicting pairs of the two places.
+  -- The counts are those of all conflicting pairs at the two locations.
   pub row : IsRow r place v.row
-  -- There is one at least.
+  -- There is at least one such pair.
   pub there : HaveConflict r.events place v.row.places
   pub pair : IsTold apart v.outcome → IsPair r.events v.first v.second × AreAt place v.row.places v.first v.second
   pub outcome : IsOutcome r v.first v.second v.outcome
   pub counts : IsOutcomeFor v.row.counts v.outcome
-  -- No correct reordering shows two events of places that are apart.
+  -- No correct reordering shows two events of locations that are apart.
   pub never : v.outcome ≡ Apart → IsNeverShownBetween r.events place v.row.places.0 v.row.places.1
-  -- So many variables have a candidate or an open pair of the two places.
+  -- This many variables have a candidate or an open pair at the two locations.
   pub variables : IsCountOf (HasPair r place v.row.places) (before (length r.variables)) v.variables
   pub least : IsPairFor r place tries apart v.row.places (v.second, v.first) v.outcome
 
--- what holds of the verdict on a row
+-- what holds for the verdict on a row
 abbrev pub IsVerdictOn : Recording → (ℕ → ℕ) → ℕ → Bool → Row → Verdict → Type 0
 IsVerdictOn r place tries apart row v = IsVerdict r place tries apart v × (v.row ≡ row)
 
@@ -171,12 +173,12 @@ IsVerdictOn r place tries apart row v = IsVerdict r place tries apart v × (v.ro
 abbrev pub AreOpenPairs : Recording → List Try → Type 0
 AreOpenPairs r tried = All (λ (t : Try). IsPair r.events t.pair.1 t.pair.0 × IsKind r t.pair.1 t.pair.0 OpenKind) tried
 
--- The first of these pairs that was found, and the race that is told of it.
+-- The first of these pairs for which a schedule was found, and its race.
 pub record IsShownFirst (r : Recording) (budget : ℕ) (tried : List Try) (pair : ℕ × ℕ) (o : Outcome) : Type 0 where
   pub found : IsFirstFound r.events budget tried pair
   pub race : IsOpenRace r pair.1 pair.0 o
 
--- What was found of all rows: of each its least pairs; and where `apart` is true its least conflicting pair.
+-- What was found for all rows: the least pairs of each, and, if `apart` is true, its least conflicting pair.
 pub record IsFound (r : Recording) (place : ℕ → ℕ) (tries : ℕ) (apart : Bool) (found : Found) : Type 0 where
   pub rows : All (IsRow r place) found.groups.rows.items
   pub there : All (λ (row : Row). HaveConflict r.events place row.places) found.groups.rows.items
@@ -189,21 +191,21 @@ pub record IsFound (r : Recording) (place : ℕ → ℕ) (tries : ℕ) (apart : 
   pub firsts : apart ≡ true → (at : ℕ) (row : Row) (first : Option (ℕ × ℕ)) → slice_get found.groups.rows.items at ≡ Some row
       → slice_get found.firsts.items at ≡ Some first → IsLeastPair r place row.places AnyPair first
 
--- The same by the tables and the effort that it has.
+-- The same, with the tables and the effort taken from `found`.
 pub record IsFoundIn (found : Found) : Type 0 where
   pub tables : AreTables found.tables
   pub is : IsFound found.tables.indexed.now (slice_index found.tables.places.now) found.effort.tries found.effort.apart found
 
--- what holds of each verdict that is given by what was found
+-- what holds for each verdict that is made from what was found
 abbrev pub IsVerdictOf : Found → Verdict → Type 0
 IsVerdictOf found = IsVerdict found.tables.indexed.now (slice_index found.tables.places.now) found.effort.tries found.effort.apart
 
--- There is a verdict for the two places of each conflicting pair.
+-- Each conflicting pair has a verdict on its two locations.
 abbrev pub AreAllTold : List Event → (ℕ → ℕ) → List Verdict → Type 0
 AreAllTold T place vs =
     (a b : ℕ) → IsPair T a b → (v : Verdict) × Contains vs v × AreAt place v.row.places a b
 
--- no two verdicts are on the same two places
+-- no two verdicts have the same pair of locations
 abbrev pub AreOnceTold : List Verdict → Type 0
 AreOnceTold vs = AllPairs (λ (v w : Verdict). v.row.places ≢ w.row.places) vs
 
@@ -211,30 +213,30 @@ AreOnceTold vs = AllPairs (λ (v w : Verdict). v.row.places ≢ w.row.places) vs
 abbrev pub IsAnswered : List Verdict → Row → Type 0
 IsAnswered vs row = (v : Verdict) × Contains vs v × (v.row ≡ row)
 
--- the row is one of those that stand where `At` says
+-- the row has an index for which `At` holds
 abbrev pub IsOneAt : List Row → (ℕ → Type 0) → Row → Type 0
 IsOneAt rows At row = (at : ℕ) × At at × (slice_get rows at ≡ Some row)
 
--- Each verdict is on a row that stands where `At` says, and no two are on the same places.
+-- Each verdict is on a row with an index for which `At` holds. No two have the same pair of locations.
 pub record AreOn (rows : List Row) (At : ℕ → Type 0) (vs : List Verdict) : Type 0 where
   pub on : All (λ (v : Verdict). IsOneAt rows At v.row) vs
   pub once : AreOnceTold vs
 
--- every so many places, from one of them on, and before an end
+-- the index is below `end`, and is `from` plus a multiple of `every`
 abbrev pub IsOwn : ℕ → ℕ → ℕ → ℕ → Type 0
 IsOwn from every end at = (at < end) × (at % every ≡ from)
 
--- every so many places from the first few on
+-- the index is one of those of the first `parts` parts
 abbrev pub IsBelow : ℕ → ℕ → ℕ → Type 0
 IsBelow every parts at = at % every < parts
 
--- A verdict more, on this row.
+-- One more verdict, on this row.
 pub record IsAdded (r : Recording) (place : ℕ → ℕ) (tries : ℕ) (apart : Bool) (row : Row) (old new : List Verdict) : Type 0 where
   pub verdict : Verdict
   pub is : IsVerdictOn r place tries apart row verdict
   pub added : new ≡ old ++ verdict ∷ []
 
--- The verdicts on every so many rows, from one of them on: each of these rows is answered, and no other.
+-- The verdicts on the rows whose index is `from` plus a multiple of `every`, and on no others.
 pub record ArePart (r : Recording) (place : ℕ → ℕ) (tries : ℕ) (apart : Bool) (rows : List Row) (from every : ℕ) (vs : List Verdict) : Type 0 where
   pub verdicts : All (IsVerdict r place tries apart) vs
   pub answered : (at : ℕ) (d : Row) → at < length rows → at % every ≡ from → IsAnswered vs (slice_index_or rows at d)
@@ -246,7 +248,7 @@ pub record AreWhole (r : Recording) (place : ℕ → ℕ) (tries : ℕ) (apart :
   pub answered : (at : ℕ) (d : Row) → at < length rows → IsAnswered vs (slice_index_or rows at d)
   pub on : AreOn rows (λ at. ⊤) vs
 
--- The same by what was found: a verdict more, a part, and all.
+-- The same for what was found: one more verdict, a part, and all.
 abbrev pub IsAddedBy : Found → Row → List Verdict → List Verdict → Type 0
 IsAddedBy found =
     IsAdded found.tables.indexed.now (slice_index found.tables.places.now) found.effort.tries found.effort.apart
@@ -259,10 +261,10 @@ abbrev pub AreWholeOf : Found → List Verdict → Type 0
 AreWholeOf found =
     AreWhole found.tables.indexed.now (slice_index found.tables.places.now) found.effort.tries found.effort.apart found.groups.rows.items
 
--- v does not stand behind w: by the later event, and then by the earlier
+-- v does not come after w in the order by the later event and then by the earlier one
 abbrev pub IsNoLater : Verdict → Verdict → Type 0
 IsNoLater v w = (v.second < w.second) ⊎ ((v.second ≡ w.second) × (v.first ≤ w.first))
 
--- verdicts in rising order
+-- verdicts in this order
 abbrev pub AreRising : List Verdict → Type 0
 AreRising vs = (i j : ℕ) (d : Verdict) → i ≤ j → j < length vs → IsNoLater (slice_index_or vs i d) (slice_index_or vs j d)

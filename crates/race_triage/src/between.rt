@@ -1,4 +1,4 @@
-//! The verdict on one pair of places.
+//! The verdict on one pair of locations.
 ghost use Rattle.std.specs.Prelude.{◌≡◌, ℕ, ◌<◌, IfOk, IfSome, None, Ok, length, slice_index, true};
 ghost use Rattle.race_groups.specs.Found.{AreComplete, HaveConflict};
 ghost use Rattle.race_groups.specs.Groups.{is_between};
@@ -13,11 +13,11 @@ use rapid_text::OutOfMemory;
 use std::alloc::Global;
 use witness_search::trace_order::Acquires;
 
-/// How many open pairs of a pair of places are tried, if nobody says how many.
+/// How many open pairs of events are tried for a pair of locations, if nobody gives a number.
 pub const USUAL_TRIES: u32 = 16;
 
-/// The verdict on these two places, where `places` has for each event the number of its place, 0, 1 or 2. None if no two
-/// events there conflict.
+/// Returns the verdict on a pair of locations. `places` has for each event the number of its location: 0, 1 or 2.
+/// Returns None if no two events of the two locations conflict.
 pub fn verdict_between(
     alloc: Global,
     analysis: &Analysis<'_>,
@@ -26,7 +26,7 @@ pub fn verdict_between(
 ) -> Result<Option<Verdict>, OutOfMemory>
     requires places { length places.now ≡ length analysis.now.events }
     requires few { (e : ℕ) → slice_index places.now e < 3 }
-    // It is the verdict that `triage` has with these places.
+    // The verdict is the one that `triage` gives with these numbers of locations.
     ensures verdict { IfOk result (λ found. IfSome found (IsVerdict analysis.now (slice_index places.now) USUAL_TRIES true)) }
     ensures between { IfOk result (λ found. IfSome found (λ v. is_between v.row.places.0 v.row.places.1 between.0 between.1 ≡ true)) }
     ensures none { result ≡ Ok None → ¬ HaveConflict analysis.now.events (slice_index places.now) between }
@@ -44,7 +44,7 @@ pub fn verdict_between(
     verdict_by(tables, between)
 }
 
-// The same by the tables of the trace.
+// The same, given the tables of the trace.
 fn verdict_by(tables: Tables<'_>, between: (u32, u32)) -> Result<Option<Verdict>, OutOfMemory>
     requires tables { AreTables tables }
     requires few { (e : ℕ) → slice_index tables.places.now e < 3 }
@@ -65,7 +65,7 @@ fn verdict_by(tables: Tables<'_>, between: (u32, u32)) -> Result<Option<Verdict>
     }
 }
 
-// The same by what was found of all pairs of places.
+// The same, given what was found for all pairs of locations.
 fn verdict_in(found: &Found<'_>, between: (u32, u32)) -> Result<Option<Verdict>, OutOfMemory>
     requires found { IsFoundIn found.now }
     requires complete { AreComplete found.now.tables.indexed.now.events (slice_index found.now.tables.places.now) found.now.groups.rows.items }

@@ -1,4 +1,4 @@
-//! The block of one verdict.
+//! Prints the block of one verdict.
 ghost use Rattle.std.specs.Prelude.{◌≡◌, ◌<◌, ◌++◌, [], length, slice_index_or, OnOk, codes};
 ghost use Rattle.race_triage.specs.Pieces.{event_words_at};
 ghost use Rattle.race_triage.specs.Texts.{access_text, block_text, head_line, held_locks, how_words, lock_line, lock_lines, open_text, pairs_text, size_text, word_text};
@@ -10,7 +10,7 @@ use explain_report::How;
 use must_order::Must;
 use rapid_text::OutOfMemory;
 
-/// Appends the block of a verdict: what is said, and the two accesses.
+/// Appends the block of a verdict: its first line and its two accesses.
 pub(crate) fn append_block(
     out: &mut Vec<u8>,
     indexed: &Indexed,
@@ -56,7 +56,7 @@ fn append_head(out: &mut Vec<u8>, verdict: &Verdict) -> Result<(), OutOfMemory>
     Ok(())
 }
 
-// Appends the word, and the two events.
+// Appends the word and the two event numbers.
 fn append_word(out: &mut Vec<u8>, word: &[u8], verdict: &Verdict) -> Result<(), OutOfMemory>
     ensures { OnOk result (out.new.items ≡ out.old.items ++ word_text word.now verdict.now) }
 {
@@ -66,7 +66,7 @@ fn append_word(out: &mut Vec<u8>, word: &[u8], verdict: &Verdict) -> Result<(), 
     Ok(())
 }
 
-// Appends how large the schedule is.
+// Appends the size of the schedule: its events and its threads.
 fn append_size(out: &mut Vec<u8>, events: u32, threads: u32) -> Result<(), OutOfMemory>
     ensures { OnOk result (out.new.items ≡ out.old.items ++ size_text events threads) }
 {
@@ -77,7 +77,7 @@ fn append_size(out: &mut Vec<u8>, events: u32, threads: u32) -> Result<(), OutOf
     Ok(())
 }
 
-// Appends how many pairs the block is of.
+// Appends the number of pairs of events that the block stands for.
 fn append_pairs(out: &mut Vec<u8>, verdict: &Verdict) -> Result<(), OutOfMemory>
     ensures { OnOk result (out.new.items ≡ out.old.items ++ pairs_text verdict.now) }
 {
@@ -86,7 +86,7 @@ fn append_pairs(out: &mut Vec<u8>, verdict: &Verdict) -> Result<(), OutOfMemory>
     Ok(())
 }
 
-// Appends that, and of how many variables.
+// Appends the number of pairs of events, and the number of their variables.
 fn append_open(out: &mut Vec<u8>, verdict: &Verdict) -> Result<(), OutOfMemory>
     ensures { OnOk result (out.new.items ≡ out.old.items ++ open_text verdict.now) }
 {
@@ -106,7 +106,7 @@ fn how_text(how: How) -> &'static [u8]
     }
 }
 
-// Appends the canonical line of one of the two events, and the locks that its thread holds before it.
+// Appends the canonical line of an event, and the locks that its thread holds before it.
 fn append_access(
     out: &mut Vec<u8>,
     indexed: &Indexed,
@@ -124,7 +124,7 @@ fn append_access(
     Ok(())
 }
 
-// Appends the line of the event.
+// Appends the canonical line of an event.
 fn append_line(out: &mut Vec<u8>, indexed: &Indexed, event: u32) -> Result<(), OutOfMemory>
     ensures { OnOk result (out.new.items ≡ out.old.items ++ (codes "  " ++ event_words_at indexed.now event ++ codes "\n")) }
 {
@@ -170,7 +170,7 @@ fn append_lock(out: &mut Vec<u8>, indexed: &Indexed, lock: u32) -> Result<(), Ou
     Ok(())
 }
 
-// Appends the name of the lock, where the trace has it.
+// Appends the name of the lock. Appends nothing if the trace has no such lock.
 fn append_name(out: &mut Vec<u8>, indexed: &Indexed, lock: u32) -> Result<(), OutOfMemory>
     ensures { OnOk result (out.new.items ≡ out.old.items ++ slice_index_or indexed.now.locks lock []) }
 {

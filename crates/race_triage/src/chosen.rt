@@ -1,4 +1,4 @@
-//! Which verdicts are told.
+//! Chooses the verdicts to print.
 ghost use Rattle.std.specs.Prelude.{◌≡◌, ◌≢◌, ◌∷◌, [], IfOk, OnOk, Ok, Some, None, map, cond, filter, true, false};
 ghost use Rattle.race_triage.specs.Chosen.{is_known, is_kept, known_places, is_of, more_of, AreChosen, AreConsidered};
 ghost use Rattle.race_triage.specs.declared.chosen.Part.TheVariants.{Races, Open, Never};
@@ -11,20 +11,21 @@ use event_index::Indexed;
 use rapid_text::OutOfMemory;
 use std::alloc::Global;
 
-/// The verdicts that are told, and how many are not.
+/// The verdicts to print, and the numbers of those left out.
 #[derive(Drop)]
 pub struct Chosen {
-    /// Races first, then what is undecided, then what is apart, where that is asked for; within each in the order of all verdicts.
+    /// Races first, then undecided verdicts, then apart verdicts if they are wanted. Each kind keeps the order of all
+    /// verdicts.
     pub verdicts: Vec<Verdict>,
     /// How many of them are races.
     pub races: u64,
-    /// How many races were left out as known; nothing where no text of known races was given.
+    /// How many races are left out because they are known; None if no text of known races was given.
     pub known: Option<u64>,
-    /// How many blocks the filters left out; nothing where there is no filter.
+    /// How many blocks the filters leave out; None if there is no filter.
     pub hidden: Option<u64>,
 }
 
-/// The kinds of blocks, in the order in which they are told.
+/// The kinds of blocks, in the order in which they are printed.
 #[derive(Clone, Copy, PartialEq, Eq)]
 pub(crate) enum Part {
     Races,
@@ -32,8 +33,8 @@ pub(crate) enum Part {
     Never,
 }
 
-/// Chooses the verdicts that are told: of races those whose places are not known, then what is undecided, and where `apart` is true what is
-/// apart; of all these what the filters keep.
+/// Chooses the verdicts to print. It takes races whose locations are not known, then undecided verdicts, then apart
+/// verdicts if `apart` is true. It leaves out all blocks that the filters drop.
 pub fn chosen_of(
     alloc: Global,
     indexed: &Indexed,
@@ -42,7 +43,7 @@ pub fn chosen_of(
     filters: Filters<'_>,
     apart: bool,
 ) -> Result<Chosen, OutOfMemory>
-    // Neither more nor fewer are told, and what is left out is counted.
+    // The result has exactly these verdicts, and counts those that are left out.
     ensures { IfOk result (AreChosen indexed.now (known_places known.now) (map (λ t. t.now) filters.entry.only.now) (map (λ t. t.now) filters.entry.hide.now)
         apart verdicts.now.verdicts.items) }
 {
@@ -54,7 +55,7 @@ pub fn chosen_of(
     Ok(chosen)
 }
 
-// No verdict yet; whether races may be known, and whether there is a filter.
+// No verdicts yet. `is_known` says whether known races were given, and `is_any` whether there is a filter.
 fn nothing(alloc: Global, is_known: bool, is_any: bool) -> Chosen
     ensures verdicts { result.verdicts.items ≡ [] }
     ensures races { result.races ≡ 0 }
@@ -70,7 +71,7 @@ fn nothing(alloc: Global, is_known: bool, is_any: bool) -> Chosen
 }
 
 impl Chosen {
-    // Chooses among the verdicts of one part.
+    // Considers all verdicts of one kind.
     fn choose(
         &mut self,
         indexed: &Indexed,
@@ -88,7 +89,7 @@ impl Chosen {
         Ok(())
     }
 
-    // The same of one verdict.
+    // Considers the verdict, if it is of this kind.
     fn consider_of(
         &mut self,
         indexed: &Indexed,
@@ -106,7 +107,7 @@ impl Chosen {
         self.consider(indexed, verdict, known, filters)
     }
 
-    // Takes the verdict, or counts what left it out.
+    // Takes the verdict, or counts why it is left out.
     fn consider(
         &mut self,
         indexed: &Indexed,
@@ -134,7 +135,7 @@ impl Chosen {
     }
 }
 
-// One more, where it is counted.
+// The count plus one; None if nothing is counted.
 fn one_more(count: Option<u64>) -> Option<u64>
     ensures { result ≡ more_of count 1 }
 {
@@ -144,14 +145,14 @@ fn one_more(count: Option<u64>) -> Option<u64>
     }
 }
 
-// Where verdicts that are apart are looked for.
+// All verdicts if apart verdicts are wanted, else none.
 fn never_of(all: &[Verdict], apart: bool) -> &[Verdict]
     ensures { result.now ≡ cond apart all.now [] }
 {
     if apart { all } else { &[] }
 }
 
-/// Whether the verdict belongs to the part.
+/// Whether the verdict is of this kind.
 pub(crate) fn belongs(verdict: &Verdict, part: Part) -> bool
     ensures { result ≡ is_of part verdict.now }
 {
@@ -175,7 +176,7 @@ pub(crate) fn belongs(verdict: &Verdict, part: Part) -> bool
     }
 }
 
-/// Whether the verdict is on places whose races are known.
+/// Whether the races of the verdict's two locations are known.
 pub fn is_known(known: &Option<Known>, verdict: &Verdict) -> bool
     ensures known { result ≡ is_known (known_places known.now) verdict.now }
     ensures none { known.now ≡ None → result ≡ false }

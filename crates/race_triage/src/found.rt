@@ -1,4 +1,4 @@
-//! What is counted of each pair of places, and its least pairs of events.
+//! Counts the pairs of events for each pair of locations, and finds the least ones.
 ghost use Rattle.std.specs.Prelude.{◌≡◌, ℕ, ◌<◌, ◌≤◌, All, Err, count_by, IfOk, Some, length, max, slice_get, slice_index};
 ghost use Rattle.race_groups.specs.Classes.{AreClasses, AreLocks, AreMembers};
 ghost use Rattle.race_groups.specs.Found.{AreComplete, AreOnce, AreTooMany, HaveConflict};
@@ -18,24 +18,24 @@ use rapid_text::OutOfMemory;
 use std::alloc::Global;
 use std::thread::Threads;
 
-// How many steps all searches for open pairs may take, if there are more of them than `BUDGET` allows for.
+// The most steps of all searches together. Each row gets `BUDGET` steps, or less if many rows have open pairs to try.
 const STEPS: u64 = 4_294_967_296;
 
-/// The rows of all pairs of places, and what was found of each.
+/// The rows of all pairs of locations, and what was found for each.
 #[derive(Drop)]
 pub(crate) struct Found<'a> {
     pub(crate) tables: Tables<'a>,
     pub(crate) effort: Effort,
     pub(crate) groups: Groups,
     pub(crate) leasts: Vec<Least>,
-    // How many steps the tries of one row share.
+    // How many search steps the tries of one row share.
     pub(crate) budget: u32,
-    // The least conflicting pairs; none where they are not asked for.
+    // The least conflicting pair of each row; empty unless apart verdicts need it.
     firsts: Vec<Option<Pair>>,
 }
 
 impl Found<'_> {
-    /// The least conflicting pair of the row at a place, where it was asked for.
+    /// The least conflicting pair of the row with this index; None if it was not requested.
     pub(crate) fn first(&self, at: usize) -> Option<Pair>
         ensures { at < length self.now.firsts.items → slice_get self.now.firsts.items at ≡ Some result }
     {
@@ -47,7 +47,7 @@ impl Found<'_> {
     }
 }
 
-/// The rows, their least pairs, and where `apart` is true their least conflicting pairs.
+/// Finds the rows and their least pairs. If `apart` is true, finds their least conflicting pairs too.
 pub(crate) fn found_of<'a>(tables: Tables<'a>, effort: Effort) -> Result<Found<'a>, TriageRefusal>
     requires tables { AreTables tables }
     ensures found { IfOk result IsFoundIn }
@@ -64,7 +64,8 @@ pub(crate) fn found_of<'a>(tables: Tables<'a>, effort: Effort) -> Result<Found<'
     Ok(found_in(tables, &classes, groups, leasts, effort)?)
 }
 
-/// The same by so many workers, which share the counting and the least pairs; by this thread where there are fewer than two.
+/// The same by `workers` threads, which share the counting and the least pairs. With fewer than two workers, this
+/// thread does it all.
 pub(crate) fn found_by_workers<'a, R: Threads + Sync>(
     rt: &R,
     tables: Tables<'a>,
@@ -119,7 +120,7 @@ fn leasts_in(
     Ok(leasts)
 }
 
-// The same by so many workers.
+// The same by several workers.
 fn leasts_by<R: Threads + Sync>(
     rt: &R,
     tables: Tables<'_>,
@@ -151,14 +152,14 @@ fn leasts_by<R: Threads + Sync>(
     Ok(leasts)
 }
 
-// How many of the least open pairs of a row are kept: one at least, so that the least one is among them.
+// How many of a row's least open pairs are kept: at least one, so that the least one is among them.
 fn most_of(effort: Effort) -> usize
     ensures { result ≡ max effort.tries 1 }
 {
     effort.tries.max(1) as usize
 }
 
-// The same, once all pairs are counted and the least ones are found.
+// The same, given the counts and the least pairs.
 fn found_in<'a>(
     tables: Tables<'a>,
     classes: &Classes,
@@ -205,7 +206,7 @@ fn found_in<'a>(
     })
 }
 
-// How many steps the tries of one of these rows share.
+// How many search steps the tries of one of these rows share.
 fn budget_of(rows: &[Row]) -> u32
     requires few { length rows.now ≤ MAX_PLACES }
     ensures { result ≡ budget_for (count_by has_tries rows.now) }
@@ -219,21 +220,21 @@ fn budget_of(rows: &[Row]) -> u32
     budget_for(count)
 }
 
-// Whether there are open pairs, and no candidate.
+// Whether the row has open pairs and no candidate.
 fn has_tries(row: &Row) -> bool
     ensures { result ≡ has_tries row.now }
 {
     row.counts.candidates == 0 && row.counts.open_pairs > 0
 }
 
-// How many steps the tries of one row share, where so many rows have tries.
+// How many search steps the tries of one row share, if `count` rows have tries.
 fn budget_for(count: u64) -> u32
     ensures { result ≡ budget_for count }
 {
     u64::from(BUDGET).min(STEPS / count.max(1)) as u32
 }
 
-// The rows; refused where there are too many.
+// Counts the rows. Fails if there are too many.
 fn counted(tables: Tables<'_>, classes: &Classes) -> Result<Groups, TriageRefusal>
     requires tables { AreTables tables }
     requires classes { AreClasses tables.indexed.now.events (slice_index tables.places.now) classes.now.numbers.items classes.now.infos.items }
@@ -264,7 +265,7 @@ fn counted(tables: Tables<'_>, classes: &Classes) -> Result<Groups, TriageRefusa
     }
 }
 
-// The same by so many workers.
+// The same by several workers.
 fn counted_by_workers<R: Threads + Sync>(
     rt: &R,
     tables: Tables<'_>,

@@ -1,4 +1,4 @@
-//! The verdict on a row.
+//! Gives the verdict on a row.
 ghost use Rattle.std.specs.Prelude.{◌≡◌, ◌<◌, ◌≤◌, ℕ, IfOk, IfSome, None, Some, length, max, slice_get, slice_index, take, true};
 ghost use Rattle.race_groups.specs.Found.{HaveConflict};
 ghost use Rattle.race_groups.specs.Kinds.{IsNeverShownBetween, IsRow};
@@ -17,7 +17,7 @@ use race_groups::{Row, is_apart};
 use rapid_text::OutOfMemory;
 
 impl Found<'_> {
-    /// The verdict on the row at a place.
+    /// The verdict on the row with this index.
     pub(crate) fn verdict(&self, at: usize) -> Result<Verdict, OutOfMemory>
         requires found { IsFoundIn self.now }
         requires at { at < length self.now.groups.rows.items }
@@ -35,8 +35,8 @@ impl Found<'_> {
 }
 
 impl Tables<'_> {
-    /// The verdict on a row, of which these are the least pairs; `first` is its least conflicting pair, where
-    /// that of what is apart is told. The open pairs are tried by `budget` steps together.
+    /// The verdict on a row, given its least pairs. `first` is its least conflicting pair, if apart verdicts need it.
+    /// All its open pairs share `budget` search steps.
     pub(crate) fn verdict(
         &self,
         row: Row,
@@ -115,7 +115,7 @@ impl Tables<'_> {
         }
     }
 
-    // The first of the open pairs that a schedule is found of, by so many steps for all of them.
+    // The first of these open pairs for which a schedule is found. All of them share `budget` search steps.
     fn first_shown(
         &self,
         tried: &[Try],
@@ -137,7 +137,7 @@ impl Tables<'_> {
         Ok(None)
     }
 
-    // The verdict on a row all of whose pairs are forced or guarded.
+    // The verdict on a row whose pairs are all forced or guarded.
     fn apart_row(&self, row: Row, least: &Least, first: Option<Pair>, effort: Effort) -> Verdict
         requires row { IsRow self.now.indexed.now (slice_index self.now.places.now) row }
         requires there { HaveConflict self.now.indexed.now.events (slice_index self.now.places.now) row.places }
@@ -158,7 +158,7 @@ impl Tables<'_> {
     }
 }
 
-// At most so many of the first.
+// The first `most` tries; all if there are fewer.
 fn beginning(tries: &[Try], most: usize) -> &[Try]
     ensures { result.now ≡ take most tries.now }
 {

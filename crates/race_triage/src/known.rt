@@ -1,4 +1,4 @@
-//! The races that an earlier text lists.
+//! Reads the races that an earlier text lists.
 ghost use Rattle.std.specs.Prelude.{◌≡◌, ◌≤◌, ◌∷◌, ℕ, List, IfNone, IfOk, IfSome, OnOk, length, true, false};
 ghost use Rattle.std.specs.List.{after_first, list_any, slice_split};
 ghost use Rattle.rapid_text.specs.LinesLeft.{bytes_left, lines_left};
@@ -14,14 +14,15 @@ use memchr::memchr;
 use rapid_text::{OutOfMemory, trim};
 use std::alloc::Global;
 
-/// Pairs of places, the lesser first, whose races are known.
+/// Pairs of locations whose races are known, as numbers, the lesser first.
 pub type Known = IndexSet<(u32, u32)>;
 
-/// The pairs of places of the blocks `race` in a text that `triage` printed, or in part of one, as far as the trace has these places.
-/// Nothing else in the text means anything.
+/// Reads a text that `triage` printed, or a part of one. Returns the pairs of locations of its `race` blocks, as far
+/// as the trace has these locations. Ignores everything else in the text.
 pub fn known_of(alloc: Global, places: &Places, text: &[u8]) -> Result<Known, OutOfMemory>
     ensures known { IfOk result (λ known. AreKnown places.now.locations.keys text.now known.keys) }
-    // Where these are the places of a trace, a verdict on it is known only where the text names its two locations.
+    // If these are the locations of a trace, a verdict on the trace is known only if the text names its two
+    // locations.
     ensures named { IfOk result (λ known. (r : Recording) → AreNumbered r (length r.events) places.now.locations.keys places.now.numbers.items
         → OnlyNamed r places.now.numbers.items text.now known.keys) }
     // And it is known if the text names them.
@@ -41,7 +42,7 @@ pub fn known_of(alloc: Global, places: &Places, text: &[u8]) -> Result<Known, Ou
     Ok(known)
 }
 
-/// Whether a block `race` with two accesses stands in the text.
+/// Returns whether the text has a `race` block with two accesses.
 pub fn has_block(text: &[u8]) -> bool
     ensures yes { result ≡ true → HasBlock text.now }
     ensures no { result ≡ false → ¬ HasBlock text.now }
@@ -61,18 +62,18 @@ pub fn has_block(text: &[u8]) -> bool
     false
 }
 
-// What was read of a block.
+// What was read of a block so far.
 #[derive(Clone, Copy)]
 enum Block<'a> {
-    // No line `race ..` stands above, or two accesses stand below it.
+    // No block: there was no line `race ..` yet, or two accesses followed it.
     Nothing,
-    // A line `race ..` stands above, and no access below it.
+    // A line `race ..`, and no access after it yet.
     Race,
-    // The same, and this line of one access below it.
+    // A line `race ..`, and this line of one access after it.
     First(&'a [u8]),
 }
 
-// The first line without its end, and what stands behind its end if it has one.
+// The first line without its line feed, and the text after the line feed; None if there is no line feed.
 fn first_line(text: &[u8]) -> (&[u8], Option<&[u8]>)
     ensures lines { slice_split is_line_feed text.now ≡ result.0.now ∷ lines_left result.1 }
     ensures shorter { bytes_left result.1 ≤ length text.now }
@@ -83,7 +84,7 @@ fn first_line(text: &[u8]) -> (&[u8], Option<&[u8]>)
     }
 }
 
-// What is read of a block with one line more, and the lines of its two accesses where this is the second.
+// Reads one more line of a block. If it is the line of the second access, also returns the lines of both accesses.
 fn read<'a>(block: Block<'a>, line: &'a [u8]) -> (Block<'a>, Option<(&'a [u8], &'a [u8])>)
     ensures { IsRead block.entry line.now result.0 result.1 }
 {
@@ -100,21 +101,21 @@ fn read<'a>(block: Block<'a>, line: &'a [u8]) -> (Block<'a>, Option<(&'a [u8], &
     }
 }
 
-// Whether the line is the first of a block `race`.
+// Whether the line is the first line of a `race` block.
 fn is_head(line: &[u8]) -> bool
     ensures { result ≡ is_head line.now }
 {
     line.starts_with(b"race ")
 }
 
-// Whether the line has two blanks before its first word, and no more.
+// Whether the line begins with exactly two blanks.
 fn is_access(line: &[u8]) -> bool
     ensures { result ≡ is_access line.now }
 {
     line.starts_with(b"  ") && !line.starts_with(b"   ")
 }
 
-// Notes the places of the two lines that are told, where the trace has both.
+// Adds the locations of two access lines, if there are such lines and the trace has both locations.
 fn note(known: &mut Known, places: &Places, told: Option<(&[u8], &[u8])>) -> Result<(), OutOfMemory>
     ensures { OnOk result (IsNoted places.now.locations.keys told.entry known.old.keys known.new.keys) }
 {
@@ -128,7 +129,7 @@ fn note(known: &mut Known, places: &Places, told: Option<(&[u8], &[u8])>) -> Res
     Ok(())
 }
 
-// The places of two lines of accesses, the lesser first, where the trace has both.
+// The numbers of the locations in two access lines, the lesser first. Returns None unless the trace has both.
 fn pair_of(places: &Places, one: &[u8], other: &[u8]) -> Result<Option<(u32, u32)>, OutOfMemory>
     ensures some { IfOk result (λ pair. IfSome pair (λ pair. ArePair places.now.locations.keys one.now other.now pair.0 pair.1)) }
     ensures none { IfOk result (λ pair. IfNone pair ((p q : ℕ) → ¬ ArePair places.now.locations.keys one.now other.now p q)) }
@@ -142,7 +143,7 @@ fn pair_of(places: &Places, one: &[u8], other: &[u8]) -> Result<Option<(u32, u32
     Ok(Some((one.min(other), one.max(other))))
 }
 
-// The place of the access whose line this is, where the trace has it.
+// The number of the location in an access line. Returns None if the trace does not have it.
 fn place_of(places: &Places, line: &[u8]) -> Result<Option<u32>, OutOfMemory>
     ensures some { IfOk result (λ place. IfSome place (IsPlace places.now.locations.keys line.now)) }
     ensures none { IfOk result (λ place. IfNone place ((n : ℕ) → ¬ IsPlace places.now.locations.keys line.now n)) }
@@ -153,7 +154,7 @@ fn place_of(places: &Places, line: &[u8]) -> Result<Option<u32>, OutOfMemory>
     }
 }
 
-// The location in the line of an access.
+// The location in an access line: the text after the second bar. Returns None if there are fewer than two bars.
 fn location_of(line: &[u8]) -> Option<&[u8]>
     ensures some { IfSome result (λ location. IsLocation line.now location.now) }
     ensures none { IfNone result ((location : List ℕ) → ¬ IsLocation line.now location) }
@@ -167,7 +168,7 @@ fn location_of(line: &[u8]) -> Option<&[u8]>
     }
 }
 
-// What stands behind the first bar.
+// The text after the first bar; None if there is no bar.
 fn behind_bar(text: &[u8]) -> Option<&[u8]>
     ensures found { IfSome result (λ behind. list_any is_bar text.now ≡ true) }
     ensures behind { IfSome result (λ behind. behind.now ≡ after_first is_bar text.now) }

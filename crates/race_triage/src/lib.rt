@@ -1,5 +1,5 @@
-//! A verdict for each pair of places of a trace's conflicting pairs: a race that a schedule shows, apart in every correct reordering,
-//! or undecided; and the text that lists them.
+//! Gives a verdict on each pair of locations with conflicting events: a race that a schedule shows, apart in every
+//! correct reordering, or undecided. Prints the verdicts as text.
 #![tactic(auto)]
 
 mod between;

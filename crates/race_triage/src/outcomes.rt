@@ -1,4 +1,4 @@
-//! Schedules that show a pair: how many events they have, and of how many threads.
+//! Finds the size of a schedule that shows a pair: its events and its threads.
 ghost use Rattle.std.specs.Prelude.{◌≡◌, ◌≢◌, ◌<◌, ◌≤◌, IfOk, IfSome, None, false, length};
 ghost use Rattle.event_index.specs.Relations.{IsConflicting};
 ghost use Rattle.must_order.specs.Kinds.{IsKind};
@@ -23,7 +23,7 @@ use witness_search::trace_order::{
 };
 
 impl Tables<'_> {
-    /// The race of a candidate, which the least list in the order of the trace always shows.
+    /// The race of a candidate. The least schedule in the order of the trace always shows it.
     pub(crate) fn race_of_candidate(&self, first: u32, second: u32) -> Result<Outcome, OutOfMemory>
         requires tables { AreTables self.now }
         requires first { first < length self.now.indexed.now.events }
@@ -40,8 +40,8 @@ impl Tables<'_> {
         }
     }
 
-    /// The race of an open pair, where a schedule is found: the least list in the order of the trace that shows it, or a list that the
-    /// search from there finds by the steps that are left. Where none is found, the steps that it took are left no longer.
+    /// The race of an open pair, if a schedule shows it. Tries the least schedule in the order of the trace, and then
+    /// a search with at most `left` steps. If the search finds nothing, it subtracts its steps from `left`.
     pub(crate) fn race_of_open(
         &self,
         first: u32,
@@ -67,7 +67,7 @@ impl Tables<'_> {
         }
     }
 
-    // The race of an open pair that no list in the order of the trace shows, where the search finds a schedule.
+    // The race of an open pair that no schedule in the order of the trace shows, if the search finds one.
     fn race_turned(
         &self,
         first: u32,
@@ -98,7 +98,8 @@ impl Tables<'_> {
         }
     }
 
-    // How many events the least list in the order of the trace has that shows the pair, and of how many threads. None where there is no such list.
+    // The numbers of events and threads in the least schedule in the order of the trace that shows the pair. Returns
+    // None if there is no such schedule.
     fn size_in_order(&self, first: u32, second: u32) -> Result<Option<(u32, u32)>, OutOfMemory>
         requires tables { AreTables self.now }
         ensures size { IfOk result (λ found. IfSome found (IsSizeInOrder self.now.indexed.now.events first second)) }
@@ -125,7 +126,7 @@ impl Tables<'_> {
     }
 }
 
-// Whether there may be a list, and memory was wanting.
+// Whether there may be such a schedule, but memory ran out.
 fn wants_memory(refusal: InOrderRefusal) -> bool
     ensures { result ≡ false → refusal ≢ NoMemory }
 {
@@ -137,7 +138,7 @@ fn wants_memory(refusal: InOrderRefusal) -> bool
     }
 }
 
-// The race that a schedule of this size shows.
+// The race that a schedule with this size shows.
 fn race(how: How, size: (u32, u32)) -> Outcome
     ensures { result ≡ Race how size.0 size.1 }
 {

@@ -1,4 +1,4 @@
-//! Words, numbers and the lines of events.
+//! Appends words, numbers and the lines of events.
 ghost use Rattle.std.specs.Prelude.{◌≡◌, ◌++◌, OnOk, codes};
 ghost use Rattle.rapid_text.specs.Canonical.{op_text};
 ghost use Rattle.rapid_text.specs.Recording.{IsNamed, IsNamedOp};
@@ -16,7 +16,7 @@ pub(crate) fn append_words(out: &mut Vec<u8>, words: &[u8]) -> Result<(), OutOfM
     Ok(())
 }
 
-/// Appends a word, a blank, a number, and the end of the line.
+/// Appends a word, a blank, the number, and a line feed.
 pub(crate) fn append_count(out: &mut Vec<u8>, word: &[u8], number: u64) -> Result<(), OutOfMemory>
     ensures { OnOk result (out.new.items ≡ out.old.items ++ count_line word.now number) }
 {
@@ -26,7 +26,7 @@ pub(crate) fn append_count(out: &mut Vec<u8>, word: &[u8], number: u64) -> Resul
     Ok(())
 }
 
-/// Appends a number behind a blank.
+/// Appends a blank and a number.
 pub(crate) fn append_number(out: &mut Vec<u8>, number: u64) -> Result<(), OutOfMemory>
     ensures { OnOk result (out.new.items ≡ out.old.items ++ number_text number) }
 {
@@ -36,14 +36,14 @@ pub(crate) fn append_number(out: &mut Vec<u8>, number: u64) -> Result<(), OutOfM
     Ok(())
 }
 
-/// Appends a number of 32 bits behind a blank.
+/// Appends a blank and a number of 32 bits.
 pub(crate) fn append_small(out: &mut Vec<u8>, number: u32) -> Result<(), OutOfMemory>
     ensures { OnOk result (out.new.items ≡ out.old.items ++ number_text number) }
 {
     append_number(out, u64::from(number))
 }
 
-/// Appends the canonical line of the event, where the trace has it, without its end.
+/// Appends the canonical line of the event, without the line feed. Appends nothing if the trace has no such event.
 pub fn append_event(out: &mut Vec<u8>, indexed: &Indexed, event: u32) -> Result<(), OutOfMemory>
     ensures { OnOk result (out.new.items ≡ out.old.items ++ event_words_at indexed.now event) }
 {
@@ -55,7 +55,7 @@ pub fn append_event(out: &mut Vec<u8>, indexed: &Indexed, event: u32) -> Result<
     Ok(())
 }
 
-// Appends an event at its location.
+// Appends an event and its location.
 fn append_found(
     out: &mut Vec<u8>,
     trace: &RawTrace,

@@ -1,4 +1,4 @@
-//! Places: the locations of events, numbered by their first uses.
+//! Numbers the locations of events in the order of their first use.
 ghost use Rattle.std.specs.Prelude.{◌≡◌, ℕ, [], IfNone, IfOk, IfSome, OnOk, length};
 ghost use Rattle.race_triage.specs.Places.{AreFirstUses, AreNumbered, AreNumbers, AreKept, IsSpot, texts_of, with_text};
 
@@ -7,25 +7,25 @@ use indexmap::IndexSet;
 use rapid_text::{OutOfMemory, TextKeyed};
 use std::alloc::Global;
 
-/// The locations of a trace, each once; a location's number is its place.
+/// The different locations of a trace. The index of a location is its number.
 pub type Locations = IndexSet<Vec<u8>, TextKeyed>;
 
-/// The locations of a trace, and for each event the number of its own.
+/// The locations of a trace, and for each event the number of its location.
 #[derive(Drop)]
 pub struct Places {
     /// The locations.
     pub locations: Locations,
-    /// The number of each event's location.
+    /// For each event, the number of its location.
     pub numbers: Vec<u32>,
 }
 
 impl Places {
-    /// The places of all events.
+    /// Returns the locations of all events.
     pub fn of(alloc: Global, indexed: &Indexed) -> Result<Places, OutOfMemory>
         ensures numbers { IfOk result (λ places. AreNumbers indexed.now places.numbers.items) }
-        // The number of an event is that of its location.
+        // The number of an event is the number of its location.
         ensures spots { IfOk result (λ places. AreNumbered indexed.now (length indexed.now.events) places.locations.keys places.numbers.items) }
-        // Locations are numbered in the order of their first uses.
+        // Locations have their numbers in the order of their first use.
         ensures firsts { IfOk result (λ places. AreFirstUses indexed.now (length indexed.now.events) places.locations.keys) }
     {
         let numbers = Vec::with_capacity(alloc, indexed.len() as usize)?;
@@ -39,7 +39,7 @@ impl Places {
         }
     }
 
-    // Numbers the locations of all events, where none is numbered yet.
+    // Numbers the locations of all events. No event may have a number yet.
     fn number_all(&mut self, alloc: Global, indexed: &Indexed) -> Result<(), OutOfMemory>
         requires numbered { AreNumbered indexed.now 0 self.old.locations.keys self.old.numbers.items }
         requires empty { texts_of self.old.locations.keys ≡ [] }
@@ -56,7 +56,7 @@ impl Places {
         Ok(())
     }
 
-    /// The number of the location with this text, where the trace has it.
+    /// Returns the number of a location. Returns None if the trace does not have it.
     pub fn number(&self, location: &[u8]) -> Result<Option<u32>, OutOfMemory>
         ensures some { IfOk result (λ number. IfSome number (IsSpot self.now.locations.keys location.now)) }
         ensures none { IfOk result (λ number. IfNone number ((n : ℕ) → ¬ IsSpot self.now.locations.keys location.now n)) }
@@ -68,7 +68,7 @@ impl Places {
     }
 }
 
-// The number of the location, which is noted as the last one if it is new.
+// The number of the location. Adds it at the end if it is new.
 fn number_of(locations: &mut Locations, alloc: Global, location: &[u8]) -> Result<u32, OutOfMemory>
     ensures at { IfOk result (λ n. IsSpot locations.new.keys location.now n) }
     ensures kept { OnOk result (AreKept locations.old.keys locations.new.keys) }
@@ -82,7 +82,7 @@ fn number_of(locations: &mut Locations, alloc: Global, location: &[u8]) -> Resul
     small(at)
 }
 
-/// A number of a place or a list; there are no more of them than events.
+/// The number of a location or a list in 32 bits. There are no more of them than events.
 pub(crate) fn small(number: usize) -> Result<u32, OutOfMemory>
     ensures { IfOk result (λ small. small ≡ number) }
 {

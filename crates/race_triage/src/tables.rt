@@ -1,11 +1,11 @@
-//! The tables of a trace.
+//! The tables of a trace that verdicts need.
 use event_index::Indexed;
 use must_order::Must;
 use shb_clocks::Clocks;
 use std::alloc::Global;
 use witness_search::trace_order::Acquires;
 
-/// The tables of a trace, for each event the number of its place, and where memory comes from.
+/// The tables of a trace, the number of each event's location, and the allocator.
 #[derive(Clone, Copy)]
 pub(crate) struct Tables<'a> {
     pub(crate) alloc: Global,

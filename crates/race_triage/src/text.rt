@@ -1,4 +1,4 @@
-//! The text that lists what was found.
+//! Prints the verdicts as text.
 ghost use Rattle.std.specs.Prelude.{◌≡◌, ◌++◌, List, ℕ, OnOk, OnErr};
 ghost use Rattle.race_triage.specs.Texts.{block_texts, kind_lines, left_out_text, place_lines, totals_text, trace_lines, triage_words, IsTriageText};
 
@@ -11,8 +11,8 @@ use event_index::Indexed;
 use must_order::Must;
 use rapid_text::OutOfMemory;
 
-/// Appends the counts, and a block for each of the chosen verdicts; where some were left out as known, or by filters, the last lines tell how
-/// many. Where memory is refused `out` stays as it was.
+/// Appends the counts, and a block for each chosen verdict. The last lines say how many blocks were left out as known
+/// or by filters. If memory runs out, `out` stays as it was.
 pub fn triage_text(
     indexed: &Indexed,
     must: &Must,
@@ -21,7 +21,7 @@ pub fn triage_text(
     out: &mut Vec<u8>,
 ) -> Result<(), OutOfMemory>
     requires must { must.now ≡ indexed.now }
-    // The text is the one that belongs to the trace, the counts of all verdicts, and the chosen ones.
+    // The text is exactly the one for the trace, the counts of all verdicts, and the chosen ones.
     ensures ok { OnOk result ((text : List ℕ) × IsTriageText indexed.now verdicts.now.verdicts.items chosen.now text
         × (out.new.items ≡ out.old.items ++ text)) }
     ensures err { OnErr result (out.new.items ≡ out.old.items) }
@@ -32,7 +32,7 @@ pub fn triage_text(
     put(out, text)
 }
 
-// Appends a text. It is moved, and not copied, if nothing stands before it: it may be large.
+// Appends a text. If `out` is empty, moves the text instead of copying it, because it may be large.
 fn put(out: &mut Vec<u8>, text: Vec<u8>) -> Result<(), OutOfMemory>
     ensures ok { OnOk result (out.new.items ≡ out.old.items ++ text.items) }
     ensures err { OnErr result (out.new.items ≡ out.old.items) }
@@ -45,7 +45,7 @@ fn put(out: &mut Vec<u8>, text: Vec<u8>) -> Result<(), OutOfMemory>
     Ok(())
 }
 
-// Appends the counts, the blocks, and how many were left out.
+// Appends the counts, the blocks, and the numbers of blocks left out.
 fn append_all(
     out: &mut Vec<u8>,
     indexed: &Indexed,
@@ -73,7 +73,7 @@ fn append_totals(out: &mut Vec<u8>, totals: &Totals) -> Result<(), OutOfMemory>
     Ok(())
 }
 
-// Appends what is counted of the trace.
+// Appends the counts of events, threads and pairs.
 fn append_trace(out: &mut Vec<u8>, totals: &Totals) -> Result<(), OutOfMemory>
     ensures { OnOk result (out.new.items ≡ out.old.items ++ trace_lines totals.now) }
 {
@@ -83,7 +83,7 @@ fn append_trace(out: &mut Vec<u8>, totals: &Totals) -> Result<(), OutOfMemory>
     Ok(())
 }
 
-// Appends how many pairs are of each kind.
+// Appends the number of pairs of each kind.
 fn append_kinds(out: &mut Vec<u8>, totals: &Totals) -> Result<(), OutOfMemory>
     ensures { OnOk result (out.new.items ≡ out.old.items ++ kind_lines totals.now) }
 {
@@ -94,7 +94,7 @@ fn append_kinds(out: &mut Vec<u8>, totals: &Totals) -> Result<(), OutOfMemory>
     Ok(())
 }
 
-// Appends how many pairs of places there are, and of how many each is said.
+// Appends the number of pairs of locations, and the number with each outcome.
 fn append_places(out: &mut Vec<u8>, totals: &Totals) -> Result<(), OutOfMemory>
     ensures { OnOk result (out.new.items ≡ out.old.items ++ place_lines totals.now) }
 {
@@ -121,7 +121,7 @@ fn append_blocks(
     Ok(())
 }
 
-// Appends how many blocks were left out, where that is told.
+// Appends how many blocks were left out, if that was counted.
 fn append_left_out(out: &mut Vec<u8>, word: &[u8], count: Option<u64>) -> Result<(), OutOfMemory>
     ensures { OnOk result (out.new.items ≡ out.old.items ++ left_out_text word.now count) }
 {

@@ -1,4 +1,4 @@
-//! The counts of a whole trace.
+//! Counts over a whole trace.
 ghost use Rattle.std.specs.Prelude.{◌≡◌, ◌++◌, ◌∷◌, [], nat_lt, cond, List};
 ghost use Rattle.rapid_text.specs.Recording.{Recording};
 ghost use Rattle.race_triage.specs.Chosen.{is_of};
@@ -10,35 +10,35 @@ use crate::verdicts::{Outcome, Verdict, Verdicts};
 use event_index::Indexed;
 use race_groups::Counts;
 
-/// What is counted of a trace and of its pairs of places.
+/// The counts of a trace and of its pairs of locations.
 #[derive(Clone, Copy, PartialEq, Eq, Debug)]
 pub struct Totals {
-    /// How many events there are.
+    /// How many events the trace has.
     pub events: u64,
-    /// How many threads there are.
+    /// How many threads the trace has.
     pub threads: u64,
-    /// How many pairs of events conflict: the sum of the next four.
+    /// How many pairs of events conflict: the sum of the next four. This and all counts below are at most 2^64 - 1.
     pub pairs: u64,
-    /// How many are candidates.
+    /// How many pairs of events are candidates.
     pub candidates: u64,
-    /// How many are open.
+    /// How many pairs of events are open.
     pub open_pairs: u64,
-    /// How many are guarded.
+    /// How many pairs of events are guarded.
     pub guarded: u64,
-    /// How many are forced.
+    /// How many pairs of events are forced.
     pub forced: u64,
-    /// How many pairs of places there are: the sum of the next three.
+    /// How many pairs of locations have conflicting events: the sum of the next three.
     pub places: u64,
-    /// How many are races.
+    /// How many pairs of locations are races.
     pub races: u64,
-    /// How many are undecided.
+    /// How many pairs of locations are undecided.
     pub undecided: u64,
-    /// How many are apart.
+    /// How many pairs of locations are apart.
     pub apart: u64,
 }
 
 impl Verdicts {
-    /// The counts of the whole trace, of which these are the verdicts.
+    /// Returns the counts of the whole trace. `indexed` is the trace of these verdicts.
     pub fn totals(&self, indexed: &Indexed) -> Totals
         ensures { AreTotals indexed.now self.now.verdicts.items result }
     {
@@ -63,7 +63,7 @@ impl Verdicts {
 }
 
 impl Totals {
-    // Counts a verdict and its pairs.
+    // Adds a verdict and its pairs to the counts.
     fn add(&mut self, verdict: &Verdict)
         ensures { (r : Recording) (vs : List Found) → AreTotals r vs self.old → AreTotals r (vs ++ verdict.now ∷ []) self.new }
     {
@@ -80,7 +80,7 @@ impl Totals {
     }
 }
 
-// 1 where the verdict belongs to the part.
+// 1 if the verdict is of this kind, else 0.
 fn one_if(verdict: &Verdict, part: Part) -> u64
     ensures { result ≡ cond (is_of part verdict.now) 1 0 }
 {
@@ -88,7 +88,8 @@ fn one_if(verdict: &Verdict, part: Part) -> u64
 }
 
 impl Verdict {
-    /// How many pairs are candidates; where there is none, how many are open; where all are apart, how many there are.
+    /// Returns the number of pairs of events that the verdict stands for. For an apart verdict these are all pairs.
+    /// Otherwise they are the candidates, or the open pairs if there is no candidate.
     pub fn pairs(&self) -> u64
         ensures { result ≡ pairs_by self.now.outcome self.now.row.counts }
     {
@@ -105,7 +106,7 @@ impl Verdict {
     }
 }
 
-// How many pairs are candidates, or else open.
+// The number of candidates, or of open pairs if there is no candidate.
 fn shown_of(counts: Counts) -> u64
     ensures { result ≡ cond (nat_lt 0 counts.candidates) counts.candidates counts.open_pairs }
 {
@@ -116,7 +117,7 @@ fn shown_of(counts: Counts) -> u64
     }
 }
 
-// How many pairs there are of all kinds.
+// The number of pairs of all kinds.
 fn all_of(counts: Counts) -> u64
     ensures { result ≡ all_in counts }
 {

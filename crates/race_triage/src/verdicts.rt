@@ -1,4 +1,4 @@
-//! The verdict on each pair of places.
+//! Gives a verdict on each pair of locations.
 ghost use Rattle.std.specs.Prelude.{◌≡◌, ℕ, ◌<◌, ◌≤◌, All, Err, IfOk, List, length, slice_index};
 ghost use Rattle.race_groups.specs.Found.{AreTooMany};
 ghost use Rattle.race_triage.specs.Tables.{AreTables};
@@ -22,18 +22,18 @@ use std::alloc::Global;
 use std::thread::Threads;
 use witness_search::trace_order::Acquires;
 
-/// The most pairs of places.
+/// The most pairs of locations.
 pub const MAX_PLACES: u32 = 1_048_576;
 
-/// The most open pairs of a pair of places that are tried.
+/// The most open pairs of events that can be tried for a pair of locations.
 pub const MAX_TRIES: u32 = 4_096;
 
-/// Why there are no verdicts.
+/// The reason why there are no verdicts.
 #[derive(Clone, Copy, PartialEq, Eq, Debug)]
 pub enum TriageRefusal {
-    /// There are more than `MAX_PLACES` pairs of places.
+    /// More than `MAX_PLACES` pairs of locations have conflicting events.
     TooMany,
-    /// Memory was refused.
+    /// Out of memory.
     OutOfMemory,
 }
 
@@ -70,64 +70,66 @@ impl<T: Drop> From<std::alloc::AllocFailed<T>> for TriageRefusal {
     }
 }
 
-/// What is said of a pair of places.
+/// The outcome for a pair of locations.
 #[derive(Clone, Copy, PartialEq, Eq, Debug)]
 pub enum Outcome {
-    /// A schedule of so many events shows the pair.
+    /// A schedule shows the pair of events.
     Race {
-        /// How it was found.
+        /// How the schedule was found.
         how: How,
-        /// How many events it has.
+        /// How many events the schedule has.
         events: u32,
-        /// How many threads have an event in it.
+        /// How many threads have events in the schedule.
         threads: u32,
     },
-    /// Some pairs are open, and none that was tried was shown.
+    /// There are open pairs of events, and no schedule was found for any pair that was tried.
     Undecided {
-        /// How many were tried.
+        /// How many pairs were tried.
         tried: u32,
     },
-    /// All pairs are forced or guarded.
+    /// All pairs of events are forced or guarded.
     Apart,
 }
 
-/// The verdict on a pair of places, with one pair of events.
+/// The verdict on a pair of locations, with one of its pairs of events.
 #[derive(Clone, Copy, PartialEq, Eq, Debug)]
 pub struct Verdict {
-    /// The earlier event.
+    /// The number of the earlier event.
     pub first: u32,
-    /// The later event.
+    /// The number of the later event.
     pub second: u32,
-    /// The two places, and how many pairs there are of each kind.
+    /// The two locations, and the number of pairs of each kind.
     pub row: Row,
-    /// How many variables have a candidate or an open pair.
+    /// How many variables have a candidate or an open pair at these locations.
     pub variables: u32,
-    /// What is said.
+    /// The outcome.
     pub outcome: Outcome,
 }
 
-/// All verdicts, and the places that they speak of.
+/// All verdicts on a trace, and its locations.
 #[derive(Drop)]
 pub struct Verdicts {
-    /// The verdicts, in rising order of their later event and then of the earlier one.
+    /// The verdicts, ordered by their later event and then by the earlier one.
     pub verdicts: Vec<Verdict>,
-    /// The places of the trace.
+    /// The locations of the trace.
     pub places: Places,
 }
 
-/// What `triage` does beyond counting.
+/// How much work `triage` does beyond counting.
 #[derive(Clone, Copy, PartialEq, Eq, Debug)]
 pub struct Effort {
-    /// How many of the first open pairs of a pair of places are tried.
+    /// How many open pairs of events are tried for a pair of locations: the first ones.
     pub tries: u32,
-    /// Whether the pair of events of what is apart is told; else it is 0 and 0.
+    /// Whether an apart verdict names its least conflicting pair; if not, its two events are 0.
     pub apart: bool,
-    /// How many threads share the counting and look for schedules, where they can be started; 0 for the one that calls.
+    /// How many threads share the counting and look for schedules, if the system can start them. With 0, the calling
+    /// thread does it.
     pub workers: u32,
 }
 
-/// A verdict for each pair of places. Of an open pair of places the first `tries` least open pairs are tried. What is
-/// answered is the same for any number of workers. Who watches is told of each verdict.
+/// Returns a verdict for each pair of locations with conflicting events. If a pair has open pairs of events and no
+/// candidate, tries the `tries` least open ones. The result is the same for any number of workers. `watch` hears of
+/// each verdict.
 pub fn triage<R: Threads + Sync, W: Watch + Sync>(
     rt: &R,
     alloc: Global,
@@ -135,26 +137,29 @@ pub fn triage<R: Threads + Sync, W: Watch + Sync>(
     effort: Effort,
     watch: &W,
 ) -> Result<Verdicts, TriageRefusal>
-    // Two events have one number exactly where their locations are one.
+    // Two events have the same number exactly if their locations are equal.
     ensures places { IfOk result (λ found. AreNumbers analysis.now found.places.numbers.items) }
-    // It is that of its location.
+    // The number is that of the event's location.
     ensures spots { IfOk result (λ found. AreNumbered analysis.now (length analysis.now.events) found.places.locations.keys found.places.numbers.items) }
-    // Locations are numbered in the order of their first uses.
+    // Locations have their numbers in the order of their first use.
     ensures firsts { IfOk result (λ found. AreFirstUses analysis.now (length analysis.now.events) found.places.locations.keys) }
-    // The counts are exact; the two events conflict, and are told with the earlier first; a schedule shows those of a race; none shows
-    // two events of places that are apart. The two are the least pair of their kind; of open pairs, the first that was found of those that
-    // were tried, which are the first `tries`.
+    // The counts are exact. The two events conflict, and the earlier one comes first. A schedule shows the events of
+    // a race, and no schedule shows two events of locations that are apart. The verdict names the least pair of its
+    // kind. For a race without a candidate it names the first pair for which a schedule was found, among the first
+    // `tries` open pairs.
     ensures verdicts { IfOk result (λ found. All (IsVerdict analysis.now (slice_index found.places.numbers.items) effort.tries effort.apart)
         found.verdicts.items) }
-    // Each conflicting pair has its places' verdict, no two verdicts are on the same places, and there are no more than `MAX_PLACES`.
+    // Each conflicting pair of events has a verdict on its locations. No two verdicts have the same locations, and
+    // there are at most `MAX_PLACES`.
     ensures complete { IfOk result (λ found. AreAllTold analysis.now.events (slice_index found.places.numbers.items) found.verdicts.items) }
     ensures once { IfOk result (λ found. AreOnceTold found.verdicts.items) }
     ensures few { IfOk result (λ found. length found.verdicts.items ≤ MAX_PLACES) }
     ensures rising { IfOk result (λ found. AreRising found.verdicts.items) }
-    // What is counted of them is counted of the whole trace.
+    // The counts over the verdicts are the counts over the whole trace.
     ensures totals { IfOk result (λ found. (t : Sums) → AreTotals analysis.now found.verdicts.items t
         → AreTotalsOf analysis.now (slice_index found.places.numbers.items) t) }
-    // It is refused only where more pairs of places have a conflicting pair, or for want of memory.
+    // The call fails only if more than `MAX_PLACES` pairs of locations have conflicting events, or if memory runs
+    // out.
     ensures too_many { result ≡ Err TriageRefusal.TooMany
         → (numbers : List ℕ) × AreNumbers analysis.now numbers × AreTooMany analysis.now.events (slice_index numbers) MAX_PLACES }
 {
@@ -167,7 +172,7 @@ pub fn triage<R: Threads + Sync, W: Watch + Sync>(
     Ok(Verdicts { verdicts, places })
 }
 
-// The verdicts, where the places have these numbers.
+// The verdicts, given the number of each event's location.
 fn verdicts_at<R: Threads + Sync, W: Watch + Sync>(
     rt: &R,
     alloc: Global,
@@ -197,7 +202,7 @@ fn verdicts_at<R: Threads + Sync, W: Watch + Sync>(
     verdicts_by(rt, tables, effort, watch)
 }
 
-// The verdicts by the tables of the trace.
+// The verdicts, given the tables of the trace.
 fn verdicts_by<R: Threads + Sync, W: Watch + Sync>(
     rt: &R,
     tables: Tables<'_>,
@@ -224,7 +229,7 @@ fn verdicts_by<R: Threads + Sync, W: Watch + Sync>(
     }
 }
 
-// In rising order of the later event, and then of the earlier.
+// Sorts the verdicts by their later event, and then by the earlier one.
 fn sort(_found: &Found<'_>, verdicts: &mut Vec<Verdict>)
     requires verdicts { All (IsVerdictOf _found.now) verdicts.old.items }
     requires complete { AreAllTold _found.now.tables.indexed.now.events (slice_index _found.now.tables.places.now) verdicts.old.items }

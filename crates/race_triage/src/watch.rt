@@ -1,21 +1,22 @@
-//! Who is told how far the work is.
+//! Reports progress.
 
-/// Who is told how far the work is, from whichever thread does it. No clause says what it makes of that, and no answer rests on it.
+/// Receives progress reports, from whichever thread does the work. No clause says what it does with them, and no
+/// result depends on it.
 pub trait Watch {
-    /// So many events were read.
+    /// This many events were read.
     fn read(&self, events: u32);
 
-    /// A text of known races was read, and whether a block `race` stands in it.
+    /// A text of known races was read. `has_block` says whether it has a `race` block.
     fn known(&self, has_block: bool);
 
-    /// One more pair of places has its verdict, of so many.
+    /// One more pair of locations has its verdict, of this many in all.
     fn judged(&self, of: usize);
 
-    /// All is found, and the answer is written next.
+    /// All verdicts are there, and the output is written next.
     fn end(&self);
 }
 
-/// Who does not want to know.
+/// A watch that ignores all reports.
 #[derive(Clone, Copy)]
 pub struct Silent;
 

@@ -1,4 +1,4 @@
-//! The verdicts on all rows, by one thread or by several.
+//! Gives the verdicts on all rows, by one thread or by several.
 ghost use Rattle.std.specs.Prelude.{◌≡◌, ℕ, ◌+◌, ◌<◌, ◌%◌, All, Contains, IfOk, OnOk, Result, Some, Vec, length, slice_get, slice_index_or};
 ghost use Rattle.std.specs.declared.alloc.Global.{Global};
 ghost use Rattle.race_groups.specs.Found.{AreOnce};
@@ -14,7 +14,7 @@ use std::alloc::Global;
 use std::thread;
 use std::thread::Threads;
 
-/// The verdicts on all rows, found by as many threads as were asked for, or by this one.
+/// The verdicts on all rows, found by as many threads as the effort asks for, or by this one.
 pub(crate) fn all_verdicts<R: Threads + Sync, W: Watch + Sync>(
     rt: &R,
     found: &Found<'_>,
@@ -30,7 +30,7 @@ pub(crate) fn all_verdicts<R: Threads + Sync, W: Watch + Sync>(
     by_workers(rt, found, watch)
 }
 
-// The verdicts, found by several threads: each takes as many of the rows as the others.
+// The verdicts, found by several threads, which share the rows evenly.
 fn by_workers<R: Threads + Sync, W: Watch + Sync>(
     rt: &R,
     found: &Found<'_>,
@@ -50,7 +50,7 @@ fn by_workers<R: Threads + Sync, W: Watch + Sync>(
     joined(found, parts.as_slice(), every)
 }
 
-// The verdicts on every so many rows, from one of them on.
+// The verdicts on the rows whose index is `from` plus a multiple of `every`.
 fn part_of<W: Watch>(
     found: &Found<'_>,
     from: usize,
@@ -68,7 +68,7 @@ fn part_of<W: Watch>(
     Ok(verdicts)
 }
 
-// Adds the verdict on the row at a place, where it is one of every so many, and tells who watches.
+// Adds the verdict on the row at index `at`, if it belongs to this thread, and reports it to `watch`.
 fn add_own<W: Watch>(
     found: &Found<'_>,
     verdicts: &mut Vec<Verdict>,
@@ -96,7 +96,7 @@ fn add_own<W: Watch>(
     Ok(())
 }
 
-// Adds the verdict on the row at a place.
+// Adds the verdict on the row at index `at`.
 fn add(found: &Found<'_>, verdicts: &mut Vec<Verdict>, at: usize) -> Result<(), OutOfMemory>
     requires found { IsFoundIn found.now }
     requires at { at < length found.now.groups.rows.items }
@@ -108,7 +108,7 @@ fn add(found: &Found<'_>, verdicts: &mut Vec<Verdict>, at: usize) -> Result<(), 
     Ok(())
 }
 
-// All parts, one behind another.
+// The verdicts of all parts, one part after another.
 fn joined(
     found: &Found<'_>,
     parts: &[Result<Vec<Verdict>, OutOfMemory>],
