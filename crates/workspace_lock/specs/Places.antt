@@ -1,6 +1,7 @@
--- What a place at the lock knows, and what a call finds its own place at. Three words tell its things apart: a place is a seat's
--- handle at the table; its `PlaceView` is what it knows, which the table keeps among its views (the Value of the type `View`); its
--- `PlaceState` is that with the slots that it carries. All notions here are this project's own.
+-- The knowledge of a place at the lock, and how a call changes its place. Three words are used. A place is a seat's
+-- handle at the table. Its `PlaceView` is what it knows; the table keeps this among its views, as the Value of the
+-- type `View`. Its `PlaceState` is the view with the slots that the place has taken. All notions here are this
+-- project's own.
 use Rattle.std.specs.Prelude.{◌≡◌, ℕ, ◌+◌, ◌<◌, ◌≤◌, length, List, [], ◌∷◌, Option, Some, None}
 use Rattle.atomic_table.specs.Seated.{TableId}
 use Rattle.atomic_table.specs.Table.{Me}
@@ -11,20 +12,20 @@ use Rattle.dependence.specs.Limits.{client_limit}
 use Rattle.workspace_lock.specs.Turns.{Mark, mark, Sees}
 use Rattle.workspace_lock.specs.Seating.{Site, SeatView}
 
--- between two calls, with a ticket that is not yet served, or with the turn
+-- between two calls, or waiting with a ticket, or with the turn
 pub data Stage : Type 0 where
   idle : Stage
   waits : ℕ → Stage
   holds : ℕ → Stage
 
--- A place of one client has one mark. One that took in others has theirs too, and one that was taken in has none. Its turns are
--- the tickets that it has drawn.
+-- A place of one client has one mark. A place that others were joined to has their marks too, and a place that was
+-- joined to another has none. `turns` counts the tickets that it has drawn.
 pub record PlaceView : Type 0 where
   pub marks : List Mark
   pub turns : ℕ
   pub stage : Stage
 
--- the view of a place that was taken in
+-- the view of a place after it was joined to another
 abbrev pub blank : PlaceView
 blank = record { marks = []; turns = 0; stage = idle }
 
@@ -32,15 +33,15 @@ blank = record { marks = []; turns = 0; stage = idle }
 abbrev pub PlaceState : Type 0
 PlaceState = Me (Option Benched) PlaceView
 
--- the bench of this trace and this log
+-- the bench with this trace and this log
 abbrev pub bench_of : Recording → List Entry → Benched
 bench_of trace log = record { trace = trace; log = log }
 
--- a trace with nothing in it, for the mark of a place that has none
+-- an empty trace, for the mark of a place that has none
 abbrev pub no_recording : Recording
 no_recording = record { events = []; threads = []; variables = []; locks = []; locations = [] }
 
--- the mark of a client that has come to see this log
+-- the mark of a client after it has seen this log
 abbrev pub saw : Mark → List Entry → Mark
 saw m log = record m { seen = log }
 
@@ -48,7 +49,7 @@ saw m log = record m { seen = log }
 abbrev pub solo : Mark → ℕ → Stage → PlaceView
 solo m turns stage = record { marks = m ∷ []; turns = turns; stage = stage }
 
--- the first mark, and one of nobody where there is none
+-- the first mark; an empty one if there is none
 abbrev pub first_mark : List Mark → Mark
 first_mark [] = mark (bench_of no_recording []) 0 0 []
 first_mark (m ∷ ms) = m
@@ -57,13 +58,13 @@ first_mark (m ∷ ms) = m
 abbrev pub mark_of : PlaceView → Mark
 mark_of v = first_mark v.marks
 
--- the ticket in the place's hand
+-- the ticket that the place has; 0 if it has none
 abbrev pub ticket_in : Stage → ℕ
 ticket_in idle = 0
 ticket_in (waits t) = t
 ticket_in (holds t) = t
 
--- what a place knows that got the turn
+-- the state of a place that has got the turn
 abbrev pub on_turn : Mark → ℕ → ℕ → List Entry → PlaceState
 on_turn k turns t log = (solo (saw k log) turns (holds t), (0, Some (bench_of k.start.trace log)) ∷ [])
 
@@ -79,15 +80,15 @@ IsResting m = m ≡ (solo (mark_of m.0) m.0.turns idle, [])
 abbrev pub IsWaiting : ℕ → PlaceState → Type 0
 IsWaiting t m = m ≡ (solo (mark_of m.0) m.0.turns (waits t), [])
 
--- it has the turn, and the bench is out of the slot
+-- the place has the turn, and the bench is out of the slot
 abbrev pub IsBusy : PlaceState → Type 0
 IsBusy m = m ≡ (solo (mark_of m.0) m.0.turns (holds (ticket_in m.0.stage)), (0, None) ∷ [])
 
--- the ticket t is served: the place has the turn, the slot, and has seen the whole log
+-- It is the turn of ticket t. The place has the turn and the slot, and has seen the whole log.
 abbrev pub GotTurn : ℕ → PlaceState → PlaceState → Type 0
 GotTurn t m n = (log : List Entry) × Sees (mark_of m.0) log × (n ≡ on_turn (mark_of m.0) m.0.turns t log)
 
--- a ticket was drawn and served, and the bench is out of the slot: its log is one that the client may see
+-- The place drew a ticket, got its turn, and took the bench out of the slot. The client may see the bench's log.
 abbrev pub TookBench : PlaceState → Benched → PlaceState → Type 0
 TookBench m b n =
     (t : ℕ)
@@ -95,7 +96,7 @@ TookBench m b n =
     × (b.trace ≡ (mark_of m.0).start.trace)
     × (n ≡ (solo (saw (mark_of m.0) b.log) (m.0.turns + 1) (holds t), (0, None) ∷ []))
 
--- the front was read: the length of a log that the client may see
+-- the place read the front: it is the length of a log that the client may see
 abbrev pub Looked : PlaceState → ℕ → PlaceState → Type 0
 Looked m found n =
     (log : List Entry)
@@ -103,15 +104,15 @@ Looked m found n =
     × (found ≡ length log)
     × (n ≡ (solo (saw (mark_of m.0) log) m.0.turns idle, []))
 
--- the site that a mark at this lock tells of
+-- the site of a mark at this lock
 abbrev pub site_of : TableId → Mark → Site
 site_of z m = record { table = z; start = m.start; clients = m.clients }
 
--- what a caller sees of the seat that has this place
+-- the seat that has this place, as a caller sees it
 abbrev pub seat_view : TableId → PlaceState → SeatView
 seat_view z m = record { site = site_of z (mark_of m.0); number = (mark_of m.0).number; turns = m.0.turns; seen = (mark_of m.0).seen }
 
--- the place of a seat that waits for nobody
+-- the place of a seat between two calls
 abbrev pub IsSeatOf : TableId → PlaceState → ℕ → ℕ → Type 0
 IsSeatOf z m number turns =
     IsSized z

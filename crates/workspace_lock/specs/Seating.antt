@@ -1,12 +1,12 @@
--- What a caller sees of a seat and of all seats: who is in, what opening leaves, and what closing hands out. Callers' clauses
--- cite this page. All notions here are this project's own.
+-- What a caller sees of a seat and of all seats: which seats are in, what opening gives, and what closing returns.
+-- Clauses of callers cite this page. All notions here are this project's own.
 use Rattle.std.specs.Prelude.{slice_get, slice_set, zero, suc, ◌-◌, ◌≡◌, ℕ, ◌<◌, ◌≤◌, List, [], ◌∷◌, Option, Some, None}
 use Rattle.atomic_table.specs.Seated.{TableId}
 use Rattle.inverse_log.specs.declared.entry.Entry.{Entry}
 use Rattle.inverse_log.specs.Log.{Benched}
 use Rattle.workspace_lock.specs.Turns.{Mark, mark, Sees}
 
--- which workspace it is: its lock, what it began with, and how many clients it has
+-- the workspace that a seat belongs to: its lock, its bench at the opening, and its number of clients
 pub record Site : Type 0 where
   pub table : TableId
   pub start : Benched
@@ -16,22 +16,22 @@ pub record Site : Type 0 where
 abbrev pub site_at : TableId → Benched → ℕ → Site
 site_at table start clients = record { table = table; start = start; clients = clients }
 
--- a seat: its site, its number, the calls that it has made, and the log that it has seen
+-- a seat: its site, its number, how many calls it has made, and the log that it has seen
 pub record SeatView : Type 0 where
   pub site : Site
   pub number : ℕ
   pub turns : ℕ
   pub seen : List Entry
 
--- the mark of the client of this number at a site
+-- the mark of the client with this number at a site
 abbrev pub mark_at : Site → ℕ → List Entry → Mark
 mark_at site number seen = mark site.start site.clients number seen
 
--- what the seat's client has seen
+-- the mark of the seat's client
 abbrev pub mark_in : SeatView → Mark
 mark_in s = mark_at s.site s.number s.seen
 
--- all seats of a site: row i has the seat of the client i + 1, where it is in
+-- all seats of a site: row i has the seat of client i + 1, if it is in
 pub record SeatsView : Type 0 where
   pub site : Site
   pub rows : List (Option SeatView)
@@ -40,16 +40,16 @@ pub record SeatsView : Type 0 where
 abbrev pub fresh_seat : Site → ℕ → SeatView
 fresh_seat site n = record { site = site; number = n; turns = 0; seen = site.start.log }
 
--- the rows of so many seats that have made no call, from the number n on
+-- k rows with seats that have made no call, from number n on
 abbrev pub fresh_rows : Site → ℕ → ℕ → List (Option SeatView)
 fresh_rows site n zero = []
 fresh_rows site n (suc k) = Some (fresh_seat site n) ∷ fresh_rows site (suc n) k
 
--- the seats of so many clients on this bench, none of which has made a call
+-- seats for this many clients on this bench, none of which has made a call
 abbrev pub Opened : Benched → ℕ → SeatsView → Type 0
 Opened bench clients s = (s.site.start ≡ bench) × (s.site.clients ≡ clients) × (s.rows ≡ fresh_rows s.site 1 clients)
 
--- the seat c is the one of the least number that is in, and it is out then
+-- the seat c had the least number of all seats that were in, and is now out
 pub record TakesFirst (s : SeatsView) (c : SeatView) (n : SeatsView) : Type 0 where
   pub site : c.site ≡ s.site
   pub low : 0 < c.number
@@ -58,7 +58,7 @@ pub record TakesFirst (s : SeatsView) (c : SeatView) (n : SeatsView) : Type 0 wh
   pub least : (j : ℕ) → j < c.number - 1 → slice_get s.rows j ≡ Some None
   pub out : n ≡ record s { rows = slice_set s.rows (c.number - 1) None }
 
--- the log of the closed bench begins with what each seat has seen, and has no more of its client
+-- The log of the closed bench begins with what each seat has seen, and has no other entries of the seat's client.
 abbrev pub Closes : SeatsView → Benched → Type 0
 Closes s bench =
     (bench.trace ≡ s.site.start.trace)

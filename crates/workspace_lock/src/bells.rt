@@ -1,11 +1,11 @@
-//! Where a call sleeps until its turn has come.
+//! Bells: a call sleeps on one until its turn comes.
 use crate::lock::MAX_CLIENTS;
 use std::array::from_fn;
 use std::sync::Wait;
 use std::thread::Parker;
 
-/// A bell for each ticket that can wait at a time, so that the turn wakes the one thread whose it is. A ring that comes
-/// before the wait is kept for it.
+/// A bell for each ticket that can wait at one time, so that passing the turn wakes only the thread whose turn it is.
+/// A bell that rings before the wait ends that wait at once.
 #[derive(Drop)]
 pub struct Bells {
     bells: [Parker; MAX_CLIENTS as usize],
@@ -18,17 +18,18 @@ impl Bells {
         }
     }
 
-    // No two tickets of as many seats as there are bells, each the only one of its seat, have the same.
+    // Two tickets that wait at one time never have the same bell: each seat has at most one ticket, and there are at
+    // least as many bells as seats.
     fn bell(&self, ticket: u64) -> &Parker {
         &self.bells[(ticket % u64::from(MAX_CLIENTS)) as usize]
     }
 
-    /// Sleeps until the ticket's bell has rung. It may return for an earlier ring.
+    /// Sleeps until the ticket's bell has rung. May return early, because of an earlier ring.
     pub fn wait<R: Wait>(&self, rt: &R, ticket: u64) {
         self.bell(ticket).park(rt);
     }
 
-    /// Wakes the thread that waits with the ticket, or lets its next wait return at once.
+    /// Wakes the thread that waits with this ticket. If no thread waits yet, its next wait returns at once.
     pub fn ring(&self, ticket: u64) {
         self.bell(ticket).unpark();
     }

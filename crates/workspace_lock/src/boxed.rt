@@ -7,7 +7,7 @@ use inverse_log::{Bench, Call, Refusal, Reply};
 use std::alloc::{AllocFailed, Global};
 use std::marker::Model;
 
-/// A bench in a box, so that a turn moves a pointer and not some 2,500 bytes. Contracts see it as the bench.
+/// A bench in a box, so that a turn moves a pointer instead of some 2,500 bytes. Contracts see it as the bench.
 #[derive(Drop)]
 pub struct BoxedBench {
     bench: Box<Bench>,
@@ -22,7 +22,7 @@ impl Model for BoxedBench {
 }
 
 impl BoxedBench {
-    /// The bench in a box; or the bench, where there is no memory.
+    /// Puts the bench in a box. If memory runs out, returns the bench as the error.
     pub fn try_new(alloc: Global, bench: Bench) -> Result<BoxedBench, Bench>
         ensures ok { IfOk result (λ boxed. boxed ≡ bench) }
         ensures err { IfErr result (λ back. back ≡ bench) }
@@ -33,7 +33,7 @@ impl BoxedBench {
         }
     }
 
-    /// The bench, out of its box.
+    /// Returns the bench, without its box.
     pub fn into_bench(self) -> Bench
         ensures { result ≡ self }
     {
@@ -41,7 +41,7 @@ impl BoxedBench {
         Box::into_inner(bench)
     }
 
-    /// The number of entries of the log.
+    /// Returns the number of log entries.
     pub fn log_len(&self) -> u64
         ensures len { result ≡ length self.now.log }
         ensures legal { IsLegal self.now.trace self.now.log }
@@ -49,7 +49,7 @@ impl BoxedBench {
         self.bench.log_len()
     }
 
-    /// Makes a client's call.
+    /// Makes a call as this client, a number from 1 to 32.
     pub fn call(&mut self, client: u32, call: &Call) -> Result<Reply, Refusal>
         requires low { 1 ≤ client }
         requires high { client ≤ client_limit }

@@ -1,32 +1,33 @@
-//! What a call passes before it draws its ticket.
+//! The door that a call passes before it draws its ticket.
 use crate::lock::MAX_CLIENTS;
 use std::hint::spin_loop;
 use std::sync::Wait;
 use std::sync::atomic::{AtomicU64, Ordering};
 use std::time::Duration;
 
-/// How many seats `open` lets in at a time. With one, a ticket is served at its first look.
+/// How many seats `open` lets queue at a time. With one, a ticket has its turn at the first look.
 pub const BEST_ROOM: u32 = 1;
 
-// How often a call that has slept looks for room before it sleeps again. One that comes does not: who looks while another
-// thread makes its calls gets in between two of them, and then both sleep and wake at each call.
+// How often a call that has slept looks for room before it sleeps again. A new call does not look. If it did, it
+// would get in between two calls of another thread, and both threads would sleep and wake at each call.
 const LOOKS: u32 = 100;
 
-// A sleep, in microseconds.
+// The shortest sleep, in microseconds.
 const NAP: u64 = 1_000;
 
-// The longest sleep, where nobody leaves.
+// The longest sleep while nobody leaves, in microseconds.
 const LONG_NAP: u64 = 256_000;
 
-// How many calls leave between two that wake a sleeper.
+// One leaving call in this many wakes a sleeper.
 const BETWEEN: u64 = 64;
 
-/// A door that lets few calls queue for a turn at a time, so that a thread makes many calls before another is woken.
+/// A door that lets only a few calls queue for a turn, so that a thread makes many calls before another thread wakes.
 ///
-/// It stands outside the lock's rule, as the bells do: it changes when a ticket is drawn, and not what comes of it. Who finds no
-/// room sleeps a millisecond, and twice as long each time while nobody leaves; each 64th call that leaves wakes a sleeper, and
-/// each does while one sleeps long. So nobody sleeps longer than a millisecond where there is room, and a call that does not
-/// leave costs those who wait four looks a second.
+/// Like the bells, the door is not part of the lock's rule. It changes when a call draws its ticket, but not what the
+/// call does. A call that finds no room sleeps for a millisecond. While nobody leaves, each sleep is twice as long as
+/// the one before, up to 256 milliseconds. Every 64th call that leaves wakes a sleeper, and every call does while a
+/// sleeper sleeps longer than a millisecond. So nobody sleeps longer than a millisecond if there is room. If a call
+/// does not leave, each waiting thread looks only four times a second.
 #[derive(Drop)]
 pub struct Door {
     is_wide: bool,
@@ -37,7 +38,8 @@ pub struct Door {
 }
 
 impl Door {
-    /// A door for so many at a time, and one where that is none. With room for all seats it stands open and costs nothing.
+    /// Returns a door with room for this many calls; 0 counts as 1. With room for 32 or more it is always open and
+    /// costs nothing.
     pub fn new(room: u32) -> Door {
         Door {
             is_wide: room >= MAX_CLIENTS,
@@ -48,7 +50,7 @@ impl Door {
         }
     }
 
-    // Goes in where there is room.
+    // Goes in, if there is room. Returns whether it did.
     fn goes_in(&self) -> bool {
         let room = self.room.load(Ordering::SeqCst);
         room > 0
@@ -68,7 +70,7 @@ impl Door {
         false
     }
 
-    // Sleeps until it is woken or the time is over; not at all where there is room.
+    // Sleeps until it is woken or the time is over. Returns at once if there is room.
     fn sleep<R: Wait>(&self, rt: &R, nap: u64) {
         let long = u64::from(nap > NAP);
         self.sleepers.fetch_add(1, Ordering::SeqCst);
@@ -78,7 +80,7 @@ impl Door {
         self.sleepers.fetch_sub(1, Ordering::SeqCst);
     }
 
-    /// Waits for room and takes it. Whoever enters has to leave.
+    /// Waits for room and takes it. A caller that enters must leave.
     pub fn enter<R: Wait>(&self, rt: &R) {
         if self.is_wide || self.goes_in() {
             return;
@@ -100,7 +102,7 @@ impl Door {
         unreachable!()
     }
 
-    /// Gives the room back.
+    /// Gives the room back, and wakes a sleeper if it is time to.
     pub fn leave(&self) {
         if self.is_wide {
             return;

@@ -1,4 +1,4 @@
-//! One bench that the threads of several clients share, each through a seat of its own.
+//! Lets the threads of several clients share one bench, each through a seat of its own.
 #![tactic(auto)]
 
 mod bells;

@@ -1,4 +1,4 @@
-//! The lock that the seats share: its rule, and the kinds of step that a place makes at it.
+//! The lock that the seats share: its rule, and the steps that a place makes at it.
 ghost use Rattle.std.specs.Prelude.{List, []};
 ghost use Rattle.inverse_log.specs.declared.entry.Entry.{Entry};
 
@@ -10,10 +10,10 @@ use std::alloc::Global;
 use std::marker::{Brand, Model, PhantomData};
 use std::snapshot::Snapshot;
 
-/// The most clients, and so the most seats and the most tickets that wait at a time.
+/// The most clients. So this is also the most seats, and the most tickets that can wait at one time.
 pub const MAX_CLIENTS: u32 = 32;
 
-/// What a place knows. No value of it is made.
+/// The knowledge of a place. No value of it is ever made.
 pub struct View {
     nothing: (),
 }
@@ -26,7 +26,7 @@ impl Model for View {
     ghost view = { λ _. blank };
 }
 
-/// What the lock is told when it is made: the bench, and how many seats there are.
+/// The values that the lock gets when it is made: the bench, and the number of seats.
 #[derive(Drop)]
 pub struct Opening {
     pub bench: Snapshot<BoxedBench>,
@@ -44,10 +44,10 @@ impl TableRule<Option<BoxedBench>, View, Opening> for Order {
     ghost first = { λ key. opened key.bench.value key.clients };
 }
 
-/// Three words, TICKET, SERVING and FRONT, and a slot for the bench in its box.
+/// Three words, TICKET, SERVING and FRONT, and a slot for the boxed bench.
 pub type Lock = Table<Option<BoxedBench>, View, Opening, Order, Global>;
 
-/// What the seats share.
+/// What all seats share.
 #[derive(Drop)]
 pub struct Hall {
     pub lock: Lock,
@@ -58,7 +58,7 @@ pub struct Hall {
 /// One client's place at the lock.
 pub type Place = Seat<Option<BoxedBench>, View>;
 
-/// A ticket is drawn.
+/// The step that draws a ticket.
 pub struct Draw;
 
 impl Play<Option<BoxedBench>, View> for Draw {
@@ -67,7 +67,7 @@ impl Play<Option<BoxedBench>, View> for Draw {
     ghost then = { drew };
 }
 
-/// SERVING is read.
+/// The step that reads SERVING.
 pub struct Watch;
 
 impl Play<Option<BoxedBench>, View> for Watch {
@@ -76,7 +76,7 @@ impl Play<Option<BoxedBench>, View> for Watch {
     ghost then = { watched };
 }
 
-/// The log that is published. Each call picks it.
+/// The log to publish. Each call chooses it.
 pub trait Named {
     ghost log: { List Entry };
 }
@@ -85,7 +85,7 @@ impl Named for Brand {
     ghost log = { [] };
 }
 
-/// FRONT grows by one.
+/// The step that adds 1 to FRONT.
 pub struct Publish<N: Named> {
     of: PhantomData<N>,
 }
@@ -96,7 +96,7 @@ impl<N: Named> Play<Option<BoxedBench>, View> for Publish<N> {
     ghost then = { published N.log };
 }
 
-/// FRONT is read.
+/// The step that reads FRONT.
 pub struct Look;
 
 impl Play<Option<BoxedBench>, View> for Look {
@@ -105,7 +105,7 @@ impl Play<Option<BoxedBench>, View> for Look {
     ghost then = { fronted };
 }
 
-/// SERVING grows by one.
+/// The step that adds 1 to SERVING.
 pub struct PassOn;
 
 impl Play<Option<BoxedBench>, View> for PassOn {
@@ -114,7 +114,7 @@ impl Play<Option<BoxedBench>, View> for PassOn {
     ghost then = { passed };
 }
 
-/// SERVING is read for the last time, by the place that has all marks.
+/// The step with which the place that has all marks reads SERVING for the last time.
 pub struct Finish;
 
 impl Play<Option<BoxedBench>, View> for Finish {
@@ -123,7 +123,7 @@ impl Play<Option<BoxedBench>, View> for Finish {
     ghost then = { ended };
 }
 
-/// A place is cut off for a client.
+/// The step that cuts off a place for a client.
 pub struct Deal;
 
 impl Split<View> for Deal {
@@ -134,7 +134,7 @@ impl Split<View> for Deal {
     ghost right = { goes_off };
 }
 
-/// A client's place is joined to another.
+/// The step that joins a client's place to another place.
 pub struct Gather;
 
 impl Join<View> for Gather {

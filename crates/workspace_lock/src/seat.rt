@@ -18,7 +18,8 @@ use std::alloc::Global;
 use std::marker::{Brand, Model};
 use std::sync::{Arc, Wait};
 
-/// The bench's answer, where it has answered. It has no bytes: each pass names it for clauses alone.
+/// The bench's answer, if it has answered. A value of this type has no bytes: each pass of a gate names the answer
+/// for clauses only.
 pub trait Told {
     ghost use Rattle.inverse_log.specs.declared.refusal.Refusal.{Refusal};
     ghost use Rattle.inverse_log.specs.declared.reply.Reply.{Reply};
@@ -33,7 +34,7 @@ impl Told for Brand {
     ghost answer = { None };
 }
 
-// The bench has not answered.
+// The bench has not answered yet.
 struct Unanswered;
 
 impl Told for Unanswered {
@@ -42,26 +43,28 @@ impl Told for Unanswered {
     ghost answer = { None };
 }
 
-/// What a call passes while it has its turn. A gate that does not let it pass holds up every later call, of other
-/// seats too.
+/// A gate that a call passes while it has its turn. While a gate does not let its call pass, all later calls wait,
+/// those of other seats too.
 pub trait Gate {
     ghost use Rattle.inverse_log.specs.declared.refusal.Refusal.{Refusal};
     ghost use Rattle.inverse_log.specs.declared.reply.Reply.{Reply};
     ghost use Rattle.std.specs.Prelude.{List, None, ℕ, Option, Result, ⊤};
 
-    // The steps that it has passed, in their order, where its type tells them.
+    // The steps that the gate has passed, in order, if its type records them.
     ghost passed: { Self → Option (List ℕ) } = { λ _. None };
 
-    // The pass of a step led from the one to the other, and this was the bench's answer then, where it had answered.
+    // Passing `step` changed the gate from `old` to `new`, and `answer` was the bench's answer then, if there was
+    // one.
     ghost heard: { Self → Self → ℕ → Option (Result Reply Refusal) → Type 0 } = { λ old new step answer. ⊤ };
 
-    /// Step 1 is passed when the turn is held, and step 2 after the call was answered, before the turn goes on.
+    /// Passes a step. Step 1 comes when the call has the turn. Step 2 comes after the bench has answered, and before
+    /// the turn is passed on.
     fn pass<R: Wait, N: Told>(&mut self, rt: &R, step: u32)
         ensures passed { Appends (passed self.old) (passed self.new) (step ∷ []) }
         ensures heard { heard self.old self.new step N.answer };
 }
 
-// A gate that stands open.
+// A gate that is always open.
 #[derive(Clone, Copy)]
 struct Open;
 
@@ -79,7 +82,7 @@ fn pass_answered<R: Wait, G: Gate, N: Told>(rt: &R, gate: &mut G, answered: &Res
     gate.pass::<R, N>(rt, 2);
 }
 
-// Sleeps until the ticket is served. The load that finds it so takes the bench along.
+// Sleeps until it is the ticket's turn. The load that sees this also takes the bench.
 fn watch<R: Wait>(rt: &R, hall: &Hall, place: &mut Place, ticket: u64)
     requires { (place.old.table_id ≡ hall.now.lock.shared.table_id) × IsSized place.old.table_id × IsWaiting ticket place.old.me }
     ensures { (place.new.table_id ≡ place.old.table_id) × (place.new.id ≡ place.old.id) × GotTurn ticket place.old.me place.new.me }
@@ -93,7 +96,7 @@ fn watch<R: Wait>(rt: &R, hall: &Hall, place: &mut Place, ticket: u64)
     unreachable!()
 }
 
-// Passes the door, draws a ticket, waits for its turn and takes the bench.
+// Passes the door, draws a ticket, waits for the turn and takes the bench.
 fn take_bench<R: Wait>(rt: &R, hall: &Hall, place: &mut Place) -> BoxedBench
     requires { (place.old.table_id ≡ hall.now.lock.shared.table_id) × IsSized place.old.table_id
         × IsResting place.old.me × (place.old.me.0.turns < turn_limit) }
@@ -105,7 +108,7 @@ fn take_bench<R: Wait>(rt: &R, hall: &Hall, place: &mut Place) -> BoxedBench
     hall.lock.shared.exchange(place, 0, None).unwrap()
 }
 
-// FRONT follows the log, which is one entry longer than the place has seen.
+// Adds 1 to FRONT, because the log is one entry longer than what the place has seen.
 fn publish<N: Named>(lock: &Lock, place: &mut Place, bench: &BoxedBench)
     requires place { (place.old.table_id ≡ lock.now.shared.table_id) × IsSized place.old.table_id × IsBusy place.old.me }
     requires log { bench.now.log ≡ N.log }
@@ -119,7 +122,8 @@ fn publish<N: Named>(lock: &Lock, place: &mut Place, bench: &BoxedBench)
     lock.shared.fetch_add::<Publish<N>>(place, 2, 1);
 }
 
-// Publishes what was logged, puts the bench back, passes the turn on, wakes the one whose it is, and leaves the door.
+// Publishes a new log entry, if there is one, puts the bench back and passes the turn on. Then wakes the thread whose
+// turn it is, and leaves the door.
 fn give_back(hall: &Hall, place: &mut Place, bench: BoxedBench, before: u64)
     requires place { (place.old.table_id ≡ hall.now.lock.shared.table_id) × IsSized place.old.table_id × IsBusy place.old.me }
     requires bench { IsLegal (mark_of place.old.me.0).start.trace bench.log
@@ -138,7 +142,7 @@ fn give_back(hall: &Hall, place: &mut Place, bench: BoxedBench, before: u64)
     hall.door.leave();
 }
 
-// One load of FRONT.
+// Reads FRONT with one load.
 fn look(lock: &Lock, place: &mut Place) -> u64
     requires { (place.old.table_id ≡ lock.now.shared.table_id) × IsSized place.old.table_id × IsResting place.old.me }
     ensures { (place.new.table_id ≡ place.old.table_id) × (place.new.id ≡ place.old.id) × Looked place.old.me result place.new.me }
@@ -146,7 +150,7 @@ fn look(lock: &Lock, place: &mut Place) -> u64
     lock.shared.load::<Look>(place, 2)
 }
 
-/// A client's seat: the one through which its thread calls the shared bench.
+/// A client's seat. The client's thread makes its calls on the shared bench through it.
 #[derive(Drop)]
 pub struct Seat {
     hall: Arc<Hall, Global>,
@@ -169,28 +173,29 @@ impl Model for Seat {
 }
 
 impl Seat {
-    /// The client's number, 1 to 32.
+    /// Returns the client's number, 1 to 32.
     pub fn number(&self) -> u32
         ensures { result ≡ self.now.number }
     {
         self.number
     }
 
-    // Its row among the seats.
+    // The index of the seat's row.
     pub(crate) fn row(&self) -> usize
         ensures { (result + 1 ≡ self.now.number) × (result < self.now.site.clients) }
     {
         self.number as usize - 1
     }
 
-    /// How many calls were made through it.
+    /// Returns how many calls were made through this seat, at most 4,294,967,295. Calls that the bench refused count
+    /// too.
     pub fn turns(&self) -> u32
         ensures { result ≡ self.now.turns }
     {
         self.turns
     }
 
-    // The seat of a place that has made no call.
+    // A seat with a place that has made no call.
     pub(crate) fn at(hall: Arc<Hall, Global>, place: Place, number: u32) -> Seat
         requires lock { (place.table_id ≡ (arc_value hall).lock.shared.table_id) × IsSized place.table_id }
         requires number { (0 < number) × (number ≤ client_limit) × (number ≤ (mark_of place.me.0).clients) }
@@ -205,7 +210,7 @@ impl Seat {
         }
     }
 
-    // The place, for good.
+    // Takes the place out of the seat, for good.
     pub(crate) fn into_place(self) -> Place
         ensures { (result.table_id ≡ self.site.table) × IsSized result.table_id
             × (result.me ≡ (solo (mark_in self) self.turns idle, [])) × (self.turns ≤ turn_limit) }
@@ -219,8 +224,8 @@ impl Seat {
         place
     }
 
-    /// Waits for its turn, and makes the call with the seat's number. It never returns where a seat before it never passes
-    /// its turn on.
+    /// Waits for its turn, and makes the call with the seat's number. Fails with `SeatSpent` if the seat has made
+    /// 4,294,967,295 calls. Never returns if an earlier call never passes its turn on.
     pub fn run<R: Wait>(&mut self, rt: &R, call: &Call) -> Result<Reply, SeatRefusal>
         ensures run { Ran self.old call.now result self.new }
         ensures seat { (self.new.site ≡ self.old.site) × (self.new.number ≡ self.old.number) }
@@ -228,7 +233,7 @@ impl Seat {
         self.run_gated(rt, call, &mut Open)
     }
 
-    /// The same, and the gate is passed while the turn is held: 1 before the call, 2 after it.
+    /// The same with a gate, which the call passes while it has the turn: step 1 before the call, step 2 after it.
     pub fn run_gated<R: Wait, G: Gate>(
         &mut self,
         rt: &R,
@@ -237,10 +242,10 @@ impl Seat {
     ) -> Result<Reply, SeatRefusal>
         ensures run { Ran self.old call.now result self.new }
         ensures seat { (self.new.site ≡ self.old.site) × (self.new.number ≡ self.old.number) }
-        // The gate has passed 1 and then 2, once each; and nothing where the seat is spent.
+        // The gate has passed step 1 and then step 2, once each. If the seat is spent, the gate has passed nothing.
         ensures gate { Passes result (G.passed gate.old) (G.passed gate.new) }
         ensures spent { result ≡ Err SeatSpent → gate.new ≡ gate.old }
-        // Step 2 comes after the bench has answered: it is passed with the answer.
+        // The call passes step 2 after the bench has answered, and with that answer.
         ensures heard { Hears G.heard result gate.old gate.new }
     {
         if self.turns == u32::MAX {
@@ -259,7 +264,7 @@ impl Seat {
         }
     }
 
-    /// The length of the log, by one load: it waits for nobody.
+    /// Returns the length of the log, read by one load. Waits for nobody.
     pub fn front(&mut self) -> u64
         ensures front { Fronted self.old result self.new }
         ensures seat { (self.new.site ≡ self.old.site) × (self.new.number ≡ self.old.number) }

@@ -20,7 +20,7 @@ use std::marker::Model;
 use std::snapshot::Snapshot;
 use std::sync::Arc;
 
-// The bench comes out for good, by a place that has all marks: its ticket is served at once.
+// Takes the bench out for good. The place has all marks, so its ticket has its turn at once.
 fn finish(lock: &Lock, place: &mut Place) -> Bench
     requires place { (place.old.table_id ≡ lock.now.shared.table_id) × IsSized place.old.table_id × Gathers place.old.me }
     requires all { (0 < length place.old.me.0.marks) × (length place.old.me.0.marks ≡ lock.now.shared.key.clients) }
@@ -31,7 +31,7 @@ fn finish(lock: &Lock, place: &mut Place) -> Bench
     lock.shared.exchange(place, 0, None).unwrap().into_bench()
 }
 
-// The seat's view goes into the place's.
+// Joins the seat's place to this place.
 fn join_in(lock: &Lock, place: &mut Place, seat: Seat)
     requires place { (place.old.table_id ≡ lock.now.shared.table_id) × IsSized place.old.table_id × Gathers place.old.me }
     requires seat { seat.site.table ≡ lock.now.shared.table_id }
@@ -41,7 +41,7 @@ fn join_in(lock: &Lock, place: &mut Place, seat: Seat)
     lock.shared.join_seat::<Gather>(place, other);
 }
 
-// All seats that are in go into the place.
+// Joins the places of all seats to this place.
 fn gather(lock: &Lock, place: &mut Place, mut rows: Vec<Option<Seat>>)
     requires place { (place.old.table_id ≡ lock.now.shared.table_id) × IsSized place.old.table_id × Gathers place.old.me }
     requires rows { AllSeated lock.now.shared.table_id rows.items }
@@ -56,19 +56,19 @@ fn gather(lock: &Lock, place: &mut Place, mut rows: Vec<Option<Seat>>)
     }
 }
 
-/// All seats of a shared bench. Those that are in stand in the order of their numbers.
+/// All seats of a shared bench. The seats that are in have the order of their numbers.
 #[derive(Drop)]
 pub struct Seats {
     hall: Arc<Hall, Global>,
     rows: Vec<Option<Seat>>,
 }
 
-/// Why the seats were not closed.
+/// The reason why the seats were not closed.
 #[derive(Clone, Copy, PartialEq, Eq)]
 pub enum CloseRefusal {
     /// 74: a seat is out.
     NotAll,
-    /// 75: a growth was refused. It is never answered, since closing takes no memory.
+    /// 75: out of memory. It is never returned, because closing needs no memory.
     OutOfMemory,
 }
 
@@ -89,7 +89,7 @@ impl Model for Seats {
         s.rows.items };
 }
 
-// The first row that has a seat.
+// The index of the first row that has a seat.
 fn first_in(rows: &[Option<Seat>]) -> Option<usize>
     ensures some { IfSome result (λ i. (i < length rows.now)
         × ((c : SeatView) × (slice_get rows.now i ≡ Some (Some c)))
@@ -119,7 +119,7 @@ fn is_one_out(rows: &[Option<Seat>]) -> bool
 }
 
 impl Seats {
-    /// The seat of the least number that is in.
+    /// Takes out the seat with the least number that is in. Returns None if all seats are out.
     pub fn take(&mut self) -> Option<Seat>
         ensures some { IfSome result (λ c. TakesFirst self.old c self.new) }
         ensures none { IfNone result ((self.new ≡ self.old) × ((j : ℕ) → j < length self.old.rows → slice_get self.old.rows j ≡ Some None)) }
@@ -129,7 +129,7 @@ impl Seats {
         row.take()
     }
 
-    /// Takes the seat back. It is handed back where one of its number is in.
+    /// Takes a seat back. Returns it as the error if a seat with its number is in already.
     pub fn give(&mut self, seat: Seat) -> Result<(), Seat>
         requires { seat.site ≡ self.old.site }
         ensures ok { OnOk result ((slice_get self.old.rows (seat.number - 1) ≡ Some None)
@@ -146,7 +146,8 @@ impl Seats {
         Ok(())
     }
 
-    /// The bench, once all seats are in; else the seats. It takes no memory and waits for nobody.
+    /// Returns the bench, if all seats are in. Otherwise returns the seats as part of the error. Needs no memory and
+    /// waits for nobody.
     pub fn close(self) -> Result<Bench, (Seats, CloseRefusal)>
         ensures ok { IfOk result (λ b. Closes self b × ((i : ℕ) → i < length self.rows → (c : SeatView) × (slice_get self.rows i ≡ Some (Some c)))) }
         ensures err { IfErr result (λ e. (e.0 ≡ self) × (e.1 ≡ CloseRefusal.NotAll) × ((i : ℕ) × (slice_get self.rows i ≡ Some None))) }
@@ -164,16 +165,16 @@ impl Seats {
     }
 }
 
-/// Why a bench was not shared.
+/// The reason why a bench was not shared.
 #[derive(Clone, Copy, PartialEq, Eq)]
 pub enum OpenRefusal {
-    /// 71: the number of clients is not one of 1 to 32.
+    /// 71: the number of clients is not from 1 to 32.
     BadCount,
-    /// 72: a growth was refused.
+    /// 72: out of memory.
     OutOfMemory,
 }
 
-// A seat for each client, by the first place, which is spent then.
+// Makes a seat for each client from the first place, and uses that place up.
 fn deal(
     hall: Arc<Hall, Global>,
     mut place: Place,
@@ -199,7 +200,7 @@ fn deal(
     Ok(Seats { hall, rows })
 }
 
-// The lock, its bells and its door go where all seats can reach them.
+// Puts the lock, its bells and its door where all seats can reach them.
 fn share(
     alloc: Global,
     lock: Lock,
@@ -228,7 +229,7 @@ fn share(
     }
 }
 
-// The bench goes into the lock's slot.
+// Puts the bench into the lock's slot, and makes the seats.
 fn open_boxed(
     alloc: Global,
     boxed: BoxedBench,
@@ -262,17 +263,19 @@ fn open_boxed(
 }
 
 /// Seats for the clients 1 to `clients`, each of which has seen the bench's log.
+/// There may be 1 to 32 clients. If the call fails, it returns the bench as part of the error.
 pub fn open(alloc: Global, bench: Bench, clients: u32) -> Result<Seats, (Bench, OpenRefusal)>
     ensures ok { IfOk result (λ s. (0 < clients) × (clients ≤ client_limit) × Opened bench clients s) }
     ensures err { IfErr result (λ e. e.0 ≡ bench) }
-    // It is refused for the count exactly where that is bad.
+    // The error is `BadCount` exactly if the count is not from 1 to 32, and otherwise `OutOfMemory`.
     ensures count { IfErr result (λ e. IsBadCount clients e.1) }
 {
     open_with_room(alloc, bench, clients, BEST_ROOM)
 }
 
-/// The same, and how many seats at a time may queue for a turn: fewer change threads less often, and so make calls in longer
-/// runs of one client. Room for none is room for one; room for 32 is no door at all. No answer rests on it.
+/// The same, with room for this many seats to queue for a turn at a time. With less room, threads change less often,
+/// so a client makes more calls in a row. 0 counts as 1; with room for 32 there is no door. No answer depends on the
+/// room.
 pub fn open_with_room(
     alloc: Global,
     bench: Bench,
