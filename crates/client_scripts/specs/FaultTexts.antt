@@ -1,4 +1,4 @@
--- What is printed of a fault: where the fault is, its cause's number, and the cause's words.
+-- The text of a fault: its place, the number of its cause, and the cause's words.
 use Rattle.std.specs.Prelude.{ℕ, List, ◌++◌, Option, Some, None, codes, decimal}
 use Rattle.rapid_text.specs.declared.refusal.TextCause.{TextCause}
 use Rattle.rapid_text.specs.declared.refusal.TextCause.TheVariants.{NoBar, BadParentheses, UnknownOperation, EmptyName, NameTooLong, LineTooLong as TraceLineTooLong, TooManyEvents, TooManyNames, OutOfMemory as NoTextMemory}
@@ -11,7 +11,7 @@ use Rattle.client_scripts.specs.declared.fault.ReadCause.TheVariants.{Device, To
 use Rattle.client_scripts.specs.declared.fault.ReplayFault.{ReplayFault}
 use Rattle.client_scripts.specs.declared.fault.ReplayFault.TheVariants.{Text, Rule, Script, Read, Write, OutOfMemory}
 
--- what is wrong with a trace line: the cause's number and its words; none for want of memory
+-- what is wrong with a trace line: the cause's number and words; none if memory ran out
 abbrev pub text_cause_words : TextCause → Option (List ℕ)
 text_cause_words NoBar = Some (codes "1 no bar")
 text_cause_words BadParentheses = Some (codes "2 bad parentheses")
@@ -42,7 +42,7 @@ script_cause_words BadName = Some (codes "84 bad name")
 script_cause_words ScriptLineTooLong = Some (codes "85 line too long")
 script_cause_words NoScriptMemory = None
 
--- words at a numbered place; want of memory has no place
+-- words at a numbered place; running out of memory has no place
 abbrev pub located_words : List ℕ → ℕ → Option (List ℕ) → List ℕ
 located_words place number None = codes "out of memory"
 located_words place number (Some words) = place ++ codes " " ++ decimal number ++ codes ": " ++ words
@@ -51,7 +51,7 @@ abbrev pub read_cause_words : ReadCause → List ℕ
 read_cause_words Device = codes "read failed"
 read_cause_words TooLong = codes "input too long"
 
--- the text of a fault, without a line end
+-- the text of a fault, without a line feed
 abbrev pub fault_words : ReplayFault → List ℕ
 fault_words (Text refusal) = located_words (codes "trace line") refusal.line (text_cause_words refusal.why)
 fault_words (Rule refusal) = located_words (codes "trace event") refusal.event (rule_cause_words refusal.why)

@@ -3,11 +3,11 @@ use Rattle.std.specs.Prelude.{ℕ, ◌+◌, Bool, List, [], ◌++◌, take, drop
 use Rattle.std.specs.List.{slice_split, join_with_byte}
 use Rattle.rapid_text.specs.Reading.{is_line_feed, trimmed}
 
--- `---`, with blanks round it
+-- `---`, with or without blanks around it
 abbrev pub is_divider : List ℕ → Bool
 is_divider line = bytes_eq (trimmed line) (codes "---")
 
--- the line with its end
+-- the line and a line feed
 abbrev pub ended : List ℕ → List ℕ
 ended line = line ++ codes "\n"
 
@@ -22,10 +22,10 @@ abbrev pub script_by : List ℕ → Option ℕ → List ℕ
 script_by text None = []
 script_by text (Some k) = join_with_byte 10 (drop (k + 1) (lines_of text))
 
--- the trace: the lines before the first divider, or the whole text where there is none
+-- the trace: the lines before the first divider, or the whole text if there is none
 unfoldable pub trace_part : List ℕ → List ℕ
 trace_part text = trace_by text (position is_divider (lines_of text))
 
--- the script: what stands after the first divider, or nothing where there is none
+-- the script: the text after the first divider; empty if there is none
 unfoldable pub script_part : List ℕ → List ℕ
 script_part text = script_by text (position is_divider (lines_of text))

@@ -1,4 +1,4 @@
--- What the reading of a trace answers of its reader's bytes.
+-- What reading a trace returns for its reader's bytes.
 use Rattle.std.specs.Prelude.{◌≡◌, ◌⊎◌, ℕ, List, Option, Ok, IfSome}
 use Rattle.rapid_text.specs.Recording.{Recording}
 use Rattle.client_scripts.specs.Replay.{IsFault, IsShort, of_trace}
@@ -6,11 +6,11 @@ use Rattle.client_scripts.specs.Traces.{trace_of}
 use Rattle.client_scripts.specs.declared.fault.ReplayFault.{ReplayFault}
 use Rattle.client_scripts.specs.declared.fault.ReplayFault.TheVariants.{OutOfMemory}
 
--- the bytes are those that the reader tells, where it tells them
+-- if the reader shows its bytes, these are the bytes
 abbrev pub IsTold : Option (List ℕ) → List ℕ → Type 0
 IsTold rest bytes = IfSome rest (λ told. bytes ≡ told)
 
--- the bytes are of this trace
+-- the bytes give this trace
 abbrev pub IsTraceOf : List ℕ → Recording → Type 0
 IsTraceOf bytes trace = IsShort bytes × (trace_of bytes ≡ Ok trace)
 
@@ -18,6 +18,6 @@ IsTraceOf bytes trace = IsShort bytes × (trace_of bytes ≡ Ok trace)
 abbrev pub IsReadFrom : Option (List ℕ) → Recording → Type 0
 IsReadFrom rest trace = (bytes : List ℕ) × IsTold rest bytes × IsTraceOf bytes trace
 
--- or was not, for this fault of its bytes or for want of memory
+-- or the bytes give this fault, or memory ran out
 abbrev pub IsUnreadFrom : Option (List ℕ) → ReplayFault → Type 0
 IsUnreadFrom rest fault = (bytes : List ℕ) × IsTold rest bytes × ((fault ≡ OutOfMemory) ⊎ IsFault (of_trace bytes) fault)

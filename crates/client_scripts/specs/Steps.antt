@@ -1,4 +1,4 @@
--- What the steps of a replay answer. No public clause cites this module.
+-- What the steps of a replay return. No public clause cites this module.
 use Rattle.std.specs.Prelude.{◌≡◌, ◌⊎◌, ℕ, ◌<◌, Bool, List, ◌++◌, length, slice_get, Option, Some, option_map, Result, Ok, Err, is_ok, Vec, IfSome, ⊤}
 use Rattle.std.specs.Io.KnownBytes.{Appends}
 use Rattle.std.specs.declared.alloc.Global.{Global}
@@ -25,7 +25,7 @@ use Rattle.script_language.specs.declared.refusal.ScriptRefusal.{ScriptRefusal}
 use Rattle.client_scripts.specs.declared.fault.Tally.{Tally}
 use Rattle.client_scripts.specs.declared.fault.TheConstants.{LIMIT}
 
--- the fault for a refusal of the text, of the rules, and of the script; want of memory is a fault of its own
+-- the faults for refusals of the text, of the rules and of the script; running out of memory is a fault of its own
 abbrev pub text_fault : TextRefusal → TextCause → ReplayFault
 text_fault refusal NoTextMemory = OutOfMemory
 text_fault refusal why = Text refusal
@@ -38,13 +38,13 @@ abbrev pub script_fault : ScriptRefusal → ScriptCause → ReplayFault
 script_fault refusal NoScriptMemory = OutOfMemory
 script_fault refusal why = Script refusal
 
--- the fault of the input of this number, which was not read
+-- the fault for the input with this number, which could not be read
 abbrev pub read_fault : ℕ → ReadFault → ReplayFault
 read_fault input NoDevice = Read input Device
 read_fault input PastLimit = Read input TooLong
 read_fault input NoReadMemory = OutOfMemory
 
--- an input that was read whole, or why it was not
+-- the whole input, or the reason why it could not be read
 abbrev pub IsInput : ℕ → Option (List ℕ) → Result (Vec ℕ Global) ReplayFault → Type 0
 IsInput input rest (Ok bytes) = IsShort bytes.items × IfSome rest (λ told. bytes.items ≡ told)
 IsInput input rest (Err (Read place Device)) = place ≡ input
@@ -52,7 +52,8 @@ IsInput input rest (Err (Read place TooLong)) = (place ≡ input) × IfSome rest
 IsInput input rest (Err OutOfMemory) = ⊤
 IsInput input rest (Err fault) = ⊥
 
--- The script's call at this place was made behind this log, which is `after` then, and the line of its answer was appended.
+-- The script's call with this index was made at this log, and `after` is the log after it. The line of its answer was
+-- appended.
 pub record MakesCall (trace : Recording) (script : List Asked) (at : ℕ) (log : List Entry) (accepted : Bool) (old : List ℕ) (after : List Entry) (new : List ℕ) : Type 0 where
   pub asked : ℕ × Call
   pub there : option_map (λ (a : Asked). (a.client, a.call)) (slice_get script at) ≡ Some asked
@@ -60,11 +61,12 @@ pub record MakesCall (trace : Recording) (script : List Asked) (at : ℕ) (log :
   pub reply : accepted ≡ is_ok (answer_of trace log asked.0 asked.1)
   pub logged : after ≡ log_after trace log asked.0 asked.1
 
--- a line was handed to the writer or is kept back behind what was kept before
+-- The line goes after the bytes that were kept before. The writer has taken a beginning of these bytes, and the rest
+-- is kept.
 abbrev pub HandsOn : Option (List ℕ) → Option (List ℕ) → List ℕ → List ℕ → List ℕ → Type 0
 HandsOn old new kept kept_now line = (out : List ℕ) × Appends old new out × (out ++ kept_now ≡ kept ++ line)
 
--- what the calls leave: the whole text and its tally, or a beginning of the text
+-- the state after the calls: the whole text and its tally, or a beginning of the text
 abbrev pub IsRun : Recording → List Asked → Option (List ℕ) → Option (List ℕ) → Result Tally ReplayFault → Type 0
 IsRun trace asked old new (Ok tally) =
     Appends old new (script_text trace asked) × (tally ≡ tally_of trace asked)
@@ -72,7 +74,7 @@ IsRun trace asked old new (Err Write) = AppendsPart old new (script_text trace a
 IsRun trace asked old new (Err OutOfMemory) = AppendsPart old new (script_text trace asked)
 IsRun trace asked old new (Err fault) = ⊥
 
--- the same of a script's text, which is read first
+-- the same for a script's text, which is read first
 abbrev pub IsScriptRun : Recording → List ℕ → Option (List ℕ) → Option (List ℕ) → Result Tally ReplayFault → Type 0
 IsScriptRun trace text old new (Err (Script refusal)) = IsScript text (Err refusal) × (new ≡ old)
 IsScriptRun trace text old new (Err OutOfMemory) =

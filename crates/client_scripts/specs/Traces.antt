@@ -13,7 +13,7 @@ abbrev pub trace_checked : Recording → Option RuleRefusal → Result Recording
 trace_checked trace None = Ok trace
 trace_checked trace (Some refusal) = Err (Rule refusal)
 
--- the recording that was read, if one was, unless it breaks a rule
+-- the recording that was read, unless it breaks a rule; or the refusal of the text
 abbrev pub trace_read : Result Recording TextRefusal → Result Recording ReplayFault
 trace_read (Ok trace) = trace_checked trace (first_breach trace.events)
 trace_read (Err refusal) = Err (Text refusal)

@@ -1,4 +1,4 @@
-//! Why a replay stopped, and how what stops its parts becomes that; what it counted where it did not stop.
+//! The faults that stop a replay, how faults of its parts become them, and the counts of a replay that did not stop.
 ghost use Rattle.std.specs.Prelude.{◌≡◌};
 ghost use Rattle.client_scripts.specs.Steps.{read_fault};
 
@@ -10,10 +10,10 @@ use std::alloc::AllocError;
 use thiserror::Error;
 use trace_rules::{RuleCause, RuleRefusal, Trace};
 
-/// The most bytes of an input.
+/// The most bytes that an input may have.
 pub const LIMIT: usize = 268_435_456;
 
-/// Why an input was not read.
+/// The reason why an input could not be read.
 #[derive(Clone, Copy, PartialEq, Eq, Debug)]
 pub enum ReadCause {
     /// The reader failed.
@@ -22,31 +22,32 @@ pub enum ReadCause {
     TooLong,
 }
 
-/// Why a replay stopped. Its message is what `fault_text` appends.
+/// The fault that stopped a replay. `fault_text` appends its message.
 #[derive(Clone, Copy, PartialEq, Eq, Debug, Error)]
 #[error("{}", message_of(self))]
 pub enum ReplayFault {
-    /// 91: the trace text is refused.
+    /// 91: the trace text does not parse.
     Text(TextRefusal),
     /// 92: the trace breaks a rule.
     Rule(RuleRefusal),
-    /// 93: the script is refused.
+    /// 93: the script does not parse.
     Script(ScriptRefusal),
-    /// 94: an input was not read.
+    /// 94: an input could not be read.
     Read {
-        /// 1 for the trace or the joint text, 2 for a script of its own.
+        /// 1 for the trace or the joint text, 2 for a separate script.
         input: u32,
-        /// Why it was not read.
+        /// The reason.
         why: ReadCause,
     },
     /// 95: the writer failed.
     Write,
-    /// 96: a growth was refused.
+    /// 96: out of memory.
     OutOfMemory,
 }
 
 impl ReplayFault {
-    /// The fault of the input of this number, which was not read; want of memory is a fault of its own.
+    /// The fault for the input with this number, which could not be read. Running out of memory is a fault of its
+    /// own.
     pub(crate) fn of_input(input: u32, why: ReadFault) -> ReplayFault
         ensures { result ≡ read_fault input why }
     {
@@ -139,14 +140,14 @@ impl From<ScriptRefusal> for ReplayFault {
     }
 }
 
-/// Why an input was not read, or the want of memory for it.
+/// The reason why an input could not be read, or that memory ran out.
 #[derive(Clone, Copy, PartialEq, Eq, Debug)]
 pub enum ReadFault {
     /// The reader failed.
     Device,
     /// The input has more than 268,435,456 bytes.
     TooLong,
-    /// A growth was refused.
+    /// Out of memory.
     OutOfMemory,
 }
 
@@ -172,13 +173,13 @@ impl From<AllocError> for ReadFault {
     }
 }
 
-/// What a replay counted. All calls are those that were accepted and those that were refused.
+/// The counts of a replay. Each call is either accepted or refused.
 #[derive(Clone, Copy, PartialEq, Eq, Debug)]
 pub struct Tally {
-    /// The calls of the script.
+    /// How many calls the script has.
     pub calls: u64,
-    /// Those that were answered by a reply.
+    /// How many calls got a reply.
     pub accepted: u64,
-    /// Those that were refused.
+    /// How many calls were refused.
     pub refused: u64,
 }

@@ -1,4 +1,4 @@
-//! What is printed of a fault.
+//! Prints faults.
 ghost use Rattle.std.specs.Prelude.{◌≡◌, ◌++◌, IfOk, OnOk, OnErr};
 ghost use Rattle.client_scripts.specs.FaultTexts.{fault_words, located_words, text_cause_words, rule_cause_words, script_cause_words};
 ghost use Rattle.client_scripts.specs.Messages.{message_bytes, words_in};
@@ -10,12 +10,12 @@ use script_language::ScriptCause;
 use std::fmt;
 use trace_rules::RuleCause;
 
-/// A message in its parts: words alone, or words at a numbered place.
+/// A message in its parts: words alone, or words with a kind of place and its number.
 #[derive(Clone, Copy)]
 pub(crate) enum Message {
     /// Words alone.
     Plain(&'static str),
-    /// The kind of the place, its number, and the words.
+    /// The kind of place, its number, and the words.
     At(&'static str, u64, &'static str),
 }
 
@@ -28,7 +28,7 @@ impl fmt::Display for Message {
     }
 }
 
-/// The number and the words of what is wrong with a trace line; None for want of memory.
+/// The number and the words of what is wrong with a trace line. Returns None if memory ran out.
 fn text_words(why: TextCause) -> Option<&'static str>
     ensures { words_in result ≡ text_cause_words why }
 {
@@ -45,7 +45,7 @@ fn text_words(why: TextCause) -> Option<&'static str>
     }
 }
 
-/// The number and the words of the rule that an event breaks; None for want of memory.
+/// The number and the words of the rule that an event breaks. Returns None if memory ran out.
 fn rule_words(why: RuleCause) -> Option<&'static str>
     ensures { words_in result ≡ rule_cause_words why }
 {
@@ -60,7 +60,8 @@ fn rule_words(why: RuleCause) -> Option<&'static str>
     }
 }
 
-/// The number and the words of what is wrong with a script line; None for want of memory.
+/// Returns the number and the words of what is wrong with a script line, such as `81 bad word`. Returns None if
+/// memory ran out.
 pub fn script_words(why: ScriptCause) -> Option<&'static str>
     ensures { words_in result ≡ script_cause_words why }
 {
@@ -74,7 +75,7 @@ pub fn script_words(why: ScriptCause) -> Option<&'static str>
     }
 }
 
-/// The words at their place, or the words for want of memory.
+/// The message for words at a place. Without words, the message is `out of memory`.
 fn located(place: &'static str, number: u64, words: Option<&'static str>) -> Message
     ensures { message_bytes result ≡ located_words place.now number (words_in words.entry) }
 {
@@ -84,7 +85,7 @@ fn located(place: &'static str, number: u64, words: Option<&'static str>) -> Mes
     }
 }
 
-/// What is printed of a fault.
+/// The message of a fault.
 pub(crate) fn message_of(fault: &ReplayFault) -> Message
     ensures { message_bytes result ≡ fault_words fault.now }
 {
@@ -109,7 +110,7 @@ pub(crate) fn message_of(fault: &ReplayFault) -> Message
     }
 }
 
-/// Appends a message. Where memory is refused `out` stays as it was.
+/// Appends a message. If memory runs out, `out` stays as it was.
 fn append_message(out: &mut Vec<u8>, message: Message) -> Result<(), OutOfMemory>
     ensures ok { OnOk result (out.new.items ≡ out.old.items ++ message_bytes message) }
     ensures err { OnErr result (out.new.items ≡ out.old.items) }
@@ -129,7 +130,7 @@ fn append_message(out: &mut Vec<u8>, message: Message) -> Result<(), OutOfMemory
     }
 }
 
-/// Appends the text of a fault, without a line end. Where memory is refused `out` stays as it was.
+/// Appends the text of a fault, without a line feed. If memory runs out, `out` stays as it was.
 pub fn fault_text(fault: &ReplayFault, out: &mut Vec<u8>) -> Result<(), OutOfMemory>
     ensures ok { OnOk result (out.new.items ≡ out.old.items ++ fault_words fault.now) }
     ensures err { OnErr result (out.new.items ≡ out.old.items) }

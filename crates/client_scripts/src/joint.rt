@@ -1,19 +1,19 @@
-//! Cuts a joint text into its trace and its script.
+//! Splits a joint text into its trace and its script.
 ghost use Rattle.std.specs.Prelude.{◌≡◌};
 ghost use Rattle.client_scripts.specs.Joint.{is_divider, trace_part, script_part};
 
 use rapid_text::trim;
 use script_language::Lines;
 
-/// Whether the line is `---` with blanks round it.
+/// Whether the line is `---`, with or without blanks around it.
 fn is_a_divider(line: &[u8]) -> bool
     ensures { result ≡ is_divider line.now }
 {
     trim(line) == b"---".as_slice()
 }
 
-/// What stands before the first line `---`, with the ends of its lines, and what stands after that line.
-/// Without such a line the whole text is the trace, and the script is empty.
+/// Splits a text at the first line `---`. Returns the lines before it, with their line feeds, and the text after it.
+/// If there is no such line, the whole text is the trace, and the script is empty.
 pub(crate) fn parts_of(text: &[u8]) -> (&[u8], &[u8])
     ensures trace { result.0.now ≡ trace_part text.now }
     ensures script { result.1.now ≡ script_part text.now }

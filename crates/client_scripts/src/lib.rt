@@ -1,4 +1,4 @@
-//! Replays of scripts, from bytes in to bytes out: readers and writers, traces that are loaded, and scripts whose calls are made.
+//! Replays scripts: reads a trace and a script, makes the script's calls, and writes the answers.
 #![tactic(auto)]
 
 mod fault;

@@ -1,4 +1,4 @@
-//! Reads an input, and makes an indexed trace of a text.
+//! Reads an input, and makes an indexed trace from a text.
 ghost use Rattle.std.specs.Prelude.{◌≡◌, ◌≢◌, ◌⊎◌, true, false, IfOk, IfErr, Err};
 ghost use Rattle.trace_rules.specs.Rules.{first_breach};
 ghost use Rattle.client_scripts.specs.Loading.{IsReadFrom, IsUnreadFrom};
@@ -16,7 +16,7 @@ use rapid_text::{RawTrace, parse};
 use std::alloc::Global;
 use trace_rules::{Trace, check};
 
-/// Reads the whole of an input, which faults name by this number.
+/// Reads all bytes of an input. A fault names the input by this number.
 pub fn read_input<S: Source>(
     alloc: Global,
     source: &mut S,
@@ -33,7 +33,7 @@ pub fn read_input<S: Source>(
     }
 }
 
-/// Checks a trace against the rules.
+/// Checks that a trace keeps the rules.
 fn check_trace(alloc: Global, raw: RawTrace) -> Result<Trace, ReplayFault>
     ensures { (result ≡ Err OutOfMemory) ⊎ (trace_checked raw (first_breach raw.events) ≡ result) }
 {
@@ -46,7 +46,7 @@ fn check_trace(alloc: Global, raw: RawTrace) -> Result<Trace, ReplayFault>
     }
 }
 
-/// Reads and checks a trace, and makes its tables; or its fault, or want of memory.
+/// Parses and checks a trace, and makes its tables. Fails with 91 or 92, or with 96 if memory runs out.
 pub fn load(alloc: Global, text: &[u8]) -> Result<Indexed, ReplayFault>
     ensures { (result ≡ Err OutOfMemory) ⊎ (trace_of text.now ≡ result) }
 {
@@ -56,7 +56,7 @@ pub fn load(alloc: Global, text: &[u8]) -> Result<Indexed, ReplayFault>
     Ok(indexed)
 }
 
-/// The same of a text that goes once it is read, since the tables take the room that it took.
+/// The same, but drops the text once it is parsed, because the tables need the memory.
 fn load_owned(alloc: Global, text: Vec<u8>) -> Result<Indexed, ReplayFault>
     ensures { (result ≡ Err OutOfMemory) ⊎ (trace_of text.items ≡ result) }
 {
@@ -68,17 +68,19 @@ fn load_owned(alloc: Global, text: Vec<u8>) -> Result<Indexed, ReplayFault>
     Ok(indexed)
 }
 
-/// Reads the whole of an input, which is number 1, and makes the tables of the trace that it holds; or 91, 92 or 94, or 96 for want of memory.
+/// Reads input 1, parses and checks the trace in it, and makes its tables. Fails with 91, 92 or 94, or with 96 if
+/// memory runs out.
 pub fn read_trace<S: Source>(alloc: Global, reader: &mut S) -> Result<Indexed, ReplayFault>
     requires { S.has_failed reader.old ≡ false }
-    // There are bytes, those that the reader tells where it tells them, of which this is the trace or the fault.
+    // There are bytes that give this trace or this fault. If the reader's type shows its bytes, they are the
+    // reader's.
     ensures read { IfOk result (IsReadFrom (S.rest reader.old)) }
     ensures unread { IfErr result (IsUnreadFrom (S.rest reader.old)) }
-    // There is one input and no script, and nothing is written.
+    // There is only one input and no script, and the call writes nothing.
     ensures input { (why : ReadCause) → result ≢ Err (Read 2 why) }
     ensures no_script { (refusal : ScriptRefusal) → result ≢ Err (Script refusal) }
     ensures unwritten { result ≢ Err Write }
-    // The device is at fault exactly where a read failed.
+    // The fault is `Device` exactly if a read failed.
     ensures device { result ≡ Err (Read 1 Device) → S.has_failed reader.new ≡ true }
     ensures failed { S.has_failed reader.new ≡ true → result ≡ Err (Read 1 Device) }
 {

@@ -1,4 +1,4 @@
-//! Replays a script on a trace: reads both, makes the script's calls, and writes the lines of their answers.
+//! Replays a script on a trace: reads both, makes the script's calls, and writes a line for each answer.
 ghost use Rattle.std.specs.Prelude.{◌≡◌, ◌≢◌, ◌⊎◌, ◌++◌, ◌<◌, ◌≤◌, ℕ, List, [], length, true, false, is_err, is_ok, IfErr, IfOk, IfSome, OnOk, OnErr, Ok, Err};
 ghost use Rattle.std.specs.Io.KnownBytes.{Appends};
 ghost use Rattle.inverse_log.specs.Answer.{answer_of, log_after};
@@ -23,11 +23,11 @@ use script_language::{GivenCall, PlainCall, Script, read_script};
 use std::alloc::Global;
 use std::sync::Arc;
 
-/// How many bytes are kept back before they are written.
+/// How many bytes of output are kept before they are written.
 const FULL: usize = 65_536;
 
-/// Makes a call and appends the line of its answer; says whether the answer is a reply. A look at a schedule prints its
-/// events where they are, and copies no list.
+/// Makes a call and appends the line of its answer. Returns whether the answer is a reply. If the call shows a
+/// schedule, prints its events in place, without a copy of the list.
 fn make_plain(
     bench: &mut Bench,
     client: u32,
@@ -54,7 +54,7 @@ fn make_plain(
     told
 }
 
-/// The same by the answer as a value.
+/// The same, with the answer as a value.
 fn tell_answer(
     bench: &mut Bench,
     client: u32,
@@ -84,7 +84,7 @@ fn tell_answer(
     }
 }
 
-/// Makes the script's call at this place and appends the line of its answer; says whether the answer is a reply.
+/// Makes the script's call with this index and appends the line of its answer. Returns whether the answer is a reply.
 fn make_call_at(
     bench: &mut Bench,
     script: &Script,
@@ -103,7 +103,7 @@ fn make_call_at(
     }
 }
 
-/// Writes the bytes that were kept back, and keeps none.
+/// Writes the kept bytes, and keeps none.
 fn write_out<K: Sink>(writer: &mut K, kept: &mut Vec<u8>) -> Result<(), ReplayFault>
     requires { K.has_failed writer.old ≡ false }
     ensures ok { OnOk result (Appends (K.taken writer.old) (K.taken writer.new) kept.old.items) }
@@ -119,7 +119,7 @@ fn write_out<K: Sink>(writer: &mut K, kept: &mut Vec<u8>) -> Result<(), ReplayFa
     Ok(())
 }
 
-/// Writes the bytes that were kept back once they are many.
+/// Writes the kept bytes if there are at least 65,536.
 fn write_if_full<K: Sink>(writer: &mut K, kept: &mut Vec<u8>) -> Result<(), ReplayFault>
     requires { K.has_failed writer.old ≡ false }
     ensures ok { OnOk result (HandsOn (K.taken writer.old) (K.taken writer.new) kept.old.items kept.new.items []) }
@@ -133,7 +133,8 @@ fn write_if_full<K: Sink>(writer: &mut K, kept: &mut Vec<u8>) -> Result<(), Repl
     write_out(writer, kept)
 }
 
-/// Makes the calls of a script on a bench with an empty log, and writes the lines of their answers by way of `kept`.
+/// Makes the calls of a script on a bench with an empty log, and writes a line for each answer. `kept` has the bytes
+/// that are not yet written.
 fn make_calls<K: Sink>(
     bench: &mut Bench,
     script: &Script,
@@ -162,7 +163,7 @@ fn make_calls<K: Sink>(
     })
 }
 
-/// Makes the calls of a script on a bench with an empty log, and writes the lines of their answers.
+/// Makes the calls of a script on a bench with an empty log, and writes a line for each answer.
 fn run<K: Sink>(
     alloc: Global,
     bench: &mut Bench,
@@ -179,7 +180,7 @@ fn run<K: Sink>(
     make_calls(bench, script, writer, &mut kept)
 }
 
-/// A bench of a trace, whose names of schedules are hashed by a key that is made of this text.
+/// A bench for a trace. The key that hashes its schedules' names is made from this text.
 fn open_bench(alloc: Global, indexed: Indexed, text: &[u8]) -> Result<Bench, OutOfMemory>
     ensures trace { IfOk result (λ bench. bench.trace ≡ indexed) }
     ensures log { IfOk result (λ bench. bench.log ≡ []) }
@@ -192,7 +193,7 @@ fn open_bench(alloc: Global, indexed: Indexed, text: &[u8]) -> Result<Bench, Out
     }
 }
 
-/// Makes the calls of a script, which was read from the text, on a trace.
+/// Makes the calls of a script on a trace. The script was read from this text.
 fn replay_read<K: Sink>(
     alloc: Global,
     indexed: Indexed,
@@ -241,7 +242,7 @@ fn replay_script<K: Sink>(
     }
 }
 
-/// Reads a script, whole, and makes its calls on a trace that was read.
+/// Reads the whole script, and makes its calls on a trace.
 fn replay_on<R: Source, K: Sink>(
     alloc: Global,
     indexed: Indexed,
@@ -268,10 +269,11 @@ fn replay_on<R: Source, K: Sink>(
     }
 }
 
-/// Reads a trace and a script, each whole; then makes the script's calls on the trace and writes the line of
-/// each answer. The trace is input 1, the script input 2.
+/// Reads a whole trace and a whole script. Then makes the script's calls on the trace, and writes a line for each
+/// answer. The trace is input 1, and the script is input 2.
 ///
-/// Before the faults 91 to 94 nothing is written. At 95 and 96 what was written is a beginning of the text.
+/// If the call fails with 91 to 94, it has written nothing. If it fails with 95 or 96, it may have written a
+/// beginning of the text.
 pub fn replay<S: Source, R: Source, K: Sink>(
     alloc: Global,
     trace: &mut S,
@@ -281,12 +283,12 @@ pub fn replay<S: Source, R: Source, K: Sink>(
     requires trace { S.has_failed trace.old ≡ false }
     requires script { R.has_failed script.old ≡ false }
     requires writer { K.has_failed writer.old ≡ false }
-    // There are texts, those that the readers tell where they tell them, of which this comes.
+    // There are texts that give this result. If the readers' types show their bytes, the texts are those bytes.
     ensures replay { (first : List ℕ) × (second : List ℕ)
         × IfSome (S.rest trace.old) (λ told. first ≡ told)
         × IfSome (R.rest script.old) (λ told. second ≡ told)
         × IsReplay (of_two first second) (K.taken writer.old) (K.taken writer.new) result }
-    // A device is at fault exactly where a read failed, and the writer exactly where a write failed.
+    // The fault is `Device` exactly if a read failed, and `Write` exactly if a write failed.
     ensures device { result ≡ Err (Read 1 Device) → S.has_failed trace.new ≡ true }
     ensures read_failed { S.has_failed trace.new ≡ true → result ≡ Err (Read 1 Device) }
     ensures script_device { result ≡ Err (Read 2 Device) → R.has_failed script.new ≡ true }
@@ -316,8 +318,7 @@ fn replay_parts<K: Sink>(alloc: Global, text: &[u8], writer: &mut K) -> Result<T
     }
 }
 
-/// The same of one input, which holds a trace, a line `---` and a script. Without such a line the script is
-/// empty.
+/// The same for one input, which has a trace, a line `---` and a script. Without such a line the script is empty.
 pub fn replay_joint<S: Source, K: Sink>(
     alloc: Global,
     reader: &mut S,
@@ -325,7 +326,7 @@ pub fn replay_joint<S: Source, K: Sink>(
 ) -> Result<Tally, ReplayFault>
     requires reader { S.has_failed reader.old ≡ false }
     requires writer { K.has_failed writer.old ≡ false }
-    // There is a text, the one that the reader tells where it tells it, of which this comes.
+    // There is a text that gives this result. If the reader's type shows its bytes, the text is those bytes.
     ensures replay { (bytes : List ℕ)
         × IfSome (S.rest reader.old) (λ told. bytes ≡ told)
         × IsReplay (of_joint bytes) (K.taken writer.old) (K.taken writer.new) result }

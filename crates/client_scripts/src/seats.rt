@@ -9,7 +9,7 @@ use script_language::Script;
 use std::sync::Wait;
 use workspace_lock::{Seat, SeatRefusal};
 
-/// Appends the line of an answer that was given through a seat.
+/// Appends the line of an answer that came through a seat.
 fn append_answer(
     indexed: &Indexed,
     answer: &Result<Reply, SeatRefusal>,
@@ -24,9 +24,9 @@ fn append_answer(
     }
 }
 
-/// Makes the calls of a script through the seat, whoever the script names as their client, and appends the line of each
-/// answer. Each call waits for its turn. Where memory is refused to a line, it stops behind that call: the lines of all earlier
-/// calls stand in `out`, and this one is untold. A call for which there was no memory has a line of its own, 56, and the others go on.
+/// Makes the calls of a script through the seat, whichever client the script names, and appends the line of each
+/// answer. Each call waits for its turn. If memory runs out for a line, stops after that call: `out` has the lines of
+/// all earlier calls, but not this one. If memory runs out in a call, its line is refusal 56, and the script goes on.
 pub fn run_seat<R: Wait>(
     seat: &mut Seat,
     rt: &R,

@@ -1,4 +1,4 @@
-//! Where bytes go: a writer whose bytes and failures a contract can name.
+//! Writers whose bytes and failures a contract can name.
 ghost use Rattle.std.specs.Prelude.{◌≡◌, ◌≢◌, ℕ, ◌<◌, ◌≤◌, ◌||◌, length, take, is_err, false, IfOk, IfErr, OnOk, OnErr};
 ghost use Rattle.std.specs.Io.KnownBytes.{Appends, Keeps, WriteAppends};
 ghost use Rattle.std.specs.IoError.{error_kind};
@@ -8,8 +8,8 @@ use std::io;
 use std::io::ErrorKind;
 use std::marker::Model;
 
-/// A writer. `taken` is the bytes that it has taken, where its type tells them; `has_failed` is whether a
-/// call has failed.
+/// A writer. `taken` is the bytes that it has taken, if its type shows them. `has_failed` is whether a call has
+/// failed.
 pub trait Sink {
     ghost use Rattle.std.specs.Prelude.{Bool, List, ℕ, Option};
 
@@ -17,7 +17,8 @@ pub trait Sink {
 
     ghost has_failed: { Self → Bool };
 
-    /// Takes at least one byte from the front of `bytes` and says how many. A call that fails takes none.
+    /// Takes at least one byte from the front of `bytes` and returns how many it took. If the call fails, it took
+    /// none.
     fn write(&mut self, bytes: &[u8]) -> Result<usize, Failed>
         requires { 0 < length bytes.now }
         ensures bound { IfOk result (λ n. (0 < n) × (n ≤ length bytes.now)) }
@@ -25,7 +26,8 @@ pub trait Sink {
         ensures failed { has_failed self.new ≡ (has_failed self.old || is_err result) };
 }
 
-/// One write, tried again where a signal interrupted it. An interrupted write took nothing.
+/// Writes once, and tries again if a signal interrupted the write, at most 1,000,000 times. An interrupted write took
+/// nothing.
 fn write_retrying<W: io::Write>(writer: &mut W, bytes: &[u8]) -> io::Result<usize>
     ensures bound { IfOk result (λ n. n ≤ length bytes.now) }
     ensures bytes { WriteAppends (W.contents writer.old) (W.contents writer.new) result bytes.now }
@@ -44,7 +46,7 @@ fn write_retrying<W: io::Write>(writer: &mut W, bytes: &[u8]) -> io::Result<usiz
     Err(io::Error::from(ErrorKind::Other))
 }
 
-/// Makes a `Sink` of one of std's writers. A write that takes nothing is a failure.
+/// Makes a `Sink` from a writer of std. A write that takes nothing counts as a failure.
 #[derive(Drop)]
 pub struct FromWrite<W: io::Write> {
     writer: W,
@@ -60,7 +62,7 @@ impl<W: io::Write> Model for FromWrite<W> {
 }
 
 impl<W: io::Write> FromWrite<W> {
-    /// A sink that has not failed.
+    /// Returns a sink that has not failed.
     pub fn new(writer: W) -> FromWrite<W>
         ensures { result ≡ (W.contents writer, false) }
     {
@@ -70,7 +72,7 @@ impl<W: io::Write> FromWrite<W> {
         }
     }
 
-    /// Hands on what the writer itself keeps back; the bytes that it has taken stay.
+    /// Flushes the writer. The bytes that the sink has taken stay the same.
     pub fn flush(&mut self) -> Result<(), Failed>
         ensures bytes { Keeps self.old.0 self.new.0 }
         ensures failed { self.new.1 ≡ (self.old.1 || is_err result) }
@@ -101,7 +103,7 @@ impl<W: io::Write> Sink for FromWrite<W> {
     }
 }
 
-/// Writes all bytes. Where the sink fails, it has taken the first of them, and not all.
+/// Writes all bytes. If the sink fails, it has taken some of the first bytes, but not all.
 pub fn write_all<K: Sink>(sink: &mut K, bytes: &[u8]) -> Result<(), Failed>
     requires { K.has_failed sink.old ≡ false }
     ensures ok { OnOk result (Appends (K.taken sink.old) (K.taken sink.new) bytes.now) }

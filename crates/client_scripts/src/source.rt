@@ -1,4 +1,4 @@
-//! Where bytes come from: a reader whose bytes and failures a contract can name.
+//! Readers whose bytes and failures a contract can name.
 ghost use Rattle.std.specs.Prelude.{◌≡◌, ◌≢◌, ◌<◌, ◌≤◌, ◌||◌, length, is_err, false, true, IfOk, IfErr, IfSome, Ok, Err, vec_len};
 ghost use Rattle.std.specs.Io.KnownBytes.{ReadConsumes};
 ghost use Rattle.std.specs.IoError.{error_kind};
@@ -9,12 +9,12 @@ use std::io;
 use std::io::ErrorKind;
 use std::marker::Model;
 
-/// A read or a write that the device refused.
+/// A read or a write failed.
 #[derive(Clone, Copy, PartialEq, Eq, Debug)]
 pub struct Failed;
 
-/// A reader. `rest` is the bytes that it will still give, where its type tells them; `has_failed` is
-/// whether a call has failed.
+/// A reader. `rest` is the bytes that it will still give, if its type shows them. `has_failed` is whether a call has
+/// failed.
 pub trait Source {
     ghost use Rattle.std.specs.Prelude.{Bool, List, ℕ, Option};
 
@@ -22,7 +22,7 @@ pub trait Source {
 
     ghost has_failed: { Self → Bool };
 
-    /// Reads at least one byte into the front of `buf` and says how many, or 0 at the end.
+    /// Reads at least one byte into the front of `buf` and returns how many it read, or 0 at the end.
     fn read(&mut self, buf: &mut [u8]) -> Result<usize, Failed>
         requires { 0 < length buf.old }
         ensures bound { IfOk result (λ n. n ≤ length buf.new) }
@@ -30,10 +30,11 @@ pub trait Source {
         ensures failed { has_failed self.new ≡ (has_failed self.old || is_err result) };
 }
 
-/// How often in a row a read or a write may be interrupted before that counts as a failure.
+/// How often in a row a signal may interrupt a read or a write before it counts as a failure.
 pub(crate) const MAX_INTERRUPTS: u32 = 1_000_000;
 
-/// One read, tried again where a signal interrupted it. An interrupted read took nothing.
+/// Reads once, and tries again if a signal interrupted the read, at most 1,000,000 times. An interrupted read took
+/// nothing.
 fn read_retrying<R: io::Read>(reader: &mut R, buf: &mut [u8]) -> io::Result<usize>
     ensures bound { IfOk result (λ n. n ≤ length buf.new) }
     ensures bytes { ReadConsumes (R.remaining reader.old) (R.remaining reader.new) result buf.new }
@@ -52,7 +53,7 @@ fn read_retrying<R: io::Read>(reader: &mut R, buf: &mut [u8]) -> io::Result<usiz
     Err(io::Error::from(ErrorKind::Other))
 }
 
-/// Makes a `Source` of one of std's readers.
+/// Makes a `Source` from a reader of std.
 #[derive(Drop)]
 pub struct FromRead<R: io::Read> {
     reader: R,
@@ -68,7 +69,7 @@ impl<R: io::Read> Model for FromRead<R> {
 }
 
 impl<R: io::Read> FromRead<R> {
-    /// A source that has not failed.
+    /// Returns a source that has not failed.
     pub fn new(reader: R) -> FromRead<R>
         ensures { result ≡ (R.remaining reader, false) }
     {
@@ -95,10 +96,10 @@ impl<R: io::Read> Source for FromRead<R> {
     }
 }
 
-/// How many bytes are read at a time.
+/// How many bytes one read asks for.
 const PIECE: usize = 65_536;
 
-/// Reads all that the source has by way of `piece`.
+/// Reads all bytes of the source, using `piece` as the buffer.
 fn read_pieces<S: Source>(
     alloc: Global,
     source: &mut S,
@@ -125,8 +126,7 @@ fn read_pieces<S: Source>(
     }
 }
 
-/// Reads all that the source has. `TooLong` where that is more than 268,435,456 bytes, which is known
-/// once one byte more was read.
+/// Reads all bytes of the source. Fails with `TooLong` as soon as it has read more than 268,435,456 bytes.
 pub fn read_all<S: Source>(alloc: Global, source: &mut S) -> Result<Vec<u8>, ReadFault>
     requires { S.has_failed source.old ≡ false }
     ensures bytes { IfOk result (λ v. IfSome (S.rest source.old) (λ xs. v.items ≡ xs)) }
