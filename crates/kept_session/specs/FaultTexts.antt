@@ -1,4 +1,4 @@
--- What is printed of a fault of a session, without a line end.
+-- The text of a session's fault, without a line feed.
 use Rattle.std.specs.Prelude.{ℕ, List, ◌++◌, codes, decimal}
 use Rattle.client_scripts.specs.FaultTexts.{fault_words}
 use Rattle.kept_session.specs.declared.fault.SessionFault.{SessionFault}

@@ -1,4 +1,4 @@
--- What a fault of a session says of the log's file. All notions here are this project's own. `T` is the trace.
+-- What a fault of a session says about the log's file. All notions here are this project's own. `T` is the trace.
 use Rattle.std.specs.Prelude.{◌≡◌, ◌≢◌, ◌⊎◌, ℕ, ◌+◌, List, [], ◌∷◌, ◌++◌, Option, None, length, take, ⊤}
 use Rattle.rapid_text.specs.Recording.{Recording}
 use Rattle.inverse_log.specs.declared.entry.Entry.{Entry}
@@ -12,8 +12,8 @@ use Rattle.kept_session.specs.Sessions.{log_behind, IsLogged, AreLogged}
 use Rattle.kept_session.specs.declared.fault.SessionFault.{SessionFault}
 use Rattle.kept_session.specs.declared.fault.SessionFault.TheVariants.{Replay, LogLine, OtherTrace}
 
--- Of these lines, which are called from the log L on, the first that adds no entry has this number in the file. The head is line 1,
--- and each entry of L has a line.
+-- The calls of these lines are made from the log L on. The first line that adds no entry has this number in the file.
+-- The head is line 1, and each entry of L has a line.
 pub record IsFirstRefused (T : Recording) (L : List Entry) (lines : List (List ℕ)) (number : ℕ) : Type 0 where
   pub before : List (List ℕ)
   pub line : List ℕ
@@ -23,47 +23,49 @@ pub record IsFirstRefused (T : Recording) (L : List Entry) (lines : List (List �
   pub refused : ¬ IsLogged T (log_behind T L before) line
   pub place : number ≡ length L + length before + 2
 
--- a fault of the line behind those of L: want of memory, or its number where it adds no entry
+-- the fault of the line after those of L: memory ran out, or the line adds no entry, and the fault has its number
 abbrev pub IsLineFault : Recording → List Entry → List ℕ → SessionFault → Type 0
 IsLineFault T L line fault = (fault ≡ Replay NoMemory) ⊎ ((fault ≡ LogLine (length L + 2)) × ¬ IsLogged T L line)
 
--- a fault of lines that are called from the log L on
+-- the fault of lines whose calls are made from the log L on
 abbrev pub IsLinesFault : Recording → List Entry → List (List ℕ) → SessionFault → Type 0
 IsLinesFault T L lines fault = (fault ≡ Replay NoMemory) ⊎ ((number : ℕ) × (fault ≡ LogLine number) × IsFirstRefused T L lines number)
 
--- a fault of the log's file, which is input 2: it was not read or not written; or want of memory
+-- the fault of the log's file, which is input 2: it could not be read or written, or memory ran out
 abbrev pub IsFileFault : ReplayFault → Type 0
 IsFileFault (Read input why) = (input ≡ 2) × (why ≡ DeviceFailed)
 IsFileFault Write = ⊤
 IsFileFault NoMemory = ⊤
 IsFileFault fault = ⊥
 
--- A fault of a turn. `known` are the lines from before it, `seen` those that the file has now; `before` is what the lock had found by then, `now`
--- what it has found. A line is told which is the first that adds no entry; or, if the file was shorter than it was, that of the last known entry.
+-- The fault of a turn. `known` are the lines before the turn, and `seen` are the lines that the file has now.
+-- `before` and `now` are what the lock has found, before the turn and now. `LogLine` names the first line that adds
+-- no entry, or the line of the last known entry if the file got shorter.
 abbrev pub IsTurnFault : Recording → List (List ℕ) → List (List ℕ) → List (Option (List ℕ)) → List (Option (List ℕ)) → SessionFault → Type 0
 IsTurnFault T known seen before now (Replay fault) = IsFileFault fault
 IsTurnFault T known seen before now (LogLine number) = IsFirstRefused T [] seen number ⊎ ((number ≡ length known + 1) × (now ≡ None ∷ before))
 IsTurnFault T known seen before now OtherTrace = ⊥
 
--- A fault of a file before a line of it is read: another head is told if it does not begin with this one.
+-- The fault of a file before its lines are read. `OtherTrace` means that the file does not begin with this head.
 abbrev pub IsHeadFault : List ℕ → List ℕ → SessionFault → Type 0
 IsHeadFault head seen (Replay fault) = IsFileFault fault
 IsHeadFault head seen (LogLine number) = ⊥
 IsHeadFault head seen OtherTrace = take (length head) seen ≢ head
 
--- A fault of opening: that, or the first line that adds no entry.
+-- The fault of opening: the same, or the first line that adds no entry.
 abbrev pub IsOpenFault : Recording → List ℕ → List ℕ → SessionFault → Type 0
 IsOpenFault T head seen (Replay fault) = IsFileFault fault
 IsOpenFault T head seen (LogLine number) = IsFirstRefused T [] (lines_behind (length head) seen) number
 IsOpenFault T head seen OtherTrace = take (length head) seen ≢ head
 
--- A fault of making a file: it is not empty, or was not read or not written, or want of memory.
+-- The fault of making a file: it is not empty, or could not be read or written, or memory ran out.
 abbrev pub IsMakeFault : SessionFault → Type 0
 IsMakeFault (Replay fault) = IsFileFault fault
 IsMakeFault (LogLine number) = ⊥
 IsMakeFault OtherTrace = ⊤
 
--- A fault of printing a log: its file, input 2, was not read, or does not begin as one; the text was not written; or want of memory.
+-- The fault of printing a log. Its file, input 2, could not be read, or does not begin with a head. Or the text could
+-- not be written, or memory ran out.
 abbrev pub IsPrintFault : SessionFault → Type 0
 IsPrintFault (Replay (Read input why)) = input ≡ 2
 IsPrintFault (Replay Write) = ⊤
@@ -72,7 +74,8 @@ IsPrintFault (Replay fault) = ⊥
 IsPrintFault (LogLine number) = number ≡ 1
 IsPrintFault OtherTrace = ⊥
 
--- the fault of a block that was not added; a write that failed is told as that, whatever it failed for
+-- the fault of a block that was not added: out of memory if there was no memory for the block, else a failed write,
+-- for whatever reason
 abbrev pub IsWriteFault : AppendError → SessionFault → Type 0
 IsWriteFault NoRoom fault = fault ≡ Replay NoMemory
 IsWriteFault Full fault = fault ≡ Replay Write

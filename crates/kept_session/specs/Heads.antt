@@ -11,14 +11,14 @@ use Rattle.hex.specs.Hex.{encode_lower}
 abbrev pub head_text : Recording → List ℕ
 head_text trace = codes "racebench log 1 " ++ encode_lower (sha256 (canonical_text trace)) ++ codes "\n"
 
--- The bytes begin as the file of a log: with the name of the format, 64 bytes with no line feed among them, and a line feed. Behind that stands
--- this text.
+-- The bytes begin like the file of a log: with the name of the format, 64 bytes without a line feed, and a line feed.
+-- `text` is what comes after that.
 pub record IsHeaded (bytes text : List ℕ) : Type 0 where
   pub digest : List ℕ
   pub size : length digest ≡ 64
   pub line : IsLine digest
   pub split : bytes ≡ codes "racebench log 1 " ++ digest ++ codes "\n" ++ text
 
--- the lines that count in what stands behind the head, as a script
+-- the lines that count in the text after the head, as a script
 abbrev pub script_in : List ℕ → List ℕ
 script_in text = flat_map ended (kept_lines text)

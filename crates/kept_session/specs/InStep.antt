@@ -1,4 +1,5 @@
--- A bench and a log are in step in one way at most, so a session can keep that they are. No public clause cites this module.
+-- A bench and a log are in step in at most one way, so a session can keep this fact. No public clause cites this
+-- module.
 use Rattle.std.specs.Prelude.{◌≡◌, ◌≤◌, ◌+◌, ℕ, List, [], ◌∷◌, All, length, take}
 use Rattle.std.specs.Coded.{Coded-set, coded_list, Unit-prop, ×_prop}
 use Rattle.std.proofs.Props.{props}

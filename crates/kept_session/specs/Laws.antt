@@ -1,4 +1,4 @@
--- The lines of a log are a script, and a replay of that leaves the log. `T` is the trace.
+-- The lines of a log are a script, and a replay of the script gives the log. `T` is the trace.
 use Rattle.std.specs.Prelude.{◌≡◌, ℕ, List, [], ◌∷◌, All, flat_map, length, Option, Ok}
 use Rattle.std.specs.Io.KnownBytes.{Appends}
 use Rattle.rapid_text.specs.Recording.{Recording}
@@ -12,17 +12,17 @@ use Rattle.client_scripts.specs.declared.fault.Tally.{Tally}
 use Rattle.kept_log.specs.Lines.{IsLine}
 use Rattle.kept_session.specs.Sessions.{log_of, AreLogged}
 
--- the log that a script's calls leave, made one after another behind this log
+-- the log after a script's calls, made one after another from this log on
 abbrev pub log_left : Recording → List Entry → List Asked → List Entry
 log_left T L [] = L
 log_left T L (asked ∷ more) = log_left T (log_after T L asked.client asked.call) more
 
--- so many calls, each of which is accepted
+-- this many calls, all accepted
 abbrev pub all_accepted : ℕ → Tally
 all_accepted count = record { calls = count; accepted = count; refused = 0 }
 
--- As they are printed, the lines of a log, each of which added an entry, are a script. It has a call for each of them, which is accepted, and
--- these calls leave the log that the lines stand for.
+-- Each of the lines added an entry to the log. The lines, as they are printed, are a script with a call for each
+-- line. Each call is accepted, and the calls give the log that the lines give.
 abbrev pub LinesAreScript : Type 0
 LinesAreScript =
     (T : Recording) (lines : List (List ℕ))
@@ -33,7 +33,8 @@ LinesAreScript =
     × (log_left T [] asked ≡ log_of T lines)
     × (tally_of T asked ≡ all_accepted (length lines))
 
--- So a replay of them on the trace, from two inputs or from a joint one, that comes to its end has made just those calls.
+-- Take a replay of these lines on the trace, from two inputs or from a joint one. If it ends without a fault, it has
+-- made exactly these calls.
 abbrev pub ReplayLeavesLog : Type 0
 ReplayLeavesLog =
     (T : Recording) (lines : List (List ℕ)) (t : Texts) (old new : Option (List ℕ)) (tally : Tally)

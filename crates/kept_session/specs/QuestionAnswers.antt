@@ -1,5 +1,5 @@
--- What a question is answered after a log. All texts are this project's own. `T` is the trace, `L` the log. The first number of an answer is the
--- length of the log.
+-- The answers to questions, for a log. All texts are this project's own. `T` is the trace, and `L` is the log. The
+-- first number of an answer is the length of the log.
 use Rattle.std.specs.Prelude.{◌≡◌, ◌/◌, ℕ, Bool, false, List, [], ◌++◌, drop, find, flat_map, length, option_map, slice_get, take, unwrap_or, Option, Some, None, codes, decimal, nat_lt, if◌then◌else◌}
 use Rattle.std.specs.List.{range_with_len}
 use Rattle.rapid_text.specs.Recording.{Recording}
@@ -20,30 +20,30 @@ use Rattle.script_language.specs.declared.question.Question.TheVariants.{Next, W
 use Rattle.kept_session.specs.QuestionItems.{run_of, thread_items}
 use Rattle.kept_session.specs.QuestionWitnesses.{IsWitnessLine}
 
--- a look at the schedule of a name, or that there is none
+-- a look at the schedule in a row, or the refusal if there is no such row
 abbrev pub looked_at : Recording → Option Row → (List ℕ → List ℕ) → List ℕ
 looked_at T None look = refusal_text T (Move NoSuchSchedule)
 looked_at T (Some r) look = look r.schedule.events
 
--- a look at the schedule that has this name after the log L
+-- a look at the schedule with this name after the log L
 abbrev pub looked_up : Recording → List Entry → List ℕ → (List ℕ → List ℕ) → List ℕ
 looked_up T L x look = looked_at T (row_of (rows_of T L) x) look
 
--- what each thread may do next after P
+-- what each thread does next after P
 abbrev pub next_line : Recording → ℕ → List ℕ → List ℕ
 next_line T n P =
     codes "next " ++ decimal n ++ codes " " ++ decimal (length P) ++ thread_items T.events P (length T.threads) ++ codes "\n"
 
--- at most `count` events of P, from a position on
+-- at most `count` events of P, from position `from` on
 abbrev pub part_line : ℕ → ℕ → ℕ → List ℕ → List ℕ
 part_line n from count P =
     codes "part " ++ decimal n ++ codes " " ++ decimal (length P) ++ codes " " ++ decimal from ++ spaced (take count (drop from P)) ++ codes "\n"
 
--- whose entry is at this place of the log; there is no client 0
+-- the client of the log entry with this number; 0, which is no client, if there is no such entry
 abbrev pub client_at : List Entry → ℕ → ℕ
 client_at L k = unwrap_or (option_map client_of (slice_get L k)) 0
 
--- a schedule's name, its length, the entry of its birth, and whose that is
+-- a schedule's name, its length, the entry that made it, and the client of that entry
 abbrev pub row_item : List Entry → List ℕ × Row → List ℕ
 row_item L (name, r) =
     codes " " ++ name ++ codes ":" ++ decimal (length r.schedule.events) ++ codes ":" ++ decimal (r.birth / 4294967296) ++ codes ":"
@@ -61,7 +61,7 @@ row_items L W n = flat_map (λ at. row_item_at L (slice_get W at)) (range_with_l
 abbrev pub rows_line : List Entry → Rows → List ℕ
 rows_line L W = codes "rows " ++ decimal (length L) ++ row_items L W (length W) ++ codes "\n"
 
--- whether the entry of number n undoes entry k
+-- whether entry n is an undo of entry k
 abbrev pub undoes_in : ℕ → Option Entry → Bool
 undoes_in k None = false
 undoes_in k (Some e) = undoes k e
@@ -69,7 +69,7 @@ undoes_in k (Some e) = undoes k e
 abbrev pub undoes_at : List Entry → ℕ → ℕ → Bool
 undoes_at L k n = undoes_in k (slice_get L n)
 
--- the undo that took entry k back, if one did
+-- the number of the first undo that took entry k back, if there is one
 abbrev pub undo_of : List Entry → ℕ → Option ℕ
 undo_of L k = find (undoes_at L k) (range_with_len 0 (length L))
 
@@ -82,7 +82,7 @@ abbrev pub entry_text : Recording → List Entry → ℕ → Option Entry → Li
 entry_text T L k None = refusal_text T NoSuchEntry
 entry_text T L k (Some e) = codes "entry " ++ decimal (length L) ++ codes " " ++ decimal k ++ state_words (undo_of L k) ++ entry_line k e
 
--- the same of an entry that is there
+-- the same for an entry that the log has
 abbrev pub there_text : List Entry → ℕ → List ℕ
 there_text L k = codes "entry " ++ decimal (length L) ++ codes " " ++ decimal k ++ state_words (undo_of L k) ++ line_at L k
 
@@ -90,7 +90,7 @@ there_text L k = codes "entry " ++ decimal (length L) ++ codes " " ++ decimal k 
 abbrev pub run_words : ℕ → ℕ × List ℕ → List ℕ
 run_words n run = codes "run " ++ decimal n ++ codes " " ++ decimal run.0 ++ run.1 ++ codes "\n"
 
--- the same where the thread's next event is this one; the event itself may have come already, and then it is not next
+-- the same, given the thread's next event; an event before that is in P already, so the answer is that it is not next
 abbrev pub run_next : Recording → ℕ → List ℕ → ℕ → ℕ → Option ℕ → List ℕ
 run_next T n P t e None = refusal_text T (Move (DisabledBy NotNext))
 run_next T n P t e (Some next) =
@@ -100,7 +100,8 @@ abbrev pub run_line : Recording → ℕ → ℕ → Option Event → List ℕ �
 run_line T n e None P = refusal_text T (Move (DisabledBy NoSuchEvent))
 run_line T n e (Some v) P = run_next T n P v.thread e (next_of T.events P v.thread)
 
--- What a question is answered after the log L. Each answer but that of `witness` is determined.
+-- The answer to a question after the log L. The definitions allow only one answer to each question, except for
+-- `witness`.
 abbrev pub IsAnswer : Recording → List Entry → Question → List ℕ → Type 0
 IsAnswer T L (Next x) text = text ≡ looked_at T (row_of (rows_of T L) x) (next_line T (length L))
 IsAnswer T L (Witness a b) text = IsWitnessLine T a b text

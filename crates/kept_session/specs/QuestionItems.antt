@@ -1,4 +1,4 @@
--- What an answer says of an event that a thread does next. All texts are this project's own.
+-- What an answer says about a thread's next event. All texts are this project's own.
 use Rattle.std.specs.Prelude.{ℕ, zero, suc, ◌+◌, nat_lt, if◌then◌else◌, List, [], ◌∷◌, ◌++◌, flat_map, Option, Some, None, codes, decimal}
 use Rattle.std.specs.List.{range_with_len}
 use Rattle.rapid_text.specs.declared.event.Event.{Event}
@@ -7,7 +7,7 @@ use Rattle.schedule.specs.declared.refusal.Disabled.TheVariants.{NoSuchEvent, No
 use Rattle.schedule.specs.Refusals.{next_of, refusal_of}
 use Rattle.report.specs.Causes.{event_words}
 
--- why an event may not come next: the cause's number and what it names, threads and events by their numbers
+-- why an event is not enabled: the number of the cause, and the numbers of the threads and events that it names
 abbrev pub cause_words : Disabled → List ℕ
 cause_words NoSuchEvent = codes ":21"
 cause_words NotNext = codes ":22"
@@ -20,7 +20,7 @@ abbrev pub refused_words : Option Disabled → List ℕ
 refused_words None = []
 refused_words (Some cause) = cause_words cause
 
--- an event after P: bare if it may come next, else with the cause that `add` is refused with
+-- an event after P: its number alone if it is enabled, else with the cause why `add` refuses it
 abbrev pub item : List Event → List ℕ → ℕ → List ℕ
 item T P e = codes " " ++ decimal e ++ refused_words (refusal_of T P e)
 
@@ -28,15 +28,15 @@ abbrev pub item_of : List Event → List ℕ → Option ℕ → List ℕ
 item_of T P None = []
 item_of T P (Some e) = item T P e
 
--- the item of the first event of the thread that P has not
+-- the item of the thread's first event that is not in P
 abbrev pub thread_item : List Event → List ℕ → ℕ → List ℕ
 thread_item T P t = item_of T P (next_of T P t)
 
--- those of the first n threads
+-- the items of the first n threads
 abbrev pub thread_items : List Event → List ℕ → ℕ → List ℕ
 thread_items T P n = flat_map (thread_item T P) (range_with_len 0 n)
 
--- so many events more
+-- n more events
 abbrev pub added : ℕ → ℕ × List ℕ → ℕ × List ℕ
 added n r = (n + r.0, r.1)
 
@@ -48,8 +48,8 @@ abbrev pub run_from : List Event → List ℕ → ℕ → Option ℕ → (ℕ �
 run_from T P last None more = (0, [])
 run_from T P last (Some e) more = if nat_lt last e then (0, []) else run_by T P e (refusal_of T P e) (more e)
 
--- How many events of thread t, from its next one after P to `last`, can be added one after another, n at most, and the item of the first that
--- can't be.
+-- How many events of thread t, from its next one after P up to `last`, can be added one after another, at most n.
+-- Then the item of the first event that cannot be added.
 abbrev pub run_of : ℕ → List Event → List ℕ → ℕ → ℕ → ℕ × List ℕ
 run_of zero T P t last = (0, [])
 run_of (suc n) T P t last = run_from T P last (next_of T P t) (λ e. run_of n T (P ++ e ∷ []) t last)

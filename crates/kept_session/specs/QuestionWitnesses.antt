@@ -1,4 +1,4 @@
--- The answer that tells a schedule which shows a pair. All texts are this project's own. `r` is a recording.
+-- The answer that gives a schedule which shows a pair. All texts are this project's own. `r` is a recording.
 use Rattle.std.specs.Prelude.{◌≡◌, ◌⊎◌, ℕ, List, ◌++◌, codes, max, min}
 use Rattle.rapid_text.specs.Recording.{Recording}
 use Rattle.event_index.specs.Relations.{IsConflicting}
@@ -9,21 +9,22 @@ use Rattle.explain_report.specs.declared.findings.finding.Finding.{Finding}
 use Rattle.explain_report.specs.declared.findings.finding.Finding.TheVariants.{Race, Forced, Guarded, Undecided}
 use Rattle.report.specs.Pieces.{spaced}
 
--- how a race was found
+-- the words for how a race was found
 abbrev pub how_words : How → List ℕ
 how_words Candidate = codes "witness candidate"
 how_words Beyond = codes "witness beyond"
 how_words Turned = codes "witness turned"
 
--- what is answered of a finding: the events of the schedule, or why there is none
+-- the answer for a finding: the events of the schedule, or the reason why there is none
 abbrev pub found_line : Finding → List ℕ
 found_line (Race how events) = how_words how ++ spaced events ++ codes "\n"
 found_line (Forced chains) = codes "refused 99 not shown: forced\n"
 found_line (Guarded lock) = codes "refused 99 not shown: guarded\n"
 found_line (Undecided events) = codes "refused 99 not shown: open\n"
 
--- The answer on two events: that they do not conflict, or one is none; or what was found of them, the earlier of which is the first. A race is
--- told by a correct reordering that shows the pair, and a pair that is told to be forced or guarded is shown by none.
+-- The answer about two events: that they are not two conflicting events, or what was found for them, the earlier one
+-- first. The answer for a race is a correct reordering that shows the pair. If the answer is forced or guarded, no
+-- correct reordering shows the pair.
 abbrev pub IsWitnessLine : Recording → ℕ → ℕ → List ℕ → Type 0
 IsWitnessLine r one other text =
     ((text ≡ codes "refused 98 no such pair\n") × ¬ IsConflicting r.events (min one other) (max one other))

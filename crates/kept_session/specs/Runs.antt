@@ -1,5 +1,5 @@
--- What a session makes of its input, turn after turn, until the input ends or a fault comes. All notions here are this project's own. `T` is
--- the trace.
+-- What a session does with its input, turn after turn, until the input ends or there is a fault. All notions here are
+-- this project's own. `T` is the trace.
 use Rattle.std.specs.Prelude.{◌≡◌, ◌⊎◌, ℕ, ◌<◌, Bool, true, false, List, [], ◌∷◌, ◌++◌, Option, Some, length, take}
 use Rattle.std.specs.List.{slice_split}
 use Rattle.std.specs.Io.KnownBytes.{Appends, Consumes}
@@ -20,28 +20,28 @@ use Rattle.kept_session.specs.declared.fault.SessionFault.{SessionFault}
 use Rattle.kept_session.specs.declared.fault.SessionFault.TheVariants.{Replay}
 
 module _ {D : Type 0} (disk : Ghosts D) (T : Recording) (client : Option ℕ) where
-  -- A turn of a log: these lines, of which the first has this number, were answered by these texts together. The file's lock was taken once,
-  -- when the file held this; the head stands.
+  -- A turn of a log. These lines have this text as their answers; `number` is the number of the first line. The
+  -- file's lock was taken once, and `file` is what the file had then. The head stays the same.
   pub record IsLogTurn (number : ℕ) (raws : List (List ℕ)) (old new : KeptLog D) (text : List ℕ) : Type 0 where
     pub file : List ℕ
     pub once : disk.found new.device ≡ Some file ∷ disk.found old.device
     pub head : head_of disk new ≡ head_of disk old
     pub turn : IsTurn T client number raws (lines_of disk old) (lines_behind new.start file) (lines_of disk new) (log_of T (lines_of disk new)) [] text
 
-  -- Turns, one after another: from the log `old` on these lines, of which the first has this number, were answered by these texts together,
-  -- each line in one turn, and left the log as it is last.
+  -- Turns, one after another, from the log `old` to the log `new`. These lines have this text as their answers, each
+  -- line in one turn; `number` is the number of the first line.
   pub data AreTurns (number : ℕ) (old : KeptLog D) : List (List ℕ) → List ℕ → KeptLog D → Type 0 where
     no_turn : AreTurns number old [] [] old
     one_more : (raws more : List (List ℕ)) (text answers : List ℕ) (log new : KeptLog D) → AreTurns number old raws text log → IsLogTurn (number_behind number raws) more log new answers
         → AreTurns number old (raws ++ more) (text ++ answers) new
 
-  -- The first of the lines of these bytes were answered in turns, by these texts together; the others are left.
+  -- The first lines of these bytes were answered in turns, with this text as their answers. The other lines are left.
   pub record IsRun (number : ℕ) (old new : KeptLog D) (bytes : List ℕ) (left : List (List ℕ)) (text : List ℕ) : Type 0 where
     pub asked : List (List ℕ)
     pub turns : AreTurns number old asked text new
     pub split : slice_split is_line_feed bytes ≡ asked ++ left
 
-  -- All lines of these bytes were answered, but for an empty last one, which has no answer, and the answers were written.
+  -- All lines of these bytes were answered, and the answers were written. An empty last line needs no answer.
   pub record IsFinished (number : ℕ) (old new : KeptLog D) (bytes : List ℕ) (taken_old taken_new : Option (List ℕ)) : Type 0 where
     pub text : List ℕ
     pub left : List (List ℕ)
@@ -49,7 +49,8 @@ module _ {D : Type 0} (disk : Ghosts D) (T : Recording) (client : Option ℕ) wh
     pub whole : (left ≡ []) ⊎ (left ≡ [] ∷ [])
     pub written : Appends taken_old taken_new text
 
-  -- A fault behind turns that left `log`: their answers, these texts, were written, and nothing else was. A turn that it ended lost no line.
+  -- A fault after turns that left `log`. Their answers, `text`, were written, and nothing else was. If the fault
+  -- ended a turn, that turn lost no line.
   pub record IsUnanswered (log new : KeptLog D) (text : List ℕ) (failed : Bool) (taken_old taken_new : Option (List ℕ)) (fault : SessionFault) : Type 0 where
     pub working : failed ≡ false
     pub written : Appends taken_old taken_new text
@@ -57,8 +58,8 @@ module _ {D : Type 0} (disk : Ghosts D) (T : Recording) (client : Option ℕ) wh
     pub told : IsTurnFault T (lines_of disk log) (lines_of disk new) (disk.found log.device) (disk.found new.device) fault
         ⊎ ((why : ReadCause) × (fault ≡ Replay (Read 3 why)))
 
-  -- A failed write behind turns that left `log`, whose answers are these texts: the first of the lines that are left were answered in one more
-  -- turn, and the writer took all answers but the last bytes of that turn.
+  -- A failed write after turns that left `log` and have the answers `text`. The first of the lines left were answered
+  -- in one more turn. The writer took all answers but the last bytes of that turn.
   pub record IsUnwritten (number : ℕ) (log new : KeptLog D) (text : List ℕ) (left : List (List ℕ)) (failed : Bool) (taken_old taken_new : Option (List ℕ)) (fault : SessionFault) : Type 0 where
     pub more : List (List ℕ)
     pub beyond : List (List ℕ)
@@ -71,8 +72,8 @@ module _ {D : Type 0} (disk : Ghosts D) (T : Recording) (client : Option ℕ) wh
     pub broken : failed ≡ true
     pub told : fault ≡ Replay Write
 
-  -- A fault: the first of the lines of these bytes were answered in turns, and the answers written. Where the input, which is number 3, was not
-  -- read on, one line is left, whose end did not come.
+  -- A fault. The first lines of these bytes were answered in turns, and their answers were written. If input 3 could
+  -- not be read on, only one line is left, and it has no end.
   pub record IsHalted (number : ℕ) (old new : KeptLog D) (bytes : List ℕ) (failed : Bool) (taken_old taken_new : Option (List ℕ)) (fault : SessionFault) : Type 0 where
     pub log : KeptLog D
     pub text : List ℕ
@@ -82,13 +83,13 @@ module _ {D : Type 0} (disk : Ghosts D) (T : Recording) (client : Option ℕ) wh
         ⊎ IsUnwritten (number_behind number run.asked) log new text left failed taken_old taken_new fault
     pub unread : (why : ReadCause) → fault ≡ Replay (Read 3 why) → (line : List ℕ) × (left ≡ line ∷ []) × IsUnreadable bytes why
 
--- What a session has read, it has answered to the end of it.
+-- A session has answered everything that it has read.
 abbrev pub IsWholeRun : {D S K : Type 0} → Ghosts D → Sources S → Sinks K → Benched → Option ℕ → KeptLog D → KeptLog D → S → S → K → K → Type 0
 IsWholeRun disk source sink bench client old new reader_old reader_new writer_old writer_new =
     (bytes : List ℕ) × Consumes (source.rest reader_old) (source.rest reader_new) bytes
     × IsFinished disk bench.trace client 1 old new bytes (sink.taken writer_old) (sink.taken writer_new)
 
--- Of what a session has read, it has answered the first lines, and then this fault came.
+-- A session has answered the first lines of what it has read, and then this fault came.
 abbrev pub IsHaltedRun : {D S K : Type 0} → Ghosts D → Sources S → Sinks K → Benched → Option ℕ → KeptLog D → KeptLog D → S → S → K → K → SessionFault → Type 0
 IsHaltedRun disk source sink bench client old new reader_old reader_new writer_old writer_new fault =
     (bytes : List ℕ) × Consumes (source.rest reader_old) (source.rest reader_new) bytes

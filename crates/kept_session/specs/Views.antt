@@ -1,4 +1,4 @@
--- What the contracts of a session say of its bench, of its log and of the lines that it answers. `T` is the trace.
+-- What the contracts of a session say about its bench, its log and the lines that it answers. `T` is the trace.
 use Rattle.std.specs.Prelude.{◌≡◌, ℕ, List, ◌∷◌, ◌++◌, Option, Some, false}
 use Rattle.std.specs.List.{slice_split}
 use Rattle.rapid_text.specs.Recording.{Recording}
@@ -29,7 +29,7 @@ module _ {D : Type 0} (disk : Ghosts D) where
   abbrev pub IsFree : KeptLog D → Type 0
   IsFree log = disk.is_held log.device ≡ false
 
-  -- no call of the file has failed meanwhile
+  -- no operation on the file has failed meanwhile
   abbrev pub IsUnfailed : KeptLog D → KeptLog D → Type 0
   IsUnfailed old new = disk.faults new.device ≡ disk.faults old.device
 
@@ -37,20 +37,21 @@ module _ {D : Type 0} (disk : Ghosts D) where
   abbrev pub IsKept : KeptLog D → Type 0
   IsKept log = (c : List ℕ) → disk.may_leave log.device c → BeginsWith (head_of disk log) (lines_of disk log) c
 
-  -- meanwhile a crash at any moment left a file whose lines begin with those that were known
+  -- meanwhile a crash at any moment left a file whose lines begin with the known ones
   abbrev pub LeavesKnown : KeptLog D → KeptLog D → Type 0
   LeavesKnown old new = LeavesOnly disk old.device new.device (BeginsWith (head_of disk old) (lines_of disk old))
 
-  -- The lock was taken once, and under it these lines were answered, of which the first has this number. The bench's log is M in the end.
+  -- The lock was taken once, and these lines were answered under it; `first` is the number of the first line. In the
+  -- end the bench's log is M.
   abbrev pub IsAnsweredOnce : Recording → Option ℕ → ℕ → List (List ℕ) → KeptLog D → KeptLog D → List Entry → List ℕ → List ℕ → Type 0
   IsAnsweredOnce T client first raws old new M out_old out_new =
       (file : List ℕ) × (disk.found new.device ≡ Some file ∷ disk.found old.device)
       × IsTurn T client first raws (lines_of disk old) (lines_behind new.start file) (lines_of disk new) M out_old out_new
 
-  -- the log has these lines more than it had
+  -- the log has gained these lines
   abbrev pub HasGained : KeptLog D → KeptLog D → List (List ℕ) → Type 0
   HasGained old new gained = lines_of disk new ≡ lines_of disk old ++ gained
 
-  -- a fault of the turn that led from the one log to the other
+  -- the fault of the turn from the one log to the other
   abbrev pub IsFaultBetween : Recording → KeptLog D → KeptLog D → SessionFault → Type 0
   IsFaultBetween T old new fault = IsTurnFault T (lines_of disk old) (lines_of disk new) (disk.found old.device) (disk.found new.device) fault

@@ -1,4 +1,4 @@
-//! Answers lines: makes their calls, and gathers the texts of the answers and the lines that the log gains.
+//! Answers lines: makes their calls, and collects the texts of the answers and the lines that the log gains.
 ghost use Rattle.std.specs.Prelude.{◌≡◌, ◌≢◌, ℕ, ◌≤◌, ◌++◌, ◌∷◌, [], List, IsTrue, OnOk, IfOk, IfSome, Ok, Some};
 ghost use Rattle.inverse_log.specs.declared.call.Call.TheVariants.{Undo, UndoAt};
 ghost use Rattle.inverse_log.specs.declared.reply.Reply.TheVariants.{Undone};
@@ -21,7 +21,7 @@ use report::{Piece, append_pieces};
 use script_language::{Lines, Question, ScriptCause, read_line, read_question};
 use std::alloc::Global;
 
-/// The line of an undo that names its entry.
+/// The line of an undo with the number of its entry.
 fn undo_line(alloc: Global, client: u32, entry: u64) -> Result<Vec<u8>, OutOfMemory>
     ensures { IfOk result (λ line. IsLine line.items) }
 {
@@ -37,7 +37,7 @@ fn undo_line(alloc: Global, client: u32, entry: u64) -> Result<Vec<u8>, OutOfMem
     Ok(line)
 }
 
-/// Whether the call is the undo of this entry.
+/// Whether the call is an undo of this entry by its number.
 fn is_undo(call: &Call, entry: u64) -> bool
     ensures { IsTrue result → call.now ≡ UndoAt entry }
 {
@@ -47,7 +47,7 @@ fn is_undo(call: &Call, entry: u64) -> bool
     }
 }
 
-/// Whether the line reads as this client's undo of this entry.
+/// Whether the line reads as an undo of this entry by this client.
 fn reads_as_undo(alloc: Global, line: &[u8], client: u32, entry: u64) -> Result<bool, OutOfMemory>
     ensures { IfOk result (λ yes. IsTrue yes → script_line_reading line.now ≡ Ok (Some (client, UndoAt entry))) }
 {
@@ -72,7 +72,8 @@ fn undone_entry(call: &Call, reply: &Reply) -> Option<u64>
     }
 }
 
-/// Adds the line of a call that the log gained: of an undo the line that names its entry, so that a reader sees it.
+/// Adds the line of a call that the log gained. For an undo it adds the line with the entry's number, so that a
+/// reader sees which entry it took back.
 fn keep_line(
     alloc: Global,
     client: u32,
@@ -98,7 +99,7 @@ fn keep_line(
     Ok(())
 }
 
-/// Makes a call, appends the line of its answer, and adds the call's line where the log gained an entry.
+/// Makes a call and appends the line of its answer. If the log gained an entry, adds the call's line to the block.
 fn make_call(
     bench: &mut Bench,
     client: u32,
@@ -131,7 +132,7 @@ fn make_call(
     }
 }
 
-/// Appends what is wrong with the line of this number.
+/// Appends what is wrong with the line with this number.
 fn append_fault(out: &mut Vec<u8>, number: u64, why: ScriptCause) -> Result<(), OutOfMemory>
     requires { why ≢ NoMemory }
     ensures { OnOk result (out.new.items ≡ out.old.items ++ line_fault number why) }
@@ -151,7 +152,7 @@ fn append_fault(out: &mut Vec<u8>, number: u64, why: ScriptCause) -> Result<(), 
     }
 }
 
-/// Answers the line of this number, which is no question.
+/// Answers the line with this number, which is not a question.
 fn answer_reading(
     bench: &mut Bench,
     client: Option<u32>,
@@ -181,7 +182,7 @@ fn answer_reading(
     }
 }
 
-/// Appends that the question of this number is faulty.
+/// Appends that the question with this number has a fault.
 fn append_faulty(out: &mut Vec<u8>, number: u64) -> Result<(), OutOfMemory>
     ensures { OnOk result (out.new.items ≡ out.old.items ++ question_fault number) }
 {
@@ -195,7 +196,7 @@ fn append_faulty(out: &mut Vec<u8>, number: u64) -> Result<(), OutOfMemory>
     )
 }
 
-/// Answers the question of this number, or says that it is faulty.
+/// Answers the question with this number, or appends that it has a fault.
 fn answer_asked(
     bench: &Bench,
     number: u64,
@@ -210,7 +211,7 @@ fn answer_asked(
     }
 }
 
-/// Answers the line of this number. A question adds nothing to the log.
+/// Answers the line with this number. A question adds nothing to the log.
 fn answer_line(
     bench: &mut Bench,
     client: Option<u32>,
@@ -230,7 +231,8 @@ fn answer_line(
     }
 }
 
-/// Answers the lines of a piece, of which the first has this number. It tells the number of the line behind them.
+/// Answers the lines of a piece. `first` is the number of its first line. Returns the number of the line after the
+/// piece.
 pub(crate) fn answer_lines(
     bench: &mut Bench,
     client: Option<u32>,

@@ -1,4 +1,4 @@
-//! The form in which the log keeps a line of its input.
+//! The form in which the log keeps a line of the input.
 ghost use Rattle.std.specs.Prelude.{◌≡◌, IfOk};
 ghost use Rattle.kept_log.specs.Lines.{IsLine};
 ghost use Rattle.kept_session.specs.Lines.{behind_client, line_for};
@@ -7,7 +7,7 @@ use rapid_text::{OutOfMemory, trim};
 use report::{Piece, append_pieces};
 use std::alloc::Global;
 
-/// These words behind the number of a client.
+/// The client's number, a blank, and these words; empty if there are no words.
 fn behind_client(alloc: Global, client: u32, words: &[u8]) -> Result<Vec<u8>, OutOfMemory>
     ensures form { IfOk result (λ line. line.items ≡ behind_client client words.now) }
     ensures line { IsLine words.now → IfOk result (λ line. IsLine line.items) }
@@ -27,7 +27,7 @@ fn behind_client(alloc: Global, client: u32, words: &[u8]) -> Result<Vec<u8>, Ou
     Ok(line)
 }
 
-/// A line without the blanks at its ends, behind the number of its client where that does not stand in it. An empty line has none.
+/// A line without blanks at its ends. If `client` is given, its number comes first. An empty line stays empty.
 pub(crate) fn line_for(
     alloc: Global,
     client: Option<u32>,

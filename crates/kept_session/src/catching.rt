@@ -1,4 +1,4 @@
-//! Makes the calls of lines that stand in the log's file.
+//! Makes the calls of the lines in the log's file.
 ghost use Rattle.std.specs.Prelude.{◌≡◌, ◌≢◌, ◌⊎◌, ◌+◌, ◌≤◌, length, OnOk, IfErr};
 ghost use Rattle.inverse_log.specs.Answer.{log_after};
 ghost use Rattle.client_scripts.specs.declared.fault.ReplayFault.TheVariants.{OutOfMemory as NoMemory};
@@ -15,7 +15,7 @@ use kept_log::first_line;
 use script_language::{ScriptCause, read_line};
 use std::alloc::Global;
 
-/// Makes the call of this line of the file, which has to add an entry to the log.
+/// Makes the call of a line of the file. The call must add an entry to the log.
 fn make_logged(bench: &mut Bench, client: u32, call: &Call, line: u64) -> Result<(), SessionFault>
     requires low { 1 ≤ client }
     requires high { client ≤ 32 }
@@ -37,14 +37,14 @@ fn make_logged(bench: &mut Bench, client: u32, call: &Call, line: u64) -> Result
     Ok(())
 }
 
-/// The number of the line behind those of the log's entries. Each entry has one, and before the first stands the head.
+/// The number of the line after the lines of the log's entries. Line 1 is the head, and each entry has a line.
 pub(crate) fn line_behind(bench: &Bench) -> u64
     ensures { result ≡ length bench.now.log + 2 }
 {
     bench.log_len() + 2
 }
 
-/// Makes the call of a line that stands in the file. It has to add an entry to the log.
+/// Reads a line of the file and makes its call. The call must add an entry to the log.
 fn make_kept(alloc: Global, bench: &mut Bench, line: &[u8]) -> Result<(), SessionFault>
     ensures trace { bench.new.trace ≡ bench.old.trace }
     ensures log { OnOk result (bench.new.log ≡ log_by bench.old.trace bench.old.log (script_line_reading line.now)) }

@@ -1,4 +1,4 @@
-//! Why a session ends before its input does, and what is printed of that.
+//! The faults that end a session before its input ends, and their texts.
 ghost use Rattle.std.specs.Prelude.{◌≡◌, ◌≢◌, ◌++◌, OnOk, OnErr};
 ghost use Rattle.client_scripts.specs.declared.fault.ReadCause.TheVariants.{Device as DeviceFailed};
 ghost use Rattle.client_scripts.specs.declared.fault.ReplayFault.TheVariants.{Read, Write, OutOfMemory as NoMemory};
@@ -12,28 +12,30 @@ use rapid_text::OutOfMemory;
 use report::{Piece, append_pieces};
 use std::alloc::AllocError;
 
-/// The numbers of the inputs in a fault of reading: that of the trace is 1.
+/// The number of the log's file in a read fault. The trace is input 1.
 pub(crate) const LOG_INPUT: u32 = 2;
 
-/// That of the lines that are answered.
+/// The number of the input lines in a read fault.
 pub(crate) const LINES_INPUT: u32 = 3;
 
-/// Why a session ends.
+/// The fault that ends a session.
 #[derive(Clone, Copy, PartialEq, Eq, Debug)]
 pub enum SessionFault {
-    /// 91 to 96: a fault of the trace, of reading or of writing, or want of memory. Input 1 is the trace, 2 the log's file, 3 the lines.
+    /// 91 to 96: the trace is refused, an input could not be read, a write failed, or memory ran out. Input 1 is the
+    /// trace, 2 the log's file, and 3 the input lines.
     Replay(ReplayFault),
-    /// 101: a line of the log's file is no call that is accepted there and logged, or is not there any more.
+    /// 101: a line of the log's file is not a call that is accepted and logged there, or the line is missing.
     LogLine {
-        /// The line, counted from 1. The head is the first.
+        /// The number of the line, counted from 1. Line 1 is the head.
         line: u64,
     },
-    /// 102: the file has another head. It is left as it was.
+    /// 102: the file has another head. The session left it as it was.
     OtherTrace,
 }
 
 impl SessionFault {
-    /// The log's file was not read. One that is shorter than it was lacks its last known line, which has this number, or what closes it.
+    /// The fault if the log's file could not be read. If the file got shorter, its last known line is missing, or the
+    /// byte that closes it. That line has the number `last`.
     pub(crate) fn unread(why: DeviceError, last: u64) -> SessionFault
         ensures memory { why ≡ Memory → result ≡ Replay NoMemory }
         ensures failed { why ≡ Failed → result ≡ Replay (Read 2 DeviceFailed) }
@@ -49,7 +51,7 @@ impl SessionFault {
         }
     }
 
-    /// The log's file was not written, or not put on the disk.
+    /// The fault if the log's file could not be written, or not synced to the disk.
     pub(crate) fn unwritten(why: DeviceError) -> SessionFault
         ensures memory { why ≡ Memory → result ≡ Replay NoMemory }
         ensures others { why ≢ Memory → result ≡ Replay Write }
@@ -110,7 +112,7 @@ impl From<AppendError> for SessionFault {
     }
 }
 
-/// Appends the text of a fault, without a line end. Where memory is refused `out` stays as it was.
+/// Appends the text of a fault, without a line feed. If memory runs out, `out` stays as it was.
 pub fn session_fault_text(fault: &SessionFault, out: &mut Vec<u8>) -> Result<(), OutOfMemory>
     ensures ok { OnOk result (out.new.items ≡ out.old.items ++ session_fault_words fault.now) }
     ensures err { OnErr result (out.new.items ≡ out.old.items) }

@@ -15,7 +15,8 @@ const FORMAT: &[u8] = b"racebench log 1 ";
 /// How many hexadecimal digits a digest has.
 const DIGITS: usize = 64;
 
-/// The head of the file of a log on this trace: a line of the format's name and the SHA-256 digest of the trace's canonical text.
+/// Returns the head of the file of a log on this trace. It is a line with the format's name and the SHA-256 digest of
+/// the trace's canonical text.
 pub fn head_of(alloc: Global, indexed: &Indexed) -> Result<Vec<u8>, OutOfMemory>
     ensures { IfOk result (λ head. head.items ≡ head_text indexed.now) }
 {
@@ -33,7 +34,7 @@ pub fn head_of(alloc: Global, indexed: &Indexed) -> Result<Vec<u8>, OutOfMemory>
     Ok(head)
 }
 
-/// What stands behind the head of a log's file, whatever its trace is.
+/// The text after the head of a log's file, whatever its trace is. Returns None if the file has no head.
 pub(crate) fn behind_head(bytes: &[u8]) -> Option<&[u8]>
     ensures some { IfSome result (λ text. IsHeaded bytes.now text.now) }
     ensures none { IfNone result ((text : List ℕ) → ¬ IsHeaded bytes.now text) }

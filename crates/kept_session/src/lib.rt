@@ -1,4 +1,5 @@
-//! A session: scripts' lines that are answered one by one, on a bench whose log is kept in a file that several processes share.
+//! A session answers the lines of a script one by one. Its bench has a log in a file that several processes can
+//! share.
 #![tactic(auto)]
 
 mod answering;

@@ -1,4 +1,4 @@
-//! Opens the file of a log, or makes it, and makes the calls of its lines.
+//! Opens the file of a log or makes it, and makes the calls of its lines.
 ghost use Rattle.std.specs.Prelude.{◌≡◌, ◌≢◌, ◌⊎◌, ◌≤◌, ◌<◌, ◌^◌, ◌∷◌, [], Some, true, length, take, IfOk, IfErr, IsErrOf, OnOk};
 ghost use Rattle.kept_log.specs.Device.{Only};
 ghost use Rattle.kept_log.specs.Moments.{LeavesOnly};
@@ -21,7 +21,7 @@ use rapid_text::OutOfMemory;
 use std::alloc::Global;
 use std::sync::Arc;
 
-/// Waits for the lock of a file that is not known yet, and reads all of it.
+/// Waits for the lock of a file that is not known yet, and reads the whole file.
 fn take_first<D: Device>(alloc: Global, device: &mut D) -> Result<Vec<u8>, SessionFault>
     ensures held { OnOk result (D.is_held device.new ≡ true) }
     ensures bytes { IfOk result (λ bytes. D.seen device.new ≡ bytes.items) }
@@ -38,17 +38,17 @@ fn take_first<D: Device>(alloc: Global, device: &mut D) -> Result<Vec<u8>, Sessi
     }
 }
 
-/// Makes the file of a log with this head and no entry, of one that is empty. Its lock stays held.
+/// Makes the file of a log with this head and no entry. The file must be empty. Its lock stays held.
 pub fn make_log<D: Device>(alloc: Global, device: &mut D, head: &[u8]) -> Result<(), SessionFault>
     ensures made { OnOk result (D.seen device.new ≡ at_rest head.now []) }
     ensures durable { OnOk result (Only (D.seen device.new) (D.may_leave device.new)) }
 
-    // A file that has anything in it is left as it is.
+    // A file that is not empty is left as it is.
     ensures sound { OnOk result (D.faults device.new ≡ D.faults device.old) }
     ensures empty { OnOk result (D.found device.new ≡ Some [] ∷ D.found device.old) }
     ensures refused { IsErrOf result OtherTrace → (D.seen device.new ≢ []) × (D.found device.new ≡ Some (D.seen device.new) ∷ D.found device.old) }
 
-    // A crash at any moment leaves what it might have left when the lock was taken, or a file with no line.
+    // A crash at any moment leaves what a crash might have left when the lock was taken, or a file without lines.
     ensures any_moment { IsUntaken D.Device device.old device.new
         ⊎ IsTaken D.Device (HasNoLines head.now) device.old device.new }
     ensures fault { IfErr result IsMakeFault }
@@ -63,7 +63,7 @@ pub fn make_log<D: Device>(alloc: Global, device: &mut D, head: &[u8]) -> Result
     }
 }
 
-/// The bench of a trace.
+/// The bench of a trace, with an empty log.
 pub(crate) fn new_bench(alloc: Global, indexed: Indexed) -> Result<Bench, OutOfMemory>
     ensures trace { IfOk result (λ bench. bench.trace ≡ indexed) }
     ensures log { IfOk result (λ bench. bench.log ≡ []) }
@@ -75,7 +75,7 @@ pub(crate) fn new_bench(alloc: Global, indexed: Indexed) -> Result<Bench, OutOfM
     }
 }
 
-/// Opens the file of a log. With its bytes, in which the lines that count stand behind the head.
+/// Opens the file of a log. Also returns the file's bytes: the head, and then the lines that count.
 pub(crate) fn open_log<D: Device + Drop>(
     alloc: Global,
     mut device: D,
@@ -111,7 +111,7 @@ pub(crate) fn open_log<D: Device + Drop>(
     }
 }
 
-/// Makes the calls of the lines that stand in a text, which are those of a log, on a bench that has made none, and lets the log's lock go.
+/// Makes the calls of a log's lines on a bench with an empty log, and releases the log's lock.
 pub(crate) fn begin<D: Device + Drop>(
     alloc: Global,
     mut bench: Bench,
@@ -144,7 +144,7 @@ pub(crate) fn begin<D: Device + Drop>(
     }
 }
 
-/// Lets the log's lock go; its lines stand for the log of the bench.
+/// Releases the log's lock. The lines of the file give the log of the bench.
 fn let_go<D: Device + Drop>(
     bench: Bench,
     mut log: KeptLog<D>,

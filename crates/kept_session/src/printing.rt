@@ -30,8 +30,8 @@ fn append_lines(out: &mut Vec<u8>, text: &[u8]) -> Result<(), OutOfMemory>
     Ok(())
 }
 
-/// Reads the file of a log, whole, and writes the lines of it that count, as a script. A file that does not begin as one is
-/// refused with its first line.
+/// Reads the whole file of a log, and writes its lines that count, as a script. Fails with 101 for line 1 if the file
+/// does not begin with a head.
 pub fn print_log<S: Source, K: Sink>(
     alloc: Global,
     reader: &mut S,
@@ -40,24 +40,25 @@ pub fn print_log<S: Source, K: Sink>(
     requires reader { S.has_failed reader.old ≡ false }
     requires writer { K.has_failed writer.old ≡ false }
 
-    // What is written is, as a script, the lines that count behind the head of the file.
+    // What it writes is the script of the lines that count after the head.
     ensures printed { OnOk result (IfSome (S.rest reader.old) (λ bytes. (text : List ℕ) × IsHeaded bytes text
         × Appends (K.taken writer.old) (K.taken writer.new) (script_in text))) }
     ensures refused { result ≡ Err (LogLine 1) → IfSome (S.rest reader.old) (λ bytes. (text : List ℕ) → ¬ IsHeaded bytes text) }
 
-    // Nothing is written before that text is there. If a write fails, a beginning of it was written.
+    // It writes nothing before this script is made. If a write fails, it has written a beginning of the script.
     ensures unwritten { IfErr result (λ fault. fault ≢ Replay Write → K.taken writer.new ≡ K.taken writer.old) }
     ensures begun { result ≡ Err (Replay Write) → IfSome (S.rest reader.old) (λ bytes. (text : List ℕ) × IsHeaded bytes text
         × AppendsPart (K.taken writer.old) (K.taken writer.new) (script_in text)) }
 
-    // The device is at fault exactly if a read failed, and the writer exactly if a write failed; no other fault is told.
+    // The fault is a failed read exactly if a read failed, and a failed write exactly if a write failed. There are no
+    // other faults than those of `IsPrintFault`.
     ensures device { result ≡ Err (Replay (Read 2 DeviceFailed)) → S.has_failed reader.new ≡ true }
     ensures read_failed { S.has_failed reader.new ≡ true → result ≡ Err (Replay (Read 2 DeviceFailed)) }
     ensures write { result ≡ Err (Replay Write) → K.has_failed writer.new ≡ true }
     ensures write_failed { K.has_failed writer.new ≡ true → result ≡ Err (Replay Write) }
     ensures fault { IfErr result IsPrintFault }
 
-    // An input is told to be too long only if it is.
+    // It reports an input as too long only if it is.
     ensures too_long { result ≡ Err (Replay (Read 2 TooLong)) → IfSome (S.rest reader.old) (λ bytes. IsUnreadable bytes TooLong) }
 {
     let bytes = read_input(alloc, reader, LOG_INPUT)?;

@@ -1,4 +1,5 @@
-//! Questions of a session: what a screen, or another program, asks of the workspace. Each answer is one line, and changes nothing.
+//! Questions that a screen, or another program, asks a session about its workspace. Each answer is one line, and no
+//! question changes anything.
 
 mod answers;
 mod entries;

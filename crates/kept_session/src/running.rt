@@ -18,10 +18,10 @@ use kept_log::Device;
 use memchr::memrchr;
 use std::alloc::Global;
 
-/// How many bytes are read at a time.
+/// How many bytes one read asks for.
 const PIECE: usize = 65_536;
 
-/// The lines were not read.
+/// The fault if the input lines could not be read.
 fn unread(why: ReadCause) -> SessionFault
     ensures { result ≡ Replay (Read 3 why) }
 {
@@ -31,14 +31,14 @@ fn unread(why: ReadCause) -> SessionFault
     })
 }
 
-/// What was read of a line whose end did not come yet, and the number of that line.
+/// The part of a line that was read before its end came, and the number of the line.
 #[derive(Drop)]
 struct Pending {
     begun: Vec<u8>,
     number: u64,
 }
 
-/// Answers the lines that are begun, and writes the answers once the lock was let go.
+/// Answers the lines in `pending`. Writes the answers after the lock is released.
 fn answer_begun<D: Device + Drop, K: Sink>(
     alloc: Global,
     session: &mut Session<D>,
@@ -67,7 +67,7 @@ fn answer_begun<D: Device + Drop, K: Sink>(
     }
 }
 
-/// Keeps bytes of a line whose end did not come yet.
+/// Keeps bytes of a line that has no end yet.
 fn keep_begun(pending: &mut Pending, bytes: &[u8]) -> Result<(), SessionFault>
     ensures number { pending.new.number ≡ pending.old.number }
     ensures begun { OnOk result (pending.new.begun.items ≡ pending.old.begun.items ++ bytes.now) }
@@ -80,7 +80,7 @@ fn keep_begun(pending: &mut Pending, bytes: &[u8]) -> Result<(), SessionFault>
     Ok(())
 }
 
-/// What stands before the last end of a line, and what stands behind it.
+/// The bytes before the last line feed, and the bytes after it. Returns None if there is no line feed.
 fn cut_last_end(bytes: &[u8]) -> Option<(&[u8], &[u8])>
     ensures some { IfSome result (λ parts. (bytes.now ≡ parts.0.now ++ 10 ∷ parts.1.now) × IsLine parts.1.now) }
     ensures none { result ≡ None → IsLine bytes.now }
@@ -89,7 +89,7 @@ fn cut_last_end(bytes: &[u8]) -> Option<(&[u8], &[u8])>
     Some((&bytes[..end], &bytes[end + 1..]))
 }
 
-/// Takes in bytes that were read: whole lines are answered at once, and what is behind the last of them waits for its end.
+/// Takes in bytes. Answers whole lines at once; keeps the bytes after the last line feed until their line ends.
 fn take_in<D: Device + Drop, K: Sink>(
     alloc: Global,
     session: &mut Session<D>,
@@ -119,7 +119,7 @@ fn take_in<D: Device + Drop, K: Sink>(
     keep_begun(pending, rest)
 }
 
-/// Answers the lines that come, reading by way of `piece`.
+/// Answers the lines of the input as they come, using `piece` as the buffer.
 fn run_pieces<D: Device + Drop, S: Source, K: Sink>(
     alloc: Global,
     session: &mut Session<D>,
@@ -134,7 +134,7 @@ fn run_pieces<D: Device + Drop, S: Source, K: Sink>(
     ensures in_step { OnOk result (session.new.is_in_step ≡ true) }
     ensures trace { trace_of session.new.bench ≡ trace_of session.old.bench }
 
-    // It ends without a fault only at the end of the input, and where the reader has not failed meanwhile.
+    // Without a fault it ends only at the end of the input, and the reader has not failed meanwhile.
     ensures end { OnOk result (IsAtEnd (S.rest reader.new)) }
     ensures read { OnOk result (S.has_failed reader.new ≡ S.has_failed reader.old) }
     ensures device { IfErr result (λ fault. fault ≡ Replay (Read 3 DeviceFailed) → S.has_failed reader.new ≡ true) }
@@ -170,8 +170,9 @@ fn run_pieces<D: Device + Drop, S: Source, K: Sink>(
     Err(unread(ReadCause::TooLong))
 }
 
-/// Answers each line of an input as it comes, as calls of this client or of those that the lines name, until the input ends. The
-/// whole lines that one read gives are answered under one lock of the file, and the answers are written once it was let go.
+/// Answers each line of an input as it comes, until the input ends. The calls are made as `client`, or as the clients
+/// that the lines name. The whole lines of one read are answered under one lock of the file. The answers are written
+/// after the lock is released.
 pub fn run_session<D: Device + Drop, S: Source, K: Sink>(
     alloc: Global,
     session: &mut Session<D>,
@@ -184,18 +185,20 @@ pub fn run_session<D: Device + Drop, S: Source, K: Sink>(
     ensures in_step { OnOk result (session.new.is_in_step ≡ true) }
     ensures trace { trace_of session.new.bench ≡ trace_of session.old.bench }
 
-    // It ends without a fault only at the end of the input, and where the reader has not failed meanwhile.
+    // Without a fault it ends only at the end of the input, and the reader has not failed meanwhile.
     ensures end { OnOk result (IsAtEnd (S.rest reader.new)) }
     ensures read { OnOk result (S.has_failed reader.new ≡ S.has_failed reader.old) }
 
-    // A read is told to have failed only where one has.
+    // It reports a failed read only if a read failed.
     ensures device { IfErr result (λ fault. fault ≡ Replay (Read 3 DeviceFailed) → S.has_failed reader.new ≡ true) }
 
-    // Each line that was read is answered once and in order, in turns, and what was written is the answers, in order, and nothing else.
+    // It answers each line that it read once and in order, in turns. It writes the answers in order, and nothing
+    // else.
     ensures answered { OnOk result (IsWholeRun D.Device S.Source K.Sink session.old.bench client session.old.log session.new.log
         reader.old reader.new writer.old writer.new) }
 
-    // At a fault that is so of the first lines. Of the answers of one turn more a part may be written, where the writer failed.
+    // After a fault this holds for the first lines. If the writer failed, a part of the answers of one more turn may
+    // be written.
     ensures halted { IfErr result (IsHaltedRun D.Device S.Source K.Sink session.old.bench client session.old.log session.new.log
         reader.old reader.new writer.old writer.new) }
 {

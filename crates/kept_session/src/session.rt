@@ -23,21 +23,21 @@ use kept_log::{Block, Device, EnterError, KeptLog};
 use rapid_text::OutOfMemory;
 use std::alloc::Global;
 
-/// How much longer than its line of the input a line of a block can be: its client and a blank before it, the number of an undone
-/// entry and a blank before that, and its gate and its end.
+/// How many bytes longer a line of a block can be than its line of the input. There may be the client and a blank, a
+/// blank and the number of an undone entry, and the gate and the line feed.
 const LONGER: usize = 16;
 
-/// A bench and the file of its log. Between two calls the file's lock is free, and others may add to it.
+/// A bench and the file of its log. Between two calls the file's lock is free, and other processes may add lines.
 #[derive(Drop)]
 pub struct Session<D: Device> {
     pub bench: Bench,
     pub log: KeptLog<D>,
-    /// Whether the two are in step. From a fault of a turn on they are not: the log may be opened anew.
+    /// Whether bench and file are in step. After a fault of a turn they are not; then the log may be opened again.
     pub is_in_step: bool,
     pub ghost in_step: { IsTrue is_in_step → IsInStep D.Device bench.trace log bench.log } by { →_prop (IsInStep-prop D.Device bench.trace log bench.log) },
 }
 
-/// How many lines a text has.
+/// How many lines a text has. The last one need not end with a line feed.
 fn count_lines(text: &[u8]) -> usize {
     text.iter()
         .filter(|byte| **byte == b'\n')
@@ -45,7 +45,7 @@ fn count_lines(text: &[u8]) -> usize {
         .saturating_add(1)
 }
 
-/// Makes room for the lines of a piece, so that no want of memory can come between a call and its block.
+/// Makes room for the lines of a piece, so that memory cannot run out between a call and its line in the block.
 fn make_room(block: &mut Block, piece: &[u8]) -> Result<(), OutOfMemory>
     ensures { block.new ≡ block.old }
 {
@@ -57,8 +57,8 @@ fn make_room(block: &mut Block, piece: &[u8]) -> Result<(), OutOfMemory>
 }
 
 impl<D: Device + Drop> Session<D> {
-    /// Opens the file of a log on this trace, whose head this is, and makes the calls of its lines on a new bench. With a fault the file is
-    /// handed back.
+    /// Opens the file of a log on this trace, and makes the calls of its lines on a new bench. `head` is the head
+    /// that the file must have. If the call fails, it returns the device as part of the error.
     pub fn open(
         alloc: Global,
         indexed: Indexed,
@@ -70,20 +70,22 @@ impl<D: Device + Drop> Session<D> {
         ensures head { IfOk result (λ s. head_of D.Device s.log ≡ head.now) }
         ensures free { IfOk result (λ s. IsFree D.Device s.log) }
 
-        // It is opened only if no call of the file failed: a sync that failed is not tried again.
+        // The call succeeds only if no operation on the file failed: a sync that failed is not tried again.
         ensures sound { IfOk result (λ s. D.faults s.log.device ≡ D.faults device) }
 
-        // No line is lost: the file began with the head, and has the lines that it had when the lock was taken.
+        // No line is lost. The file began with the head, and has the lines that it had when the lock was taken.
         ensures opened { IfOk result (λ s. IsOpened D.Device head.now device s.log) }
         ensures back { IfErr result (λ e. IsHandedBack D.Device head.now device e.1) }
 
-        // At 102 it is left as it was.
+        // After fault 102 the file is as it was.
         ensures other_trace { IfErr result (λ e. e.0 ≡ OtherTrace → D.found e.1 ≡ Some (D.seen e.1) ∷ D.found device) }
 
-        // 102 is told of a file that does not begin with the head; 101 with the first line that adds no entry.
+        // Fault 102 means that the file does not begin with the head. Fault 101 names the first line that adds no
+        // entry.
         ensures fault { IfErr result (λ e. IsOpenFault indexed head.now (D.seen e.1) e.0) }
 
-        // A crash at any moment leaves what it might have left when the lock was taken, or the lines that the file had then.
+        // A crash at any moment leaves what a crash might have left when the lock was taken, or the lines that the
+        // file had then.
         ensures any_moment { IfOk result (λ s. IsTaken D.Device (KeepsLines head.now) device s.log.device) }
         ensures any_moment_err { IfErr result (λ e. IsUntaken D.Device device e.1
             ⊎ IsTaken D.Device (KeepsLines head.now) device e.1) }
@@ -94,7 +96,7 @@ impl<D: Device + Drop> Session<D> {
         }
     }
 
-    /// The same on a bench that has made no call.
+    /// The same on a bench with an empty log.
     fn open_on(
         alloc: Global,
         bench: Bench,
@@ -128,7 +130,7 @@ impl<D: Device + Drop> Session<D> {
         }
     }
 
-    /// Takes the file's lock, and makes the calls that others added.
+    /// Takes the file's lock, and makes the calls that other processes added.
     fn catch_up(&mut self, alloc: Global) -> Result<(), SessionFault>
         requires in_step { IsInStep D.Device (trace_of self.old.bench) self.old.log (entries_of self.old.bench) }
         requires stopped { self.old.is_in_step ≡ false }
@@ -143,7 +145,7 @@ impl<D: Device + Drop> Session<D> {
         ensures as_found { IsAsFound D.Device self.old.log self.new.log }
         ensures sound { OnOk result (IsUnfailed D.Device self.old.log self.new.log) }
 
-        // A crash at any moment leaves a file whose lines begin with those that were known.
+        // A crash at any moment leaves a file whose lines begin with the known ones.
         ensures any_moment { LeavesKnown D.Device self.old.log self.new.log }
         ensures fault { IfErr result (IsFaultBetween D.Device (trace_of self.old.bench) self.old.log self.new.log) }
         ensures input { IfErr result (λ fault. (input : ℕ) (why : ReadCause) → fault ≡ Replay (Read input why) → input ≡ 2) }
@@ -184,8 +186,8 @@ impl<D: Device + Drop> Session<D> {
         ensures sound { OnOk result (IsUnfailed D.Device self.old.log self.new.log) }
         ensures start { self.new.log.start ≡ self.old.log.start }
 
-        // A crash at any moment leaves the lines from before, and of the piece all or none; so does a call that fails, and none if it is for
-        // want of memory.
+        // A crash at any moment leaves the lines from before, and all lines of the piece or none. A call that fails
+        // does the same, and leaves none if memory ran out.
         ensures put { (gained : List (List ℕ)) × IsPutOn D.Device self.old.bench client first (lines_in piece.now) self.old.log self.new.log gained
             × OnOk result (HasGained D.Device self.old.log self.new.log gained) }
         ensures unchanged { IfErr result (λ fault. fault ≢ Replay Write
@@ -199,8 +201,9 @@ impl<D: Device + Drop> Session<D> {
         Ok(next)
     }
 
-    /// Answers the lines of a piece under one lock, and appends the texts of the answers. The first line has this number in the
-    /// input; it tells that of the line behind them. Once it returns, the entries that the answers tell of are on the disk.
+    /// Answers the lines of a piece under one lock, and appends the texts of the answers. `first` is the number of
+    /// the piece's first line in the input. Returns the number of the line after the piece. When it returns, the log
+    /// entries in the answers are on the disk.
     pub fn answer(
         &mut self,
         alloc: Global,
@@ -217,34 +220,36 @@ impl<D: Device + Drop> Session<D> {
         ensures head { OnOk result (head_of D.Device self.new.log ≡ head_of D.Device self.old.log) }
         ensures next { IfOk result (λ next. next ≡ number_behind first (lines_in piece.now)) }
 
-        // Each answer is that of the log which the file stood for when the lock was taken, which was once; the file has gained the
-        // lines of the calls.
+        // The lock is taken once. Each answer belongs to the log that the file gave at that time. The file has gained
+        // the lines of the calls.
         ensures answers { OnOk result (IsAnsweredOnce D.Device (trace_of self.old.bench) client first (lines_in piece.now) self.old.log self.new.log
             (entries_of self.new.bench) out.old.items out.new.items) }
 
-        // What others wrote is not lost either, also where it fails.
+        // No line of another process is lost either, even if the call fails.
         ensures none_lost { LosesNone D.Device self.old.log self.new.log }
 
-        // The piece counts whole or not at all, also where it fails and at a crash: there was no turn for it, or all of its calls' lines are there
-        // or none is. Without a failed write none is there at a fault.
+        // The piece counts whole or not at all, even if the call fails or there is a crash. Either it had no turn, or
+        // the lines of all its calls are there, or none of them. After a fault that is not a failed write, none of
+        // them is there.
         ensures all_or_none { (IsErr result × IsAsFound D.Device self.old.log self.new.log) ⊎ IsAllOrNone D.Device
             (trace_of self.old.bench) client first (lines_in piece.now) self.old.log self.new.log }
         ensures unchanged { IfErr result (λ fault. fault ≢ Replay Write → IsAsFound D.Device self.old.log self.new.log) }
 
-        // A turn is answered only if no call of the file failed: a sync that failed is not tried again.
+        // A turn is answered only if no operation on the file failed: a sync that failed is not tried again.
         ensures sound { OnOk result (IsUnfailed D.Device self.old.log self.new.log) }
 
-        // What was answered is kept: from then on each crash leaves a file whose lines begin with these, whatever others do.
+        // What was answered is kept. From then on each crash leaves a file whose lines begin with these, whatever
+        // other processes do.
         ensures kept { OnOk result (IsKept D.Device self.new.log) }
 
-        // A crash at any moment, also where it fails, leaves a file whose lines begin with those that were known.
+        // A crash at any moment leaves a file whose lines begin with the known ones, even if the call fails.
         ensures any_moment { LeavesKnown D.Device self.old.log self.new.log }
 
-        // 101 is told with the first line that adds no entry, or with the last known one if the file was shorter than it was. Else the file
-        // was not read or not written, or there was no memory.
+        // Fault 101 names the first line that adds no entry, or the last known line if the file got shorter.
+        // Otherwise the file could not be read or written, or memory ran out.
         ensures fault { IfErr result (IsFaultBetween D.Device (trace_of self.old.bench) self.old.log self.new.log) }
 
-        // Where something was not read, that is the file of the log, input 2.
+        // An input that could not be read is the log's file, input 2.
         ensures input { IfErr result (λ fault. (input : ℕ) (why : ReadCause) → fault ≡ Replay (Read input why) → input ≡ 2) }
     {
         self.is_in_step = false;

@@ -1,4 +1,4 @@
-//! Answers a question.
+//! Answers questions.
 ghost use Rattle.std.specs.Prelude.{◌≡◌, ◌++◌, ℕ, List, drop, length, option_map, slice_get, take, None, Some, IfNone, IfSome, OnOk};
 ghost use Rattle.inverse_log.specs.Log.{rows_of};
 ghost use Rattle.inverse_log.specs.declared.refusal.Refusal.TheVariants.{Move};
@@ -21,14 +21,14 @@ use report::{Piece, append_pieces};
 use schedule::Schedule;
 use script_language::Question;
 
-/// Appends that there is no schedule of the name.
+/// Appends that there is no schedule with this name.
 fn append_no_schedule(out: &mut Vec<u8>, indexed: &Indexed) -> Result<(), OutOfMemory>
     ensures { OnOk result (out.new.items ≡ out.old.items ++ refusal_text indexed.now (Move NoSuchSchedule)) }
 {
     report::refusal(indexed, &Refusal::Move(MoveRefusal::NoSuchSchedule), out)
 }
 
-/// Appends what each thread may do next after a schedule.
+/// Appends what each thread does next after a schedule.
 fn append_next(
     out: &mut Vec<u8>,
     indexed: &Indexed,
@@ -51,7 +51,7 @@ fn append_next(
     append_pieces(out, &[Piece::Words(b"\n")])
 }
 
-/// Appends at most `count` events of a schedule, from a position on.
+/// Appends at most `count` events of a schedule, from position `from` on.
 fn append_part(
     out: &mut Vec<u8>,
     entries: u64,
@@ -77,7 +77,7 @@ fn append_part(
     )
 }
 
-/// At most `count` of the events, from a position on.
+/// At most `count` of the events, from position `from` on.
 fn part_of(events: &[u32], from: u32, count: u32) -> &[u32]
     ensures { result.now ≡ take count (drop from events.now) }
 {
@@ -86,7 +86,7 @@ fn part_of(events: &[u32], from: u32, count: u32) -> &[u32]
     &rest[..(count as usize).min(rest.len())]
 }
 
-/// The schedule of this name.
+/// The schedule with this name.
 fn schedule_of<'a>(bench: &'a Bench, name: &Name) -> Option<&'a Schedule>
     ensures none { IfNone result (row_of (rows_of bench.now.trace bench.now.log) name.now ≡ None) }
     ensures some { IfSome result
@@ -96,7 +96,7 @@ fn schedule_of<'a>(bench: &'a Bench, name: &Name) -> Option<&'a Schedule>
     bench.workspace().get(name)
 }
 
-/// Answers what each thread may do next.
+/// Answers what each thread does next.
 fn answer_next(out: &mut Vec<u8>, bench: &Bench, name: &Name) -> Result<(), OutOfMemory>
     ensures { OnOk result (out.new.items ≡ out.old.items ++ looked_up bench.now.trace bench.now.log name.now
         (next_line bench.now.trace (length bench.now.log))) }
@@ -135,14 +135,15 @@ fn answer_part(
     }
 }
 
-/// Answers with all schedules.
+/// Answers with a list of all schedules.
 fn answer_rows(out: &mut Vec<u8>, bench: &Bench) -> Result<(), OutOfMemory>
     ensures { OnOk result (out.new.items ≡ out.old.items ++ rows_line bench.now.log (rows_of bench.now.trace bench.now.log)) }
 {
     append_rows(out, bench, bench.workspace())
 }
 
-/// Appends the answer to a question: one line, by the log of the bench. If memory is refused, what was appended is a beginning of it.
+/// Appends the answer to a question: one line, for the log of the bench. If memory runs out, `out` has a beginning of
+/// the line.
 pub fn answer_question(
     bench: &Bench,
     question: &Question,

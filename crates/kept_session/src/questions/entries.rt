@@ -1,4 +1,4 @@
-//! The answer about an entry of the log.
+//! Answers a question about an entry of the log.
 ghost use Rattle.std.specs.Prelude.{◌≡◌, ◌<◌, ◌++◌, length, slice_get, OnOk};
 ghost use Rattle.inverse_log.specs.Log.{undoes};
 ghost use Rattle.kept_session.specs.QuestionAnswers.{entry_text, state_words, there_text, undo_of};
@@ -7,7 +7,7 @@ use inverse_log::{Bench, Entry, Refusal};
 use rapid_text::OutOfMemory;
 use report::{Piece, append_pieces};
 
-/// Whether an entry undoes this one.
+/// Whether the entry is an undo of entry `number`.
 fn undoes(entry: &Entry, number: u64) -> bool
     ensures { result ≡ undoes number entry.now }
 {
@@ -17,7 +17,7 @@ fn undoes(entry: &Entry, number: u64) -> bool
     }
 }
 
-/// The undo that took an entry back, if one did.
+/// The number of the undo that took the entry back, if there is one.
 fn undo_of(bench: &Bench, number: u64) -> Option<u64>
     ensures { result ≡ undo_of bench.now.log number }
 {
@@ -29,7 +29,7 @@ fn undo_of(bench: &Bench, number: u64) -> Option<u64>
     None
 }
 
-/// Appends whether an undo took the entry back, and which.
+/// Appends whether an undo took the entry back, and which undo.
 fn append_state(out: &mut Vec<u8>, undo: Option<u64>) -> Result<(), OutOfMemory>
     ensures { OnOk result (out.new.items ≡ out.old.items ++ state_words undo) }
 {
@@ -46,7 +46,7 @@ fn append_state(out: &mut Vec<u8>, undo: Option<u64>) -> Result<(), OutOfMemory>
     }
 }
 
-/// Appends the answer about an entry that is there.
+/// Appends the answer about an entry that the log has.
 fn append_there(out: &mut Vec<u8>, bench: &Bench, number: u64) -> Result<(), OutOfMemory>
     requires { number < length bench.now.log }
     ensures { OnOk result (out.new.items ≡ out.old.items ++ there_text bench.now.log number) }
@@ -64,7 +64,7 @@ fn append_there(out: &mut Vec<u8>, bench: &Bench, number: u64) -> Result<(), Out
     report::entry(bench, number, out)
 }
 
-/// Appends the answer about an entry, or that there is none.
+/// Appends the answer about an entry, or that the log has no such entry.
 pub(crate) fn append_entry(out: &mut Vec<u8>, bench: &Bench, number: u64) -> Result<(), OutOfMemory>
     ensures { OnOk result (out.new.items ≡ out.old.items ++ entry_text bench.now.trace bench.now.log number (slice_get bench.now.log number)) }
 {

@@ -1,4 +1,4 @@
-//! Items: the event that each thread does next, and why it may not come next.
+//! Items: the next event of each thread, and why it is not enabled.
 ghost use Rattle.std.specs.Prelude.{◌≡◌, ◌<◌, ◌++◌, codes, decimal, length, OnOk};
 ghost use Rattle.report.specs.Causes.{event_words};
 ghost use Rattle.report.specs.Pieces.{piece_bytes};
@@ -9,7 +9,7 @@ use rapid_text::OutOfMemory;
 use report::{Piece, append_pieces};
 use schedule::{Disabled, Schedule};
 
-/// An event's number, or that there is none.
+/// The number of an event, or `none`.
 fn event_piece(event: Option<u32>) -> Piece<'static>
     ensures { piece_bytes result ≡ event_words event }
 {
@@ -19,7 +19,7 @@ fn event_piece(event: Option<u32>) -> Piece<'static>
     }
 }
 
-/// Appends why an event may not come next.
+/// Appends why an event is not enabled.
 fn append_cause(out: &mut Vec<u8>, cause: &Disabled) -> Result<(), OutOfMemory>
     ensures { OnOk result (out.new.items ≡ out.old.items ++ cause_words cause.now) }
 {
@@ -44,7 +44,7 @@ fn append_cause(out: &mut Vec<u8>, cause: &Disabled) -> Result<(), OutOfMemory>
     }
 }
 
-/// Appends the number of an event.
+/// Appends a blank and the number of an event.
 fn append_event(out: &mut Vec<u8>, event: u32) -> Result<(), OutOfMemory>
     ensures { OnOk result (out.new.items ≡ out.old.items ++ (codes " " ++ decimal event)) }
 {
@@ -68,7 +68,7 @@ pub(crate) fn append_item(
     }
 }
 
-/// Appends the item of what a thread does next, if it has an event that the schedule has not.
+/// Appends the item of a thread's next event, if the thread has an event that is not in the schedule.
 fn append_thread(
     out: &mut Vec<u8>,
     indexed: &Indexed,
@@ -85,7 +85,7 @@ fn append_thread(
     }
 }
 
-/// Appends the items of all threads, by rising number.
+/// Appends the items of all threads, in the order of their numbers.
 pub(crate) fn append_threads(
     out: &mut Vec<u8>,
     indexed: &Indexed,

@@ -1,4 +1,4 @@
-//! The answer that lists all schedules.
+//! Answers with a list of all schedules.
 ghost use Rattle.std.specs.Prelude.{◌≡◌, ◌<◌, ◌++◌, codes, decimal, flat_map, length, slice_get, take, OnOk};
 ghost use Rattle.inverse_log.specs.Log.{client_of};
 ghost use Rattle.kept_session.specs.QuestionAnswers.{client_at, row_item_at, row_items, rows_line};
@@ -8,7 +8,7 @@ use moves::Workspace;
 use rapid_text::OutOfMemory;
 use report::{Piece, append_pieces};
 
-/// Whose entry it is.
+/// The client of an entry.
 fn client_of(entry: &Entry) -> u32
     ensures { result ≡ client_of entry.now }
 {
@@ -28,7 +28,7 @@ fn client_of(entry: &Entry) -> u32
     }
 }
 
-/// Whose entry is at this place of the log; 0 if the log has none there.
+/// The client of the log entry with this number; 0 if there is no such entry.
 fn client_at(bench: &Bench, entry: u64) -> u32
     ensures { result ≡ client_at bench.now.log entry }
 {
@@ -39,7 +39,7 @@ fn client_at(bench: &Bench, entry: u64) -> u32
     }
 }
 
-/// Appends the item of the schedule at this place of the workspace.
+/// Appends the item of the schedule with this index in the workspace.
 fn append_row(
     out: &mut Vec<u8>,
     bench: &Bench,
@@ -75,7 +75,7 @@ fn append_items(out: &mut Vec<u8>, bench: &Bench, rows: &Workspace) -> Result<()
     Ok(())
 }
 
-/// Appends the line that lists all schedules, by rising birth.
+/// Appends the line that lists all schedules, in the order in which they were made.
 pub(crate) fn append_rows(
     out: &mut Vec<u8>,
     bench: &Bench,

@@ -1,4 +1,4 @@
-//! How far a thread can go on after a schedule.
+//! Answers how far a thread can go on after a schedule.
 ghost use Rattle.std.specs.Prelude.{◌≡◌, ◌++◌, ◌<◌, ◌≤◌, length, slice_get, IfOk, OnOk, Some};
 ghost use Rattle.inverse_log.specs.declared.refusal.Refusal.TheVariants.{Move};
 ghost use Rattle.moves.specs.declared.refusal.MoveRefusal.TheVariants.{Disabled as DisabledBy};
@@ -16,14 +16,15 @@ use report::{Piece, append_pieces};
 use schedule::{Disabled, ExtendRefusal, Schedule};
 use std::alloc::Global;
 
-/// Appends that an event can't be added, for this cause.
+/// Appends that an event cannot be added, and the cause.
 fn append_refused(out: &mut Vec<u8>, indexed: &Indexed, cause: Disabled) -> Result<(), OutOfMemory>
     ensures { OnOk result (out.new.items ≡ out.old.items ++ refusal_text indexed.now (Move (DisabledBy cause))) }
 {
     report::refusal(indexed, &Refusal::Move(MoveRefusal::Disabled(cause)), out)
 }
 
-/// Adds events of a thread up to the last one, as long as they can be added. Answers how many, and the event that can't be.
+/// Adds events of a thread up to `last`, as long as they can be added. Returns how many, and the event that cannot be
+/// added, if any.
 fn go_on(
     schedule: &mut Schedule,
     indexed: &Indexed,
@@ -52,7 +53,7 @@ fn go_on(
     Ok((u64::from(indexed.len()), None))
 }
 
-/// Appends how many events were added, and the item of the one that can't be.
+/// Appends how many events were added, and the item of the one that cannot be added.
 fn append_stop(
     out: &mut Vec<u8>,
     indexed: &Indexed,
@@ -78,7 +79,7 @@ fn append_stop(
     append_pieces(out, &[Piece::Words(b"\n")])
 }
 
-/// Appends how far a thread goes on from this schedule, which is a copy.
+/// Appends how far a thread goes on from this copy of a schedule.
 fn append_run(
     out: &mut Vec<u8>,
     indexed: &Indexed,
@@ -110,7 +111,7 @@ fn copy_of(alloc: Global, indexed: &Indexed, schedule: &Schedule) -> Result<Sche
     }
 }
 
-/// Appends how far the thread goes on after the schedule, if its next event is this one.
+/// Appends how far the thread goes on after the schedule, if its next event is not after `last`.
 fn append_next_run(
     out: &mut Vec<u8>,
     indexed: &Indexed,
@@ -133,7 +134,7 @@ fn append_next_run(
     }
 }
 
-/// Appends how far the thread of an event goes on after the schedule, up to that event.
+/// Appends how far the thread of event `last` goes on after the schedule, up to that event.
 pub(crate) fn append_run_to(
     out: &mut Vec<u8>,
     indexed: &Indexed,

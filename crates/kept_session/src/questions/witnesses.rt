@@ -1,4 +1,4 @@
-//! The answer that tells a schedule which shows a pair of events.
+//! Answers with a schedule that shows a pair of events.
 ghost use Rattle.std.specs.Prelude.{◌≡◌, ◌<◌, ◌++◌, ℕ, List, codes, length, IfOk, OnOk};
 ghost use Rattle.explain_report.specs.findings.Findings.{IsFinding, IsNeverShown};
 ghost use Rattle.explain_report.specs.declared.findings.finding.Finding.{Finding};
@@ -11,7 +11,7 @@ use must_order::Analysis;
 use rapid_text::OutOfMemory;
 use report::{Piece, append_pieces};
 
-/// How a race was found, in words.
+/// The words for how a race was found.
 fn how_words(how: How) -> &'static [u8]
     ensures { result.now ≡ how_words how }
 {
@@ -22,7 +22,7 @@ fn how_words(how: How) -> &'static [u8]
     }
 }
 
-/// Appends what was found of a pair.
+/// Appends what was found for a pair.
 fn append_found(out: &mut Vec<u8>, finding: &Finding) -> Result<(), OutOfMemory>
     ensures { OnOk result (out.new.items ≡ out.old.items ++ found_line finding.now) }
 {
@@ -47,7 +47,7 @@ fn append_found(out: &mut Vec<u8>, finding: &Finding) -> Result<(), OutOfMemory>
     }
 }
 
-/// Finds what is to be said of a pair.
+/// Finds a schedule for a pair, or the reason why there is none.
 fn found_of(
     out: &Vec<u8>,
     indexed: &Indexed,
@@ -69,7 +69,7 @@ fn found_of(
     }
 }
 
-/// Appends the answer on two events that conflict.
+/// Appends the answer about two events that conflict.
 fn append_pair(
     out: &mut Vec<u8>,
     indexed: &Indexed,
@@ -87,7 +87,7 @@ fn append_pair(
     }
 }
 
-/// Appends the answer on two events, given in either order.
+/// Appends the answer about two events, in either order.
 pub(crate) fn append_witness(
     out: &mut Vec<u8>,
     indexed: &Indexed,
