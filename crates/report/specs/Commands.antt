@@ -1,4 +1,4 @@
--- What is printed of a command and of a batch: the line of a script that makes it, without the client.
+-- The text of a command and of a batch: the script line for it, without the client.
 use Rattle.std.specs.Prelude.{ℕ, List, [], ◌∷◌, ◌++◌, flat_map, codes, decimal}
 use Rattle.moves.specs.declared.command.Command.{Command}
 use Rattle.moves.specs.declared.command.Command.TheVariants.{Fresh, Add, Back, Swap, Branch, Drop, Adopt}
@@ -12,11 +12,11 @@ command_words (Branch name length to) = codes "branch " ++ name ++ codes " " ++ 
 command_words (Drop name) = codes "drop " ++ name
 command_words (Adopt name proposal) = codes "adopt " ++ name ++ codes " " ++ decimal proposal
 
--- each command after a separator
+-- each command after ` ; `
 abbrev pub separated : List Command → List ℕ
 separated commands = flat_map (λ command. codes " ; " ++ command_words command) commands
 
--- the commands, with a separator between two
+-- the commands, with ` ; ` between two
 abbrev pub commands_words : List Command → List ℕ
 commands_words [] = []
 commands_words (command ∷ commands) = command_words command ++ separated commands

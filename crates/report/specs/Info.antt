@@ -1,15 +1,15 @@
--- What is printed of how much of what is in a trace.
+-- The text of the numbers of events, threads, variables and locks in a trace.
 use Rattle.std.specs.Prelude.{ℕ, List, ◌++◌, length, flat_map, codes, decimal}
 use Rattle.std.specs.List.{range_with_len}
 use Rattle.rapid_text.specs.Canonical.{name_at}
 use Rattle.rapid_text.specs.Recording.{Recording}
 use Rattle.event_index.specs.Lookups.{events_of}
 
--- the line of a word and a number
+-- a line with a word and a number
 abbrev pub count_line : List ℕ → ℕ → List ℕ
 count_line word n = word ++ codes " " ++ decimal n ++ codes "\n"
 
--- how many events, threads, variables and locks there are
+-- the numbers of events, threads, variables and locks
 abbrev pub counts_text : Recording → List ℕ
 counts_text r =
     count_line (codes "events") (length r.events)
@@ -26,6 +26,6 @@ thread_line r t =
 abbrev pub thread_lines : Recording → ℕ → List ℕ
 thread_lines r n = flat_map (thread_line r) (range_with_len 0 n)
 
--- the four numbers, and then a line for each thread in rising number
+-- the four numbers, and a line for each thread in the order of their numbers
 unfoldable pub info_text : Recording → List ℕ
 info_text r = counts_text r ++ thread_lines r (length r.threads)

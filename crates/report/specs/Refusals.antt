@@ -1,4 +1,4 @@
--- What is printed of a refused call: the refusal's number and its words, in one line.
+-- The text of a refused call: the refusal's number and its words, in one line.
 use Rattle.std.specs.Prelude.{ℕ, List, ◌++◌, codes, decimal}
 use Rattle.rapid_text.specs.Recording.{Recording}
 use Rattle.moves.specs.declared.refusal.MoveRefusal.{MoveRefusal}

@@ -1,4 +1,4 @@
--- What is printed of the reply to a call: one line.
+-- The text of a reply to a call: one line.
 use Rattle.std.specs.Prelude.{ℕ, List, ◌++◌, codes, decimal}
 use Rattle.inverse_log.specs.declared.reply.Reply.{Reply}
 use Rattle.inverse_log.specs.declared.reply.Reply.TheVariants.{Done, Undone, Proposed, Shown, Listing, Shows}

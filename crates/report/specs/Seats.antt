@@ -1,4 +1,4 @@
--- What is printed of a call through a seat that is refused: what the bench refused it for, or that the seat is spent.
+-- The text of a refused call through a seat: the bench's refusal, or that the seat is spent.
 use Rattle.std.specs.Prelude.{ℕ, List, codes}
 use Rattle.rapid_text.specs.Recording.{Recording}
 use Rattle.inverse_log.specs.declared.refusal.SeatRefusal.{SeatRefusal}

@@ -1,4 +1,4 @@
-//! Prints pairs of events that are candidates for a race.
+//! Prints pairs of events that are candidates.
 ghost use Rattle.std.specs.Prelude.{◌≡◌, ◌<◌, ◌++◌, length, All, OnOk, OnErr};
 ghost use Rattle.event_index.specs.Relations.{IsConflicting};
 ghost use Rattle.report.specs.Candidates.{candidates_text, candidate_line, candidate_lines, variable_words};
@@ -7,8 +7,8 @@ use crate::pieces::{Piece, append_count, append_pieces};
 use event_index::{Indexed, Pairs};
 use rapid_text::{Op, OutOfMemory};
 
-/// Appends how many pairs there are, and for each its two events and the name of the variable that both
-/// access, each in a line. Where memory is refused `out` stays as it was.
+/// Appends the number of pairs, and a line for each with its two events and the name of their variable. If memory
+/// runs out, `out` stays as it was.
 pub fn candidates(indexed: &Indexed, pairs: &Pairs, out: &mut Vec<u8>) -> Result<(), OutOfMemory>
     requires { All (λ pair. IsConflicting indexed.now.events pair.0 pair.1) pairs.now }
     ensures ok { OnOk result (out.new.items ≡ out.old.items ++ candidates_text indexed.now pairs.now) }
@@ -62,7 +62,7 @@ fn append_candidate(
     Ok(())
 }
 
-/// The name of the variable that the event accesses; nothing where it accesses none.
+/// The name of the variable that the event accesses; empty if the event is not an access.
 fn variable_of(indexed: &Indexed, event: u32) -> &[u8]
     requires { event < length indexed.now.events }
     ensures { result.now ≡ variable_words indexed.now event }

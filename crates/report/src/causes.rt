@@ -1,4 +1,4 @@
-//! Prints why an event may not come next, and why two neighbours were not exchanged.
+//! Prints why an event is not enabled, and why two neighbours cannot be exchanged.
 ghost use Rattle.std.specs.Prelude.{◌≡◌, ◌++◌, OnOk, OnErr, codes};
 ghost use Rattle.report.specs.Causes.{event_words, thread_words, disabled_words, swap_words, refused_line};
 ghost use Rattle.report.specs.Pieces.{piece_bytes, pieces_text};
@@ -8,7 +8,7 @@ use event_index::Indexed;
 use rapid_text::OutOfMemory;
 use schedule::{Disabled, SwapRefusal};
 
-/// An event's number, or that there is none.
+/// The number of an event, or `none`.
 fn event_piece(event: Option<u32>) -> Piece<'static>
     ensures { piece_bytes result ≡ event_words event }
 {
@@ -18,7 +18,7 @@ fn event_piece(event: Option<u32>) -> Piece<'static>
     }
 }
 
-/// The name of a thread, or its number where the trace has no such thread.
+/// The name of a thread; its number if the trace has no such thread.
 fn thread_piece(indexed: &Indexed, thread: u32) -> Piece<'_>
     ensures { piece_bytes result ≡ thread_words indexed.now thread }
 {
@@ -29,8 +29,7 @@ fn thread_piece(indexed: &Indexed, thread: u32) -> Piece<'_>
     }
 }
 
-/// Appends the line of a refusal whose number and words are these pieces. Where memory is refused `out`
-/// stays as it was.
+/// Appends the line of a refusal. The pieces are its number and its words. If memory runs out, `out` stays as it was.
 pub(crate) fn append_refused(out: &mut Vec<u8>, why: &[Piece<'_>]) -> Result<(), OutOfMemory>
     ensures ok { OnOk result (out.new.items ≡ out.old.items ++ refused_line (pieces_text why.now)) }
     ensures err { OnErr result (out.new.items ≡ out.old.items) }
@@ -44,7 +43,7 @@ pub(crate) fn append_refused(out: &mut Vec<u8>, why: &[Piece<'_>]) -> Result<(),
     Ok(())
 }
 
-/// Appends the pieces and a line end.
+/// Appends the pieces and a line feed.
 fn append_ended(out: &mut Vec<u8>, pieces: &[Piece<'_>]) -> Result<(), OutOfMemory>
     ensures ok { OnOk result (out.new.items ≡ out.old.items ++ pieces_text pieces.now ++ codes "\n") }
     ensures err { OnErr result (out.new.items ≡ out.old.items) }
@@ -58,7 +57,7 @@ fn append_ended(out: &mut Vec<u8>, pieces: &[Piece<'_>]) -> Result<(), OutOfMemo
     Ok(())
 }
 
-/// Appends the line of a refusal of this number and these words. Where memory is refused `out` stays as it was.
+/// Appends the line of a refusal with this number and these words. If memory runs out, `out` stays as it was.
 pub(crate) fn append_words(out: &mut Vec<u8>, why: &[u8]) -> Result<(), OutOfMemory>
     ensures ok { OnOk result (out.new.items ≡ out.old.items ++ refused_line why.now) }
     ensures err { OnErr result (out.new.items ≡ out.old.items) }
@@ -67,7 +66,8 @@ pub(crate) fn append_words(out: &mut Vec<u8>, why: &[u8]) -> Result<(), OutOfMem
     Ok(())
 }
 
-/// Appends the number and the words of a refusal of an event that may not come next. Where memory is refused `out` stays as it was.
+/// Appends the number and the words of the refusal of an event that is not enabled. If memory runs out, `out` stays
+/// as it was.
 pub(crate) fn append_disabled(
     out: &mut Vec<u8>,
     indexed: &Indexed,
@@ -104,7 +104,8 @@ pub(crate) fn append_disabled(
     }
 }
 
-/// Appends the number and the words of a refusal of two neighbours that may not change places. Where memory is refused `out` stays as it was.
+/// Appends the number and the words of the refusal of two neighbours that cannot be exchanged. If memory runs out,
+/// `out` stays as it was.
 pub(crate) fn append_swap(out: &mut Vec<u8>, why: SwapRefusal) -> Result<(), OutOfMemory>
     ensures ok { OnOk result (out.new.items ≡ out.old.items ++ (codes "47 " ++ swap_words why)) }
     ensures err { OnErr result (out.new.items ≡ out.old.items) }

@@ -1,4 +1,4 @@
-//! Prints commands and batches as scripts write them.
+//! Prints commands and batches in the form in which scripts have them.
 ghost use Rattle.std.specs.Prelude.{◌≡◌, ◌++◌, OnOk, OnErr, codes, decimal};
 ghost use Rattle.report.specs.Commands.{command_words, separated, commands_words};
 
@@ -6,7 +6,7 @@ use crate::pieces::{Piece, append_pieces};
 use moves::{Command, Name};
 use rapid_text::OutOfMemory;
 
-/// Appends the command's word and its schedule. Where memory is refused `out` stays as it was.
+/// Appends the command's word and its schedule. If memory runs out, `out` stays as it was.
 fn append_named<'a>(out: &mut Vec<u8>, word: &'a [u8], name: &'a Name) -> Result<(), OutOfMemory>
     ensures ok { OnOk result (out.new.items ≡ out.old.items ++ (word.now ++ name.now)) }
     ensures err { OnErr result (out.new.items ≡ out.old.items) }
@@ -15,7 +15,7 @@ fn append_named<'a>(out: &mut Vec<u8>, word: &'a [u8], name: &'a Name) -> Result
     Ok(())
 }
 
-/// Appends the command's word, its schedule and a number. Where memory is refused `out` stays as it was.
+/// Appends the command's word, its schedule and a number. If memory runs out, `out` stays as it was.
 fn append_numbered<'a>(
     out: &mut Vec<u8>,
     word: &'a [u8],
@@ -37,7 +37,7 @@ fn append_numbered<'a>(
     Ok(())
 }
 
-/// Appends the words of a branch. Where memory is refused `out` stays as it was.
+/// Appends the words of a branch. If memory runs out, `out` stays as it was.
 fn append_branch<'a>(
     out: &mut Vec<u8>,
     name: &'a Name,
@@ -61,8 +61,7 @@ fn append_branch<'a>(
     Ok(())
 }
 
-/// Appends the line of a script that makes the command, without the client. Where memory is refused `out`
-/// stays as it was.
+/// Appends the script line for the command, without the client. If memory runs out, `out` stays as it was.
 pub(crate) fn append_command(out: &mut Vec<u8>, command: &Command) -> Result<(), OutOfMemory>
     ensures ok { OnOk result (out.new.items ≡ out.old.items ++ command_words command.now) }
     ensures err { OnErr result (out.new.items ≡ out.old.items) }
@@ -78,7 +77,7 @@ pub(crate) fn append_command(out: &mut Vec<u8>, command: &Command) -> Result<(),
     }
 }
 
-/// Appends a separator and the command.
+/// Appends ` ; ` and the command.
 fn append_separated(out: &mut Vec<u8>, command: &Command) -> Result<(), OutOfMemory>
     ensures ok { OnOk result (out.new.items ≡ out.old.items ++ (codes " ; " ++ command_words command.now)) }
     ensures err { OnErr result (out.new.items ≡ out.old.items) }
@@ -92,7 +91,7 @@ fn append_separated(out: &mut Vec<u8>, command: &Command) -> Result<(), OutOfMem
     Ok(())
 }
 
-/// Appends each command after a separator.
+/// Appends each command after ` ; `.
 fn append_all_separated(out: &mut Vec<u8>, commands: &[Command]) -> Result<(), OutOfMemory>
     ensures ok { OnOk result (out.new.items ≡ out.old.items ++ separated commands.now) }
     ensures err { OnErr result (out.new.items ≡ out.old.items) }
@@ -107,7 +106,7 @@ fn append_all_separated(out: &mut Vec<u8>, commands: &[Command]) -> Result<(), O
     Ok(())
 }
 
-/// Appends the commands, with a separator between two.
+/// Appends the commands, with ` ; ` between two.
 fn append_commands(out: &mut Vec<u8>, commands: &[Command]) -> Result<(), OutOfMemory>
     ensures ok { OnOk result (out.new.items ≡ out.old.items ++ commands_words commands.now) }
     ensures err { OnErr result (out.new.items ≡ out.old.items) }
@@ -124,8 +123,7 @@ fn append_commands(out: &mut Vec<u8>, commands: &[Command]) -> Result<(), OutOfM
     Ok(())
 }
 
-/// Appends the line of a script that makes the batch, without the client. Where memory is refused `out`
-/// stays as it was.
+/// Appends the script line for the batch, without the client. If memory runs out, `out` stays as it was.
 pub(crate) fn append_batch(out: &mut Vec<u8>, commands: &[Command]) -> Result<(), OutOfMemory>
     ensures ok { OnOk result (out.new.items ≡ out.old.items ++ (codes "batch " ++ commands_words commands.now)) }
     ensures err { OnErr result (out.new.items ≡ out.old.items) }

@@ -1,4 +1,4 @@
-//! Prints how much of what is in a trace.
+//! Prints the numbers of events, threads, variables and locks in a trace.
 ghost use Rattle.std.specs.Prelude.{◌≡◌, ◌<◌, ◌++◌, length, OnOk, OnErr};
 ghost use Rattle.rapid_text.specs.Canonical.{name_at};
 ghost use Rattle.report.specs.Info.{info_text, counts_text, thread_line, thread_lines};
@@ -7,8 +7,8 @@ use crate::pieces::{Piece, append_count, append_pieces};
 use event_index::Indexed;
 use rapid_text::OutOfMemory;
 
-/// Appends how many events, threads, variables and locks there are, and for each thread its number, its
-/// name and the number of its events, each in a line. Where memory is refused `out` stays as it was.
+/// Appends the numbers of events, threads, variables and locks, each in a line. Then appends a line for each thread
+/// with its number, its name and the number of its events. If memory runs out, `out` stays as it was.
 pub fn info(indexed: &Indexed, out: &mut Vec<u8>) -> Result<(), OutOfMemory>
     ensures ok { OnOk result (out.new.items ≡ out.old.items ++ info_text indexed.now) }
     ensures err { OnErr result (out.new.items ≡ out.old.items) }

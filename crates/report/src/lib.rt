@@ -1,4 +1,4 @@
-//! What is printed: replies to calls and refusals, the log, what a trace holds, and candidates for a race.
+//! Prints replies to calls, refusals, the log, the contents of a trace, and candidates.
 #![tactic(auto)]
 
 mod candidate_lines;

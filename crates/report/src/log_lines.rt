@@ -9,8 +9,8 @@ use crate::pieces::{Piece, append_count, append_pieces};
 use inverse_log::{Bench, Entry};
 use rapid_text::OutOfMemory;
 
-/// Appends how many entries the log has, and for each its number, its client and what was done, each in a
-/// line. Where memory is refused `out` stays as it was.
+/// Appends the number of log entries, and a line for each with its number, its client and what the client did. If
+/// memory runs out, `out` stays as it was.
 #[tactic(auto, unfolding(crate::specs::Log::log_text))]
 pub fn log(bench: &Bench, out: &mut Vec<u8>) -> Result<(), OutOfMemory>
     ensures ok { OnOk result (out.new.items ≡ out.old.items ++ log_text bench.now.log) }
@@ -40,7 +40,7 @@ fn append_entries(out: &mut Vec<u8>, bench: &Bench) -> Result<(), OutOfMemory>
     Ok(())
 }
 
-/// Appends the line of the entry of this number. Where memory is refused `out` stays as it was.
+/// Appends the line of the log entry with this number. If memory runs out, `out` stays as it was.
 pub fn entry(bench: &Bench, number: u64, out: &mut Vec<u8>) -> Result<(), OutOfMemory>
     requires { number < length bench.now.log }
     ensures ok { OnOk result (out.new.items ≡ out.old.items ++ line_at bench.now.log number) }
@@ -63,7 +63,7 @@ fn append_entry(out: &mut Vec<u8>, number: u64, entry: &Entry) -> Result<(), Out
     Ok(())
 }
 
-/// Whose entry it is.
+/// The client of an entry.
 fn client_of(entry: &Entry) -> u32
     ensures { result ≡ client_of entry.now }
 {
@@ -83,7 +83,7 @@ fn client_of(entry: &Entry) -> u32
     }
 }
 
-/// Appends an entry's number and its client, a space after each.
+/// Appends the entry's number and its client, with a blank after each.
 fn append_head(out: &mut Vec<u8>, number: u64, client: u32) -> Result<(), OutOfMemory>
     ensures ok { OnOk result (out.new.items ≡ out.old.items ++ (decimal number ++ codes " " ++ decimal client ++ codes " ")) }
     ensures err { OnErr result (out.new.items ≡ out.old.items) }
@@ -100,7 +100,7 @@ fn append_head(out: &mut Vec<u8>, number: u64, client: u32) -> Result<(), OutOfM
     Ok(())
 }
 
-/// Appends what was done, and a line end.
+/// Appends what the client did, and a line feed.
 fn append_rest(out: &mut Vec<u8>, entry: &Entry) -> Result<(), OutOfMemory>
     ensures ok { OnOk result (out.new.items ≡ out.old.items ++ (entry_words entry.now ++ codes "\n")) }
     ensures err { OnErr result (out.new.items ≡ out.old.items) }
@@ -114,7 +114,7 @@ fn append_rest(out: &mut Vec<u8>, entry: &Entry) -> Result<(), OutOfMemory>
     Ok(())
 }
 
-/// Appends what was done.
+/// Appends what the client did.
 fn append_entry_words(out: &mut Vec<u8>, entry: &Entry) -> Result<(), OutOfMemory>
     ensures ok { OnOk result (out.new.items ≡ out.old.items ++ entry_words entry.now) }
     ensures err { OnErr result (out.new.items ≡ out.old.items) }

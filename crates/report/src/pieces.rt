@@ -1,4 +1,4 @@
-//! The pieces of a line: the one place where numbers, names and lists become bytes.
+//! Appends the pieces of a line. Only this module turns numbers, names and lists into bytes.
 ghost use Rattle.std.specs.Prelude.{◌≡◌, ◌+◌, ◌*◌, ◌≤◌, ◌++◌, ◌∷◌, IfOk, OnOk, OnErr, codes, decimal, length, vec_len, vec_capacity};
 ghost use Rattle.report.specs.Info.{count_line};
 ghost use Rattle.report.specs.Pieces.{piece_bytes, pieces_text, spaced, spaced_names, spaced_pair, spaced_pairs};
@@ -7,25 +7,25 @@ use itoa::Buffer;
 use moves::Name;
 use rapid_text::OutOfMemory;
 
-/// The most bytes of a space and a number of 32 bits.
+/// The most bytes of a blank and a number of 32 bits.
 const SPACED_NUMBER: usize = 11;
 
 /// A piece of a line.
 #[derive(Clone, Copy)]
 pub enum Piece<'a> {
-    /// Bytes as they are: words, or a name.
+    /// Bytes that are printed as they are: words, or a name.
     Words(&'a [u8]),
     /// A number in decimal digits without leading zeros.
     Number(u64),
-    /// Each of the numbers, with a space before it.
+    /// The numbers, with a blank before each.
     Numbers(&'a [u32]),
-    /// Each of the names, with a space before it.
+    /// The names, with a blank before each.
     Names(&'a [Name]),
-    /// The two numbers of each pair with a hyphen between them, and a space before it.
+    /// The pairs, with a blank before each and a hyphen between its two numbers.
     Pairs(&'a [(u32, u32)]),
 }
 
-/// Appends bytes as they are. Where memory is refused `out` stays as it was.
+/// Appends bytes as they are. If memory runs out, `out` stays as it was.
 pub(crate) fn append_bytes(out: &mut Vec<u8>, bytes: &[u8]) -> Result<(), OutOfMemory>
     ensures ok { OnOk result (out.new.items ≡ out.old.items ++ bytes.now) }
     ensures err { OnErr result (out.new.items ≡ out.old.items) }
@@ -34,7 +34,7 @@ pub(crate) fn append_bytes(out: &mut Vec<u8>, bytes: &[u8]) -> Result<(), OutOfM
     Ok(())
 }
 
-/// Appends a few bytes, for which there is room. For so few a loop is quicker than a call that copies.
+/// Appends a few bytes. `out` must have room for them. For a few bytes a loop is faster than a call that copies them.
 #[inline]
 pub(crate) fn put_few(out: &mut Vec<u8>, bytes: &[u8])
     requires { vec_len out.old + length bytes.now ≤ vec_capacity out.old }
@@ -47,7 +47,7 @@ pub(crate) fn put_few(out: &mut Vec<u8>, bytes: &[u8])
     }
 }
 
-/// Appends a number. Where memory is refused `out` stays as it was.
+/// Appends a number. If memory runs out, `out` stays as it was.
 fn append_number(out: &mut Vec<u8>, number: u64) -> Result<(), OutOfMemory>
     ensures ok { OnOk result (out.new.items ≡ out.old.items ++ decimal number) }
     ensures err { OnErr result (out.new.items ≡ out.old.items) }
@@ -59,7 +59,7 @@ fn append_number(out: &mut Vec<u8>, number: u64) -> Result<(), OutOfMemory>
     Ok(())
 }
 
-/// Appends a space and the number.
+/// Appends a blank and the number.
 fn append_spaced(out: &mut Vec<u8>, number: u64) -> Result<(), OutOfMemory>
     ensures ok { OnOk result (out.new.items ≡ out.old.items ++ 32 ∷ decimal number) }
     ensures err { OnErr result (out.new.items ≡ out.old.items) }
@@ -72,14 +72,14 @@ fn append_spaced(out: &mut Vec<u8>, number: u64) -> Result<(), OutOfMemory>
     Ok(())
 }
 
-/// The room that so many numbers need, each after a space.
+/// How many bytes of room this many numbers need, with a blank before each.
 fn room_of(numbers: usize) -> Result<usize, OutOfMemory>
     ensures { IfOk result (λ room. room ≡ 11 * numbers) }
 {
     numbers.checked_mul(SPACED_NUMBER).ok_or(OutOfMemory)
 }
 
-/// Appends each number after a space. There is room for them.
+/// Appends each number after a blank. `out` must have room for them.
 fn put_numbers(out: &mut Vec<u8>, numbers: &[u32])
     requires { vec_len out.old + 11 * length numbers.now ≤ vec_capacity out.old }
     ensures items { out.new.items ≡ out.old.items ++ spaced numbers.now }
@@ -93,7 +93,7 @@ fn put_numbers(out: &mut Vec<u8>, numbers: &[u32])
     }
 }
 
-/// Appends each number after a space. Room for all is made once.
+/// Appends each number after a blank. Makes room for all of them once.
 fn append_numbers(out: &mut Vec<u8>, numbers: &[u32]) -> Result<(), OutOfMemory>
     ensures ok { OnOk result (out.new.items ≡ out.old.items ++ spaced numbers.now) }
     ensures err { OnErr result (out.new.items ≡ out.old.items) }
@@ -103,8 +103,8 @@ fn append_numbers(out: &mut Vec<u8>, numbers: &[u32]) -> Result<(), OutOfMemory>
     Ok(())
 }
 
-/// Appends a line of words and of numbers, each after a space. Room for the line is made once. This is put where it is
-/// called, so that the words' length is known there, and no call copies them.
+/// Appends a line with words, and numbers with a blank before each. Makes room for the line once. The compiler
+/// inlines this function, so it knows the length of the words, and no call copies them.
 #[inline(always)]
 pub(crate) fn append_numbers_line(
     out: &mut Vec<u8>,
@@ -124,7 +124,7 @@ pub(crate) fn append_numbers_line(
     Ok(())
 }
 
-/// Appends a space and the name.
+/// Appends a blank and the name.
 fn append_name(out: &mut Vec<u8>, name: &Name) -> Result<(), OutOfMemory>
     ensures ok { OnOk result (out.new.items ≡ out.old.items ++ 32 ∷ name.now) }
     ensures err { OnErr result (out.new.items ≡ out.old.items) }
@@ -138,7 +138,7 @@ fn append_name(out: &mut Vec<u8>, name: &Name) -> Result<(), OutOfMemory>
     Ok(())
 }
 
-/// Appends each name after a space.
+/// Appends each name after a blank.
 fn append_names(out: &mut Vec<u8>, names: &[Name]) -> Result<(), OutOfMemory>
     ensures ok { OnOk result (out.new.items ≡ out.old.items ++ spaced_names names.now) }
     ensures err { OnErr result (out.new.items ≡ out.old.items) }
@@ -167,7 +167,7 @@ fn append_hyphened(out: &mut Vec<u8>, number: u64) -> Result<(), OutOfMemory>
     Ok(())
 }
 
-/// Appends a space and the two numbers with a hyphen between them.
+/// Appends a blank and the two numbers with a hyphen between them.
 fn append_pair(out: &mut Vec<u8>, pair: (u32, u32)) -> Result<(), OutOfMemory>
     ensures ok { OnOk result (out.new.items ≡ out.old.items ++ spaced_pair pair) }
     ensures err { OnErr result (out.new.items ≡ out.old.items) }
@@ -182,7 +182,7 @@ fn append_pair(out: &mut Vec<u8>, pair: (u32, u32)) -> Result<(), OutOfMemory>
     Ok(())
 }
 
-/// Appends each pair after a space.
+/// Appends each pair after a blank.
 fn append_pairs(out: &mut Vec<u8>, pairs: &[(u32, u32)]) -> Result<(), OutOfMemory>
     ensures ok { OnOk result (out.new.items ≡ out.old.items ++ spaced_pairs pairs.now) }
     ensures err { OnErr result (out.new.items ≡ out.old.items) }
@@ -211,7 +211,7 @@ fn append_piece(out: &mut Vec<u8>, piece: Piece<'_>) -> Result<(), OutOfMemory>
     }
 }
 
-/// Appends all pieces, in order. Where memory is refused `out` stays as it was.
+/// Appends all pieces, in order. If memory runs out, `out` stays as it was.
 pub fn append_pieces(out: &mut Vec<u8>, pieces: &[Piece<'_>]) -> Result<(), OutOfMemory>
     ensures ok { OnOk result (out.new.items ≡ out.old.items ++ pieces_text pieces.now) }
     ensures err { OnErr result (out.new.items ≡ out.old.items) }
@@ -226,7 +226,7 @@ pub fn append_pieces(out: &mut Vec<u8>, pieces: &[Piece<'_>]) -> Result<(), OutO
     Ok(())
 }
 
-/// Appends the line of a word and a number. Where memory is refused `out` stays as it was.
+/// Appends a line with a word and a number. If memory runs out, `out` stays as it was.
 pub(crate) fn append_count(out: &mut Vec<u8>, word: &[u8], number: u64) -> Result<(), OutOfMemory>
     ensures ok { OnOk result (out.new.items ≡ out.old.items ++ count_line word.now number) }
     ensures err { OnErr result (out.new.items ≡ out.old.items) }

@@ -1,4 +1,4 @@
-//! Prints why a call is refused.
+//! Prints the reason why a call is refused.
 ghost use Rattle.std.specs.Prelude.{◌≡◌, ◌++◌, OnOk, OnErr, codes, decimal};
 ghost use Rattle.report.specs.Causes.{disabled_words, swap_words, refused_line};
 ghost use Rattle.report.specs.Refusals.{move_words, refusal_text};
@@ -11,7 +11,7 @@ use moves::{MoveRefusal, Name};
 use rapid_text::OutOfMemory;
 use schedule::{Disabled, SwapRefusal};
 
-/// Appends why a command is refused.
+/// Appends the reason why a command is refused.
 fn append_move_words(
     out: &mut Vec<u8>,
     indexed: &Indexed,
@@ -32,7 +32,7 @@ fn append_move_words(
     }
 }
 
-/// Appends why a command is refused, and a line end.
+/// Appends the reason why a command is refused, and a line feed.
 fn append_move_end(
     out: &mut Vec<u8>,
     indexed: &Indexed,
@@ -68,7 +68,7 @@ fn append_in_pieces(
     Ok(())
 }
 
-/// Appends the line of a command whose event may not come next. A line that names nothing of the trace is one piece.
+/// Appends the line of a command whose event is not enabled. It is one piece if it names nothing of the trace.
 fn append_disabled_line(
     out: &mut Vec<u8>,
     indexed: &Indexed,
@@ -86,7 +86,7 @@ fn append_disabled_line(
     }
 }
 
-/// Appends the line of a command whose two neighbours may not change places.
+/// Appends the line of a command whose two neighbours cannot be exchanged.
 fn append_swap_line(out: &mut Vec<u8>, why: SwapRefusal) -> Result<(), OutOfMemory>
     ensures ok { OnOk result (out.new.items ≡ out.old.items ++ refused_line (codes "47 " ++ swap_words why)) }
     ensures err { OnErr result (out.new.items ≡ out.old.items) }
@@ -97,7 +97,7 @@ fn append_swap_line(out: &mut Vec<u8>, why: SwapRefusal) -> Result<(), OutOfMemo
     }
 }
 
-/// Appends the line of a refused command, in one piece if it names nothing of the trace.
+/// Appends the line of a refused command. It is one piece if it names nothing of the trace.
 fn append_move(out: &mut Vec<u8>, indexed: &Indexed, why: MoveRefusal) -> Result<(), OutOfMemory>
     ensures ok { OnOk result (out.new.items ≡ out.old.items ++ refused_line (move_words indexed.now why)) }
     ensures err { OnErr result (out.new.items ≡ out.old.items) }
@@ -114,7 +114,7 @@ fn append_move(out: &mut Vec<u8>, indexed: &Indexed, why: MoveRefusal) -> Result
     }
 }
 
-/// Appends where in a batch its refused command stands.
+/// Appends the position of the refused command in its batch.
 fn append_place(out: &mut Vec<u8>, place: u32) -> Result<(), OutOfMemory>
     ensures ok { OnOk result (out.new.items ≡ out.old.items ++ (codes "refused 70 at " ++ decimal place ++ codes " ")) }
     ensures err { OnErr result (out.new.items ≡ out.old.items) }
@@ -150,7 +150,7 @@ fn append_in_batch(
     Ok(())
 }
 
-/// Appends the line of an undo that is refused for what rests on its command.
+/// Appends the line of an undo that is refused because a later entry rests on its entry.
 fn append_rests_on(out: &mut Vec<u8>, entry: u64, name: &Name) -> Result<(), OutOfMemory>
     ensures ok { OnOk result (out.new.items ≡ out.old.items ++ refused_line (codes "52 rests on " ++ decimal entry ++ codes " " ++ name.now)) }
     ensures err { OnErr result (out.new.items ≡ out.old.items) }
@@ -167,7 +167,7 @@ fn append_rests_on(out: &mut Vec<u8>, entry: u64, name: &Name) -> Result<(), Out
     Ok(())
 }
 
-/// Appends the line of a proposal that is no correct reordering.
+/// Appends the line of a proposal that is not a correct reordering.
 fn append_not_reordering(out: &mut Vec<u8>, position: u32) -> Result<(), OutOfMemory>
     ensures ok { OnOk result (out.new.items ≡ out.old.items ++ refused_line (codes "53 not a reordering at " ++ decimal position)) }
     ensures err { OnErr result (out.new.items ≡ out.old.items) }
@@ -182,8 +182,7 @@ fn append_not_reordering(out: &mut Vec<u8>, position: u32) -> Result<(), OutOfMe
     Ok(())
 }
 
-/// Appends the line of a refused call of the trace that `indexed` has. Where memory is refused `out` stays as
-/// it was.
+/// Appends the line of a refused call. `indexed` is the trace of the call. If memory runs out, `out` stays as it was.
 pub fn refusal(indexed: &Indexed, refusal: &Refusal, out: &mut Vec<u8>) -> Result<(), OutOfMemory>
     ensures ok { OnOk result (out.new.items ≡ out.old.items ++ refusal_text indexed.now refusal.now) }
     ensures err { OnErr result (out.new.items ≡ out.old.items) }

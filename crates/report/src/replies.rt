@@ -1,4 +1,4 @@
-//! Prints the replies to calls.
+//! Prints replies to calls.
 ghost use Rattle.std.specs.Prelude.{◌≡◌, ◌++◌, OnOk, OnErr, codes, decimal};
 ghost use Rattle.report.specs.Pieces.{piece_bytes};
 ghost use Rattle.report.specs.Replies.{reply_text};
@@ -8,7 +8,7 @@ use inverse_log::Reply;
 use itoa::Buffer;
 use rapid_text::OutOfMemory;
 
-/// Appends the line of a number and words.
+/// Appends the line of a call that is done.
 fn append_done(out: &mut Vec<u8>, number: u64) -> Result<(), OutOfMemory>
     ensures ok { OnOk result (out.new.items ≡ out.old.items ++ (decimal number ++ codes ": done\n")) }
     ensures err { OnErr result (out.new.items ≡ out.old.items) }
@@ -21,8 +21,8 @@ fn append_done(out: &mut Vec<u8>, number: u64) -> Result<(), OutOfMemory>
     Ok(())
 }
 
-/// Appends the line of a number, words and a second number. It is put where it is called, so that the words' length is
-/// known there, and no call copies them.
+/// Appends a line with a number, words and a second number. The compiler inlines this function, so it knows the
+/// length of the words, and no call copies them.
 #[inline(always)]
 fn append_numbered(
     out: &mut Vec<u8>,
@@ -45,7 +45,7 @@ fn append_numbered(
     Ok(())
 }
 
-/// Appends the line of a word and a list.
+/// Appends a line with a word and a list.
 fn append_list<'a>(out: &mut Vec<u8>, word: &'a [u8], list: Piece<'a>) -> Result<(), OutOfMemory>
     ensures ok { OnOk result (out.new.items ≡ out.old.items ++ (word.now ++ piece_bytes list.entry ++ codes "\n")) }
     ensures err { OnErr result (out.new.items ≡ out.old.items) }
@@ -54,7 +54,7 @@ fn append_list<'a>(out: &mut Vec<u8>, word: &'a [u8], list: Piece<'a>) -> Result
     Ok(())
 }
 
-/// Appends the line of the reply that shows these events. Where memory is refused `out` stays as it was.
+/// Appends the line of a reply that shows these events. If memory runs out, `out` stays as it was.
 pub fn shown(events: &[u32], out: &mut Vec<u8>) -> Result<(), OutOfMemory>
     ensures ok { OnOk result (out.new.items ≡ out.old.items ++ reply_text (Reply.Shown events.now)) }
     ensures err { OnErr result (out.new.items ≡ out.old.items) }
@@ -62,7 +62,7 @@ pub fn shown(events: &[u32], out: &mut Vec<u8>) -> Result<(), OutOfMemory>
     append_numbers_line(out, b"shown", events)
 }
 
-/// Appends the line of a reply. Where memory is refused `out` stays as it was.
+/// Appends the line of a reply. If memory runs out, `out` stays as it was.
 pub fn reply(reply: &Reply, out: &mut Vec<u8>) -> Result<(), OutOfMemory>
     ensures ok { OnOk result (out.new.items ≡ out.old.items ++ reply_text reply.now) }
     ensures err { OnErr result (out.new.items ≡ out.old.items) }

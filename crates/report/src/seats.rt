@@ -1,4 +1,4 @@
-//! Prints why a call through a seat is refused.
+//! Prints the reason why a call through a seat is refused.
 ghost use Rattle.std.specs.Prelude.{◌≡◌, ◌++◌, OnOk, OnErr};
 ghost use Rattle.report.specs.Seats.{seat_refusal_text};
 
@@ -8,8 +8,8 @@ use event_index::Indexed;
 use inverse_log::SeatRefusal;
 use rapid_text::OutOfMemory;
 
-/// Appends the line of a call through a seat that is refused, of the trace that `indexed` has. Where memory is
-/// refused `out` stays as it was.
+/// Appends the line of a refused call through a seat. `indexed` is the trace of the call. If memory runs out, `out`
+/// stays as it was.
 pub fn seat_refusal(
     indexed: &Indexed,
     why: &SeatRefusal,
