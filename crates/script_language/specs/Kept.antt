@@ -1,5 +1,5 @@
--- How the calls of a script are kept: in few bytes each, beside the bytes of all their names and the calls that own
--- memory. No public clause cites this module.
+-- How a script keeps its calls: each in few bytes, and for all of them the bytes of their names and the calls that
+-- own memory. No public clause cites this module.
 use Rattle.std.specs.Prelude.{◌≡◌, ℕ, ◌+◌, ◌<◌, ◌≤◌, true, List, ◌++◌, map, length, take, drop, get_or, All, ⊤}
 use Rattle.moves.specs.Names.{is_name}
 use Rattle.moves.specs.declared.command.Command.TheVariants.{Fresh, Add, Back, Swap, Branch, Drop, Adopt}
@@ -16,7 +16,7 @@ use Rattle.script_language.specs.declared.script.Script.TheInside.{Inside}
 abbrev pub name_in : List ℕ → Kept → List ℕ
 name_in names k = take k.name (drop k.at names)
 
--- its second name, which stands behind the first
+-- the second name of a kept call, which comes after the first
 abbrev pub to_in : List ℕ → Kept → List ℕ
 to_in names k = take k.to (drop (k.at + k.name) names)
 
@@ -36,7 +36,7 @@ call_in ListForm name to number own = ListNames
 call_in RacesForm name to number own = Races name
 call_in Owned name to number own = own
 
--- the call that is kept so
+-- the call that is kept in this form
 abbrev pub call_of : List ℕ → List Call → Kept → Call
 call_of names owned k = call_in k.form (name_in names k) (to_in names k) k.number (get_or owned k.at Undo)
 
@@ -44,7 +44,7 @@ call_of names owned k = call_in k.form (name_in names k) (to_in names k) k.numbe
 abbrev pub asked_of : List ℕ → List Call → Kept → Asked
 asked_of names owned k = record { line = k.line; client = k.client; call = call_of names owned k }
 
--- what it is kept by stands there
+-- the names of a kept call are inside the bytes of all names, or the call is among those that own memory
 abbrev pub IsWithin : Form → List ℕ → List Call → Kept → Type 0
 IsWithin Owned names owned k = k.at < length owned
 IsWithin form names owned k = k.at + k.name + k.to ≤ length names
@@ -58,7 +58,7 @@ HasNames ListForm name to = ⊤
 HasNames Owned name to = ⊤
 HasNames form name to = is_name name ≡ true
 
--- What holds of each call that is kept.
+-- What holds for each kept call.
 pub record IsKept (names : List ℕ) (owned : List Call) (k : Kept) : Type 0 where
   pub within : IsWithin k.form names owned k
   pub named : HasNames k.form (name_in names k) (to_in names k)

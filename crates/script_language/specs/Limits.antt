@@ -1,7 +1,7 @@
--- How large the numbers and lines of a script may be. The constants of the code are measured against these numbers.
+-- The limits of numbers and lines in a script. The constants of the code are compared with these numbers.
 use Rattle.std.specs.Prelude.{ℕ}
 
--- the greatest number that a word may write
+-- the greatest number that a word can write
 abbrev pub number_limit : ℕ
 number_limit = 4294967295
 

@@ -4,7 +4,7 @@ use Rattle.std.specs.List.{list_all, slice_split}
 use Rattle.rapid_text.specs.Reading.{is_blank}
 use Rattle.script_language.specs.Limits.{number_limit}
 
--- the words of a line: what stands between blanks
+-- the words of a line: the bytes between blanks
 abbrev pub words_of : List ℕ → List (List ℕ)
 words_of line = filter (λ word. nat_lt 0 (length word)) (slice_split is_blank line)
 
@@ -20,7 +20,7 @@ is_digit c = nat_le 48 c && nat_le c 57
 abbrev pub value_of : List ℕ → ℕ
 value_of digits = fold (λ value digit. value * 10 + (digit - 48)) 0 digits
 
--- the number that the word writes, if it writes none above the limit; it may begin with zeros
+-- the number that the word writes, if it is not above the limit; it may begin with zeros
 abbrev pub written_number : List ℕ → Option ℕ
 written_number word =
     if nat_lt 0 (length word) && list_all is_digit word && nat_le (value_of word) number_limit

@@ -1,4 +1,4 @@
--- What a line asks of a session: questions begin with the word `?`. The language is this project's own.
+-- The question in a line. Questions begin with the word `?`. The language is this project's own.
 use Rattle.std.specs.Prelude.{ℕ, Bool, if◌then◌else◌, List, [], ◌∷◌, find, Option, Some, None, Result, Ok, Err, codes, bytes_eq}
 use Rattle.script_language.specs.LineWords.{words_of}
 use Rattle.script_language.specs.Scripts.{name_reading, number_reading, nothing_reading, one_name_reading, name_and_number_reading, then_read}
@@ -64,6 +64,6 @@ abbrev pub question_in : List (List ℕ) → Option (Result Question ScriptCause
 question_in [] = None
 question_in (word ∷ words) = if bytes_eq word (codes "?") then Some (question_by words) else None
 
--- what a line asks; none if it is no question
+-- the question in a line; None if the line is not a question
 abbrev pub question_reading : List ℕ → Option (Result Question ScriptCause)
 question_reading line = question_in (words_of line)

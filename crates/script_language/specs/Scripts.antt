@@ -1,5 +1,4 @@
--- What a script says: its calls, or its first refused line with its first cause. The language is this
--- project's own.
+-- What a script says: its calls, or its first refused line and its first cause. The language is this project's own.
 use Rattle.std.specs.Prelude.{◌≡◌, ℕ, ◌+◌, ◌==◌, nat_lt, nat_le, Bool, true, false, ◌&&◌, if◌then◌else◌, List, [], ◌∷◌, ◌++◌, length, map, filter_map, find, All, Option, Some, None, is_some, ok_or, Result, Ok, Err, IsOk, codes, bytes_eq}
 use Rattle.std.specs.List.{list_all, list_any, slice_split}
 use Rattle.rapid_text.specs.Reading.{is_line_feed, trimmed}
@@ -56,7 +55,7 @@ abbrev pub numbers_reading : List (List ℕ) → Result (List ℕ) ScriptCause
 numbers_reading words =
     if list_all (λ word. is_some (written_number word)) words then Ok (filter_map written_number words) else Err BadNumber
 
--- what a reading gives is used, and its fault stays
+-- goes on with the value that was read, or keeps the fault
 abbrev pub then_read : {A B : Type 0} → Result A ScriptCause → (A → Result B ScriptCause) → Result B ScriptCause
 then_read (Ok value) next = next value
 then_read (Err why) next = Err why
@@ -71,7 +70,7 @@ abbrev pub one_name_reading : List (List ℕ) → Result (List ℕ) ScriptCause
 one_name_reading (name ∷ []) = name_reading name
 one_name_reading words = Err BadWord
 
--- a name and a number; arguments are judged from left to right, and their number before them
+-- a name and a number; first the number of arguments is checked, and then the arguments from left to right
 abbrev pub name_and_number_reading : List (List ℕ) → Result (List ℕ × ℕ) ScriptCause
 name_and_number_reading (name ∷ number ∷ []) =
     then_read (name_reading name) (λ n. then_read (number_reading number) (λ k. Ok (n, k)))
@@ -102,17 +101,17 @@ abbrev pub command_reading : List (List ℕ) → Result Command ScriptCause
 command_reading [] = Err BadWord
 command_reading (word ∷ words) = command_with (verb_of word) words
 
--- no command is written with this word, or with so many
+-- no command has this word, or this word with this many arguments
 abbrev pub is_bad_word : Result Command ScriptCause → Bool
 is_bad_word (Err BadWord) = true
 is_bad_word reading = false
 
--- what all of them give, or the first fault
+-- all commands, or the first fault
 abbrev pub all_read : List (Result Command ScriptCause) → Result (List Command) ScriptCause
 all_read [] = Ok []
 all_read (reading ∷ readings) = then_read reading (λ command. then_read (all_read readings) (λ commands. Ok (command ∷ commands)))
 
--- the commands with these words; the word and the number of arguments of each are judged before the arguments of any
+-- the commands with these words; the word and the number of arguments of each are checked before any arguments
 abbrev pub commands_reading : List (List (List ℕ)) → Result (List Command) ScriptCause
 commands_reading parts = if list_any is_bad_word (map command_reading parts) then Err BadWord else all_read (map command_reading parts)
 
@@ -160,13 +159,14 @@ client_by (Some n) = if is_client n then Ok n else Err BadClient
 abbrev pub client_reading : List ℕ → Result ℕ ScriptCause
 client_reading word = client_by (written_number word)
 
--- the words of a line: a client, which is judged first, and a call
+-- the words of a line: a client, which is checked first, and a call
 abbrev pub words_reading : List (List ℕ) → Result (ℕ × Call) ScriptCause
 words_reading [] = Err BadClient
 words_reading (word ∷ words) =
     then_read (client_reading word) (λ client. then_read (call_reading words) (λ call. Ok (client, call)))
 
--- what a line asks for: nothing where it is empty; what stands between its blanks is within the limit
+-- The call in a line; None if the line is empty. Without the blanks at its ends, the line must not be longer than the
+-- limit.
 abbrev pub script_line_reading : List ℕ → Result (Option (ℕ × Call)) ScriptCause
 script_line_reading raw =
     let line = trimmed raw in
@@ -176,7 +176,7 @@ script_line_reading raw =
     then Err LineTooLong
     else then_read (words_reading (words_of line)) (λ asked. Ok (Some asked)))
 
--- A call that a line asks for. Lines are counted from 1, all of them.
+-- The call in a line. All lines are counted, from 1.
 pub record Asked : Type 0 where
   pub line : ℕ
   pub client : ℕ
@@ -186,7 +186,7 @@ abbrev pub asked_by : ℕ → Result (Option (ℕ × Call)) ScriptCause → List
 asked_by line (Ok (Some (client, call))) = record { line = line; client = client; call = call } ∷ []
 asked_by line reading = []
 
--- what lines ask for, in order, of which n lines stand before them
+-- the calls in these lines, in order, if n lines come before them
 abbrev pub asked_behind : ℕ → List (List ℕ) → List Asked
 asked_behind n [] = []
 asked_behind n (line ∷ lines) = asked_by (n + 1) (script_line_reading line) ++ asked_behind (n + 1) lines
@@ -195,7 +195,7 @@ asked_behind n (line ∷ lines) = asked_by (n + 1) (script_line_reading line) ++
 abbrev pub AreRead : List (List ℕ) → Type 0
 AreRead lines = All (λ line. IsOk (script_line_reading line)) lines
 
--- The line behind `before` is the first that is refused, for this cause.
+-- The line after `before` is the first that is refused, for this cause.
 pub record IsFirstRefused (lines : List (List ℕ)) (refusal : ScriptRefusal) : Type 0 where
   pub before : List (List ℕ)
   pub line : List ℕ
@@ -205,13 +205,13 @@ pub record IsFirstRefused (lines : List (List ℕ)) (refusal : ScriptRefusal) : 
   pub refused : script_line_reading line ≡ Err refusal.why
   pub place : refusal.line ≡ length before + 1
 
--- What a script says: the calls of its lines, where none is refused, or the first line that is.
+-- What a script says: the calls of its lines if no line is refused, or the first refused line.
 abbrev pub IsScript : List ℕ → Result (List Asked) ScriptRefusal → Type 0
 IsScript text (Ok asked) =
     let lines = slice_split is_line_feed text in
     AreRead lines × (asked ≡ asked_behind 0 lines)
 IsScript text (Err refusal) = IsFirstRefused (slice_split is_line_feed text) refusal
 
--- a growth was refused; no line is at fault
+-- memory ran out; no line is at fault
 abbrev pub no_memory : ScriptRefusal
 no_memory = record { line = 0; why = OutOfMemory }

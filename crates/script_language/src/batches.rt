@@ -47,7 +47,7 @@ fn are_arguments(verb: CommandVerb, words: &mut Words<'_>) -> bool
     }
 }
 
-/// Whether no command is written with this word, or with so many. The arguments are not read.
+/// Whether no command has this word, or this word with this many arguments. Does not read the arguments.
 fn is_bad_command(words: &mut Words<'_>) -> bool
     ensures { result ≡ is_bad_word (command_reading words.old) }
 {
@@ -60,7 +60,7 @@ fn is_bad_command(words: &mut Words<'_>) -> bool
     }
 }
 
-/// Whether one of the parts between separators is no command with its arguments.
+/// Whether one of the parts between separators is not a command with its arguments.
 fn has_bad_word(words: Words<'_>) -> bool
     ensures { result ≡ list_any is_bad_word (map command_reading (slice_split is_separator words.entry)) }
 {
@@ -90,8 +90,8 @@ fn read_commands(alloc: Global, words: Words<'_>) -> Result<Commands, ScriptCaus
     Ok(commands)
 }
 
-/// The commands of a batch. Each one's word and number of arguments are judged before the arguments of any. A batch
-/// that is not refused is read in one pass.
+/// Reads the commands of a batch. Checks the word and the number of arguments of each command before it reads any
+/// arguments. Reads a batch without faults in one pass.
 #[tactic(auto, using(crate::proofs::QuickBatchLemmas::batch_at_once))]
 pub(crate) fn read_batch(alloc: Global, words: &mut Words<'_>) -> Result<Call, ScriptCause>
     ensures { (result ≡ Err OutOfMemory) ⊎ (result ≡ batch_reading words.old) }

@@ -1,4 +1,4 @@
-//! Reads the call that a script line asks for.
+//! Reads the call in a script line.
 ghost use Rattle.std.specs.Prelude.{◌≡◌, ◌⊎◌, ◌≤◌, ℕ, IfOk, IfSome, Ok, Err, Some};
 ghost use Rattle.dependence.specs.Limits.{client_limit};
 ghost use Rattle.script_language.specs.Scripts.{name_reading, number_reading, numbers_reading, nothing_reading, one_name_reading, name_and_number_reading, branch_reading, command_arguments_reading, command_with, command_reading, batch_reading, undo_reading, propose_reading, arguments_reading, call_reading, client_reading, words_reading, script_line_reading};
@@ -52,7 +52,7 @@ fn read_numbers(alloc: Global, words: &mut Words<'_>) -> Result<EventList, Scrip
     Ok(numbers)
 }
 
-/// No word is to be left.
+/// Fails if a word is left.
 pub(crate) fn read_nothing(words: &mut Words<'_>) -> Result<(), ScriptCause>
     ensures { result ≡ nothing_reading words.old }
 {
@@ -244,7 +244,8 @@ fn read_words(alloc: Global, words: &mut Words<'_>) -> Result<(u32, Call), Scrip
     Ok((client, call))
 }
 
-/// The client and the call of a line; none for an empty line. `OutOfMemory` where memory was refused.
+/// Returns the client and the call of a line; None if the line is empty. Fails with the line's first fault, or with
+/// `OutOfMemory`.
 pub fn read_line(alloc: Global, raw: &[u8]) -> Result<Option<(u32, Call)>, ScriptCause>
     ensures reading { (result ≡ Err OutOfMemory) ⊎ (result ≡ script_line_reading raw.now) }
     ensures client { IfOk result (λ asked. IfSome asked (λ pair. (1 ≤ pair.0) × (pair.0 ≤ client_limit))) }

@@ -1,4 +1,5 @@
-//! How a call of a script is kept: in few bytes, beside the bytes of all names, unless it owns memory.
+//! How a script keeps a call: in few bytes, with its names in one text for all calls. A call that owns memory is kept
+//! as it is.
 ghost use Rattle.std.specs.Prelude.{◌≡◌, ◌≢◌, ◌+◌, ◌<◌, ◌≤◌, true, List, length, take, drop, get_or, IfOk};
 ghost use Rattle.inverse_log.specs.declared.call.Call.{Call};
 ghost use Rattle.inverse_log.specs.declared.call.Call.TheVariants.{Do, Undo as UndoCall};
@@ -40,30 +41,31 @@ pub(crate) enum Form {
     List,
     /// `races`
     Races,
-    /// A call that owns memory, or a number that no script can write; it is kept as it was read.
+    /// A call that owns memory, or that has a number which no script can write. It is kept as it was read.
     Owned,
 }
 
-/// A call of a script, its line and its client. A call in place would take some 150 bytes, twenty times the line `1 list`.
+/// A call of a script, its line and its client. A whole call would take some 150 bytes, twenty times the line `1
+/// list`.
 #[derive(Clone, Copy)]
 pub(crate) struct Kept {
     /// The line, counted from 1.
     pub(crate) line: u64,
-    /// Where its names begin among the bytes of all names; of a call that owns memory its place among these.
+    /// The index of its names in the bytes of all names. For a call that owns memory, the index among these calls.
     pub(crate) at: usize,
     /// The number among its arguments.
     pub(crate) number: u32,
-    /// What kind of call it is.
+    /// The kind of call.
     pub(crate) form: Form,
     /// The client.
     pub(crate) client: u8,
     /// How many bytes its name has.
     pub(crate) name: u8,
-    /// How many bytes its second name has, which stands behind the first.
+    /// How many bytes its second name has. It comes after the first name.
     pub(crate) to: u8,
 }
 
-/// Keeps a call of this form with these names, which may be empty where it has none.
+/// Keeps a call of this form with these names. A name that the form does not have is empty.
 pub(crate) fn keep_names(
     names: &mut Vec<u8>,
     form: Form,
@@ -240,7 +242,7 @@ fn second_name(names: &[u8], kept: &Kept) -> Name
     name_at(names, kept.at + kept.name as usize, kept.to)
 }
 
-/// A kept call that owns no memory, made anew.
+/// Makes a kept call that owns no memory.
 #[inline(always)]
 pub(crate) fn made(names: &[u8], kept: &Kept) -> Call
     requires form { kept.now.form ≢ Owned }

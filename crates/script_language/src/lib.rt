@@ -1,4 +1,4 @@
-//! The language of scripts: lines of a client's number, a command word and its arguments.
+//! The language of scripts: lines with a client's number, a command word and its arguments.
 #![tactic(auto)]
 
 mod batches;

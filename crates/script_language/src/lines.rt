@@ -84,7 +84,7 @@ impl<'a> Words<'a> {
         }
     }
 
-    /// The words behind the first `;`, if there is one.
+    /// The words after the first `;`, if there is one.
     pub(crate) fn behind_separator(&self) -> Option<Words<'a>>
         ensures { parts_left (Some self.now) ≡ before_first is_separator self.now ∷ parts_left result }
     {
@@ -114,7 +114,7 @@ impl<'a> Words<'a> {
 /// The lines of a text that were not taken yet. Contracts see it as the list of these lines.
 #[derive(Drop)]
 pub struct Lines<'a> {
-    // None once the last line was taken, which has no end.
+    // None after the last line was taken, which has no line feed.
     rest: Option<&'a [u8]>,
 }
 
@@ -128,14 +128,14 @@ impl<'a> Model for Lines<'a> {
 }
 
 impl<'a> Lines<'a> {
-    /// All lines of the text, without their ends.
+    /// Returns all lines of the text, without their line feeds.
     pub fn of(text: &'a [u8]) -> Lines<'a>
         ensures { result ≡ slice_split is_line_feed text.now }
     {
         Lines { rest: Some(text) }
     }
 
-    /// Takes the first line.
+    /// Takes the first line. Returns None if no line is left.
     pub fn next(&mut self) -> Option<&'a [u8]>
         ensures none { IfNone result (self.old ≡ []) }
         ensures some { IfSome result (λ line. self.old ≡ line.now ∷ self.new) }
@@ -153,7 +153,7 @@ impl<'a> Lines<'a> {
         }
     }
 
-    /// What is left as one text; nothing where no line is left.
+    /// Returns the lines that are left as one text; empty if no line is left.
     pub fn text(&self) -> &'a [u8]
         ensures { result.now ≡ join_with_byte 10 self.now }
     {

@@ -21,7 +21,7 @@ fn are_decimal(word: &[u8]) -> bool
     word.iter().all(|byte| is_decimal(*byte))
 }
 
-/// The value of decimal digits, or 4,294,967,296 where it is greater.
+/// The value of decimal digits; 4,294,967,296 if the value is greater.
 fn bounded_value(digits: &[u8]) -> u64
     requires { list_all is_digit digits.now ≡ true }
     ensures { result ≡ min (value_of digits.now) (number_limit + 1) }

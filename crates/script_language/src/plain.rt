@@ -1,4 +1,4 @@
-//! Calls that own no memory, as a script gives them before they are made.
+//! Calls that own no memory, in the form in which a script gives them.
 ghost use Rattle.std.specs.Prelude.{◌≡◌, ◌≢◌, ◌+◌, ◌≤◌, ℕ, List, length, IfSome, IfNone};
 ghost use Rattle.inverse_log.specs.declared.call.Call.{Call as CallValue};
 ghost use Rattle.script_language.specs.Kept.{name_in, to_in, call_in, HasNames};
@@ -9,9 +9,9 @@ use inverse_log::Call;
 use moves::Name;
 use std::marker::Model;
 
-/// A call that owns no memory, as its script keeps it. Contracts see it as the call.
+/// A call that owns no memory, in the form in which its script keeps it. Contracts see it as the call.
 ///
-/// A call has some 140 bytes, so it is made once, where it is used, and not handed on.
+/// A call has some 140 bytes. So it is made only once, where it is used, and is not moved.
 #[derive(Drop)]
 pub struct PlainCall<'a> {
     // the bytes of all names
@@ -41,7 +41,7 @@ impl<'a> PlainCall<'a> {
         PlainCall { names, kept }
     }
 
-    /// The call, made. It takes no memory.
+    /// Makes the call. Needs no memory.
     #[inline(always)]
     pub fn made(&self) -> Call
         ensures { result ≡ self.now }
@@ -49,7 +49,7 @@ impl<'a> PlainCall<'a> {
         made(self.names, self.kept)
     }
 
-    /// The schedule that the call shows, if it is a call `Show`.
+    /// Returns the schedule that the call shows; None if it is not a call `Show`.
     pub fn shown(&self) -> Option<Name>
         ensures some { IfSome result (λ name. self.now ≡ CallValue.Show name) }
         ensures none { IfNone result ((name : List ℕ) → self.now ≢ CallValue.Show name) }
@@ -61,7 +61,7 @@ impl<'a> PlainCall<'a> {
     }
 }
 
-/// A call of a script: one that is not made yet, or lent where it owns memory. Either takes no memory.
+/// A call of a script: one that is not made yet, or a borrowed one if it owns memory. Neither needs memory.
 #[derive(Drop)]
 pub enum GivenCall<'a> {
     /// A call that owns no memory.

@@ -1,4 +1,4 @@
-//! Questions: lines whose first word is `?`, which a session answers and which change nothing.
+//! Questions: lines whose first word is `?`. A session answers them, and they change nothing.
 ghost use Rattle.std.specs.Prelude.{◌≡◌};
 ghost use Rattle.script_language.specs.Questions.{question_word_of, one_number_reading, two_numbers_reading, part_reading, question_arguments, question_by, question_in, question_reading};
 
@@ -7,10 +7,10 @@ use crate::lines::Words;
 use crate::refusal::ScriptCause;
 use moves::Name;
 
-/// What a line asks of a session.
+/// The question in a line.
 #[derive(Clone, Copy)]
 pub enum Question {
-    /// `next NAME`: what each thread may do next after a schedule.
+    /// `next NAME`: what each thread does next after a schedule.
     Next {
         /// The schedule.
         name: Name,
@@ -19,10 +19,10 @@ pub enum Question {
     Witness {
         /// One of the two events.
         first: u32,
-        /// The other.
+        /// The other event.
         second: u32,
     },
-    /// `run NAME E`: how far the thread of an event may go on after a schedule, up to that event.
+    /// `run NAME E`: how far the thread of an event can go on after a schedule, up to that event.
     Run {
         /// The schedule.
         name: Name,
@@ -33,9 +33,9 @@ pub enum Question {
     Part {
         /// The schedule.
         name: Name,
-        /// The first position, from 0.
+        /// The first position, counted from 0.
         from: u32,
-        /// The most events.
+        /// The most events to return.
         count: u32,
     },
     /// `rows`: all schedules.
@@ -186,7 +186,8 @@ fn read_words(words: &mut Words<'_>) -> Option<Result<Question, ScriptCause>>
     Some(read_asked(words))
 }
 
-/// The question that a line asks, or what is wrong with it; none if the line's first word is not `?`, and so it is no question.
+/// Returns the question in a line, or what is wrong with it. Returns None if the first word of the line is not `?`,
+/// so that it is not a question.
 pub fn read_question(line: &[u8]) -> Option<Result<Question, ScriptCause>>
     ensures { result ≡ question_reading line.now }
 {

@@ -1,4 +1,4 @@
-//! Reads a batch that is not refused: each of its words is cut once.
+//! Reads a batch without faults: it splits each of its words off only once.
 ghost use Rattle.std.specs.Prelude.{◌≡◌, ◌∷◌, [], IfSome, Ok, map};
 ghost use Rattle.std.specs.List.{slice_split};
 ghost use Rattle.script_language.specs.LineWords.{is_separator};
@@ -11,7 +11,8 @@ use crate::verb::{CommandVerb, Verb, verb_with};
 use moves::{Command, Commands, Name};
 use std::alloc::Global;
 
-/// Whether a separator stands there, and more commands; or nothing, at the end of the batch.
+/// Whether a separator comes next, and so more commands; false at the end of the batch. Returns None if another word
+/// comes next.
 #[tactic(auto, using(crate::proofs::QuickBatchLemmas::ends_here, crate::proofs::QuickBatchLemmas::ends_more))]
 fn has_more(words: &mut Words<'_>) -> Option<bool>
     ensures { IfSome result (λ more. slice_split is_separator words.old ≡ [] ∷ parts_behind more words.new) }
@@ -99,7 +100,7 @@ fn arguments(verb: CommandVerb, words: &mut Words<'_>) -> Option<(Command, bool)
     }
 }
 
-/// Puts the next command behind the others, if it is not refused; says whether there are more commands.
+/// Adds the next command, if it has no fault. Returns whether there are more commands.
 #[tactic(auto, using(crate::proofs::QuickBatchLemmas::parts_of_command))]
 fn push_next(commands: &mut Commands, words: &mut Words<'_>) -> Option<bool>
     ensures { IfSome result (λ more. Pushes words.old commands.old more words.new commands.new) }
@@ -115,7 +116,7 @@ fn push_next(commands: &mut Commands, words: &mut Words<'_>) -> Option<bool>
     Some(more)
 }
 
-/// The commands between separators, if none is refused and there is memory for them.
+/// The commands between separators. Returns None if one has a fault, or if memory runs out.
 #[tactic(auto, using(crate::proofs::QuickBatchLemmas::pushed_on, crate::proofs::QuickBatchLemmas::pushed_fewer, crate::proofs::QuickBatchLemmas::pushed_all))]
 pub(crate) fn quick_commands(alloc: Global, words: Words<'_>) -> Option<Commands>
     ensures { IfSome result (λ commands. all_read (map command_reading (slice_split is_separator words.entry)) ≡ Ok commands) }

@@ -11,7 +11,7 @@ use crate::script::Script;
 use crate::simple::{Found, found_on};
 use std::alloc::Global;
 
-/// The refusal for want of memory; no line is at fault.
+/// The refusal if memory runs out. No line is at fault.
 fn no_script_memory() -> ScriptRefusal
     ensures { result ≡ no_memory }
 {
@@ -21,7 +21,7 @@ fn no_script_memory() -> ScriptRefusal
     }
 }
 
-/// The refusal of a line, or for want of memory.
+/// The refusal of a line, or the one if memory ran out.
 fn refusal_at(line: u64, why: ScriptCause) -> ScriptRefusal
     ensures { result ≡ refusal_for line why }
 {
@@ -31,8 +31,8 @@ fn refusal_at(line: u64, why: ScriptCause) -> ScriptRefusal
     }
 }
 
-/// Reads a script: the calls that its lines ask for, or the first line that is refused with its first
-/// cause, 81 to 85; or 86 where memory was refused, which may come before a later fault is seen.
+/// Reads a script. Returns the calls of its lines, or the first refused line and its first cause, 81 to 85. If memory
+/// runs out it returns 86, perhaps before it sees a fault of a later line.
 pub fn read_script(alloc: Global, text: &[u8]) -> Result<Script, ScriptRefusal>
     ensures read { IfOk result (λ script. IsScript text.now (Ok script)) }
     ensures refused { IfErr result (λ refusal. (refusal ≡ no_memory) ⊎ IsScript text.now (Err refusal)) }

@@ -15,7 +15,7 @@ use std::marker::Model;
 
 /// The calls of a script, each with its client and its line. Contracts see it as the list of these.
 ///
-/// It keeps 24 bytes for each call beside the names in it, and a call that owns memory as it was read.
+/// It keeps 24 bytes for each call, and the names in it. It keeps a call that owns memory as it was read.
 #[derive(Drop)]
 pub struct Script {
     kept: Vec<Kept>,
@@ -37,7 +37,7 @@ impl Model for Script {
     ghost invariant = { AreKept };
 }
 
-/// A call of a script: made of what the script keeps, or lent where it owns memory. Either takes no memory.
+/// A call of a script: made from what the script keeps, or borrowed if it owns memory. Neither needs memory.
 #[derive(Drop)]
 pub enum ScriptCall<'a> {
     /// A call that owns no memory.
@@ -70,7 +70,7 @@ impl Script {
         }
     }
 
-    /// Puts a call behind the others.
+    /// Adds a call at the end.
     pub(crate) fn push(&mut self, line: u64, client: u32, call: Call) -> Result<(), OutOfMemory>
         requires client { (1 ≤ client) × (client ≤ client_limit) }
         ensures { OnOk result (self.new ≡ self.old ++ record { line = line; client = client; call = call } ∷ []) }
@@ -80,7 +80,7 @@ impl Script {
         Ok(())
     }
 
-    /// Puts a call that owns no memory behind the others.
+    /// Adds a call that owns no memory at the end.
     pub(crate) fn push_simple(
         &mut self,
         line: u64,
@@ -121,7 +121,7 @@ impl Script {
         u32::from(self.kept[at].client)
     }
 
-    /// The call itself. It takes no memory.
+    /// Returns the call with this index. Needs no memory.
     pub fn call(&self, at: usize) -> ScriptCall<'_>
         requires { at < length self.now }
         ensures { option_map (λ asked. asked.call) (slice_get self.now at) ≡ Some (call_given result) }
@@ -133,7 +133,7 @@ impl Script {
         }
     }
 
-    /// The same, not made yet where it owns no memory.
+    /// The same, but does not make a call that owns no memory yet.
     pub fn given(&self, at: usize) -> GivenCall<'_>
         requires { at < length self.now }
         ensures { option_map (λ asked. asked.call) (slice_get self.now at) ≡ Some (call_there result) }
@@ -145,7 +145,7 @@ impl Script {
         }
     }
 
-    /// The line of the first call of another client, if there is one.
+    /// Returns the line of the first call of another client, if there is one.
     pub fn stranger(&self, client: u32) -> Option<u64>
         ensures { result ≡ option_map (λ asked. asked.line) (find (λ asked. not (asked.client == client)) self.now) }
     {

@@ -1,4 +1,4 @@
-//! Reads the calls that own no memory from their lines, without making them: their names are lent.
+//! Reads calls that own no memory from their lines, without making them: it borrows their names.
 ghost use Rattle.std.specs.Prelude.{◌≡◌, ◌≤◌, true, length, IfSome, Ok, Some};
 ghost use Rattle.dependence.specs.Limits.{client_limit};
 ghost use Rattle.inverse_log.specs.declared.call.Call.{Call};
@@ -16,7 +16,7 @@ use rapid_text::trim;
 /// The most bytes of a name.
 const MAX_NAME: usize = 64;
 
-/// A call that owns no memory, with its names as its line has them.
+/// A call that owns no memory, with its names borrowed from its line.
 #[derive(Clone, Copy)]
 pub(crate) struct Simple<'a> {
     /// What kind of call it is.
@@ -29,12 +29,12 @@ pub(crate) struct Simple<'a> {
     pub(crate) to: &'a [u8],
 }
 
-/// What is found on a line of a script.
+/// What a script line has.
 #[derive(Drop)]
 pub(crate) enum Found<'a> {
     /// A call that owns no memory.
     Simple(Simple<'a>),
-    /// The words of a batch, which were not read yet.
+    /// The words of a batch, not read yet.
     Batch(Words<'a>),
 }
 
@@ -214,8 +214,8 @@ fn words_of<'a>(words: &mut Words<'a>) -> Option<(u32, Found<'a>)>
     Some((client, call))
 }
 
-/// The client of a line and what is found there, if the line asks for a batch, or for a call that owns no memory and is
-/// not refused.
+/// The client of a line, and what the line has. Returns None unless it has a batch, or a call without faults that
+/// owns no memory.
 pub(crate) fn found_on(raw: &[u8]) -> Option<(u32, Found<'_>)>
     ensures asks { IfSome result (λ pair. AsksLine pair.0 pair.1 (script_line_reading raw.now)) }
     ensures client { IfSome result (λ pair. (1 ≤ pair.0) × (pair.0 ≤ client_limit)) }

@@ -1,8 +1,8 @@
-//! The words of a script that say what is called.
+//! The words of calls and commands.
 ghost use Rattle.std.specs.Prelude.{◌≡◌};
 ghost use Rattle.script_language.specs.Scripts.{verb_of};
 
-/// What kind of command a word asks for.
+/// The kind of command with a word.
 #[derive(Clone, Copy, PartialEq, Eq, Debug)]
 pub enum CommandVerb {
     /// `new`
@@ -21,7 +21,7 @@ pub enum CommandVerb {
     Adopt,
 }
 
-/// What kind of call a word asks for.
+/// The kind of call with a word.
 #[derive(Clone, Copy, PartialEq, Eq, Debug)]
 pub enum Verb {
     /// The word of a command.
