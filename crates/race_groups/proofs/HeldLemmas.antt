@@ -4,18 +4,21 @@ use Rattle.std.specs.List.{list_any, slice_get}
 use Rattle.std.specs.Option.{option_map}
 use Rattle.std.specs.declared.alloc.Global.{Global}
 use Rattle.std.proofs.lemmas.Bool.{true≢false, or_cases, or_left, or_right, and_right, cases_eq, cases_lt, le-ltb, ne_eqb}
+use Rattle.std.proofs.lemmas.List.Sorted.{list_any-IsPermutation}
 use Rattle.std.proofs.lemmas.List.Sums.{sum_by-cons, sum_by_push}
+use Rattle.std.specs.List.Sorted.{IsPermutation}
 use Rattle.std.proofs.lemmas.Option.{same_Some, slice_get_within}
 use Rattle.rapid_text.specs.Operations.{is_acquire, is_release}
 use Rattle.rapid_text.specs.declared.event.Event.{Event}
 use Rattle.rapid_text.specs.declared.event.Op.TheVariants.{Acquire, Release}
 use Rattle.trace_rules.specs.Rules.{IsDisciplined, hold_count}
 use Rattle.trace_rules.proofs.Counts.{slice_get-set, list_any-from_count}
-use Rattle.event_index.proofs.CallerLemmas.{hold_same, hold_taken, hold_freed, takes_not_thread, frees_not_thread, thread_here}
+use Rattle.event_index.proofs.CallerLemmas.{hold_same, hold_taken, hold_freed, takes_not_thread, frees_not_thread}
+use Rattle.event_index.specs.Events.{thread_at}
 use Rattle.event_index.proofs.HoldLemmas.{takes_from, frees_from, acquire_frees_not, release_takes_not, takes_not_lock, frees_not_lock}
 use Rattle.race_groups.proofs.BuildLemmas.{get_either}
 use Rattle.race_groups.specs.Building.{text_at}
-use Rattle.race_groups.specs.Holding.{times, AreHeld, AreLocksOf, IsLent}
+use Rattle.race_groups.specs.Holding.{times, AreHeld, AreLocksOf, AreLocksOfThread, IsLent}
 use Rattle.race_groups.specs.Shared.{is_meeting}
 use Rattle.race_groups.specs.Takers.{AreTakers, is_lent}
 
@@ -162,27 +165,36 @@ lent_passes T threads takers are l lent =
       | inr ge ↦ ap not (le-ltb (slice_index takers l) threads ge)
     ]
 
--- a list that is numbered has the locks that it was numbered for
-pub AreLocksOf-from : (T : List Event) (lists held : List (Vec ℕ Global)) (threads : ℕ) (takers : List ℕ) (n k : ℕ) (v : Event) (u : Vec ℕ Global) → AreTakers T threads takers
-    → slice_get T n ≡ Some v → AreHeld T n held → slice_get held v.thread ≡ Some u → text_at lists k ≡ Some (filter (is_lent takers threads) u.items) → AreLocksOf T lists n k
-AreLocksOf-from T lists held threads takers n k v u are_takers at are is listed =
+-- A list that is numbered has the locks of the thread that it was made for, in whatever order.
+pub AreLocksOfThread-from : (T : List Event) (lists held : List (Vec ℕ Global)) (threads : ℕ) (takers : List ℕ) (n k t : ℕ) (u : Vec ℕ Global) (made : List ℕ) → AreTakers T threads takers
+    → AreHeld T n held → slice_get held t ≡ Some u → IsPermutation (filter (is_lent takers threads) u.items) made → text_at lists k ≡ Some made → AreLocksOfThread T lists n t k
+AreLocksOfThread-from T lists held threads takers n k t u made are_takers are is shuffled listed =
     let kept = is_lent takers threads in
-    let found = found_list (slice_get lists k) (filter kept u.items) listed in
+    let found = found_list (slice_get lists k) made listed in
+    let any : (l : ℕ) → list_any (λ m. m == l) (filter kept u.items) ≡ list_any (λ m. m == l) found.0.items =
+    λ l. list_any-IsPermutation (λ m. m == l) (filter kept u.items) made shuffled ∙ ap (list_any (λ m. m == l)) (sym found.2) in
     record {
       locks = found.0;
       at = found.1;
       held = λ l stands.
-          let there = any_of_filter kept (λ m. m == l) u.items (ap (list_any (λ m. m == l)) (sym found.2) ∙ stands) in
+          let there = any_of_filter kept (λ m. m == l) u.items (any l ∙ stands) in
           let some = count_from_any (λ m. m == l) u.items there in
-          let same : times l u.items ≡ hold_count (take n T) v.thread l = are v.thread u l is in
-          (v.thread, thread_here T n v at, omega (arith, some, same));
+          let same : times l u.items ≡ hold_count (take n T) t l = are t u l is in
+          omega (arith, some, same);
       lent = λ l holds lent.
-          let one : v.thread ≡ holds.0 = same_Some v.thread holds.0 (sym (thread_here T n v at) ∙ holds.1) in
-          let above : 0 < hold_count (take n T) v.thread l = subst (λ t. 0 < hold_count (take n T) t l) (sym one) holds.2 in
-          let same : times l u.items ≡ hold_count (take n T) v.thread l = are v.thread u l is in
-          let there = list_any-from_count (λ m. m == l) (λ m. m == l) u.items (λ m passes. passes) (omega (arith, above, same)) in
-          ap (list_any (λ m. m == l)) found.2 ∙ any_in_filter kept l u.items (lent_passes T threads takers are_takers l lent) there;
+          let same : times l u.items ≡ hold_count (take n T) t l = are t u l is in
+          let there = list_any-from_count (λ m. m == l) (λ m. m == l) u.items (λ m passes. passes) (omega (arith, holds, same)) in
+          sym (any l) ∙ any_in_filter kept l u.items (lent_passes T threads takers are_takers l lent) there;
     }
+
+-- the thread's list is that of its event
+pub AreLocksOf-thread : (T : List Event) (lists : List (Vec ℕ Global)) (n t k : ℕ) → thread_at T n ≡ Some t → AreLocksOfThread T lists n t k → AreLocksOf T lists n k
+AreLocksOf-thread T lists n t k is of = record {
+  locks = of.locks;
+  at = of.at;
+  held = λ l stands. (t, is, of.held l stands);
+  lent = λ l holds lent. of.lent l (subst (λ s. 0 < hold_count (take n T) s l) (same_Some holds.0 t (sym holds.1 ∙ is)) holds.2) lent;
+}
 
 -- a list more, of a thread that holds nothing
 pub AreHeld-push : (T : List Event) (held after : List (Vec ℕ Global)) (w : Vec ℕ Global) → AreHeld T 0 held → after ≡ held ++ w ∷ [] → w.items ≡ [] → AreHeld T 0 after

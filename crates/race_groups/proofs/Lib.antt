@@ -15,6 +15,7 @@ pub mod ConflictLemmas
 pub mod LaterLemmas
 pub mod OwnerLemmas
 pub mod MonotoneLemmas
+pub mod ListingLemmas
 pub mod LooseLemmas
 pub mod ClassLemmas
 pub mod BasisLemmas

@@ -1,5 +1,6 @@
--- A list of locks has one in common with itself, where it has one.
-use Rattle.std.proofs.Common.{◌≡◌, ℕ, suc, ◌==◌, ◌||◌, true, not, List, [], ◌∷◌, Vec, length, Some, refl, sym, ap, ◌∙◌, arith, ne_eqb}
+-- What two lists of locks have in common: that of a list and itself, and that of two lists that rise.
+use Rattle.std.proofs.Common.{◌≡◌, ◌≢◌, ◌<◌, ℕ, suc, ◌==◌, ◌||◌, true, false, not, List, [], ◌∷◌, Vec, length, slice_index, Some, refl, sym, ap, ◌∙◌, arith, ne_eqb}
+use Rattle.race_groups.proofs.BuildLemmas.{length-cons}
 use Rattle.std.specs.declared.alloc.Global.{Global}
 use Rattle.std.specs.List.{list_any, slice_get}
 use Rattle.std.proofs.lemmas.Bool.{eq-eqb}
@@ -18,3 +19,17 @@ shares_itself lists i j v now at same is =
     ∙ ap (λ o. is_sharing_by o o) at
     ∙ meets_itself v.items
     ∙ ap (λ xs. not (length xs == 0)) (sym is)
+
+-- an element that none of the list is
+absent : (x : ℕ) (ys : List ℕ) → ((k : ℕ) → k < length ys → x ≢ slice_index ys k) → list_any (λ k. k == x) ys ≡ false
+absent x [] never = refl
+absent x (y ∷ ys) never =
+    ap (λ b. b || list_any (λ k. k == x) ys) (ne_eqb y x (λ e. never 0 (omega (arith, length-cons y ys)) (sym e)))
+    ∙ absent x ys (λ k lt. never (suc k) (omega (arith, lt, length-cons y ys)))
+
+-- lists that have no element in common, place by place
+pub apart_lists : (xs ys : List ℕ) → ((i k : ℕ) → i < length xs → k < length ys → slice_index xs i ≢ slice_index ys k) → is_meeting xs ys ≡ false
+apart_lists [] ys apart = refl
+apart_lists (x ∷ xs) ys apart =
+    ap (λ b. b || is_meeting xs ys) (absent x ys (λ k lt. apart 0 k (omega (arith, length-cons x xs)) lt))
+    ∙ apart_lists xs ys (λ i k within lt. apart (suc i) k (omega (arith, within, length-cons x xs)) lt)

@@ -1,5 +1,5 @@
 -- The locks that threads hold, as lists, and the lists that classes name. `T` is the events of a trace.
-use Rattle.std.specs.Prelude.{◌≡◌, ◌≢◌, ℕ, ◌==◌, true, List, take, count_by, Some, slice_get, Vec}
+use Rattle.std.specs.Prelude.{◌≡◌, ◌≢◌, ℕ, ◌<◌, ◌==◌, true, List, take, count_by, Option, Some, slice_get, Vec}
 use Rattle.std.specs.List.{list_any}
 use Rattle.std.specs.declared.alloc.Global.{Global}
 use Rattle.rapid_text.specs.declared.event.Event.{Event}
@@ -31,3 +31,18 @@ pub record AreLocksOf (T : List Event) (lists : List (Vec ℕ Global)) (e n : �
   pub at : slice_get lists n ≡ Some locks
   pub held : (l : ℕ) → list_any (λ k. k == l) locks.items ≡ true → IsHeldBefore T e l
   pub lent : (l : ℕ) → IsHeldBefore T e l → IsLent T l → list_any (λ k. k == l) locks.items ≡ true
+
+-- List n is there. It has locks that the thread holds after the first m events, and of those all that more than one thread takes.
+pub record AreLocksOfThread (T : List Event) (lists : List (Vec ℕ Global)) (m t n : ℕ) : Type 0 where
+  pub locks : Vec ℕ Global
+  pub at : slice_get lists n ≡ Some locks
+  pub held : (l : ℕ) → list_any (λ k. k == l) locks.items ≡ true → 0 < hold_count (take m T) t l
+  pub lent : (l : ℕ) → 0 < hold_count (take m T) t l → IsLent T l → list_any (λ k. k == l) locks.items ≡ true
+
+-- Where the number of a thread's list is known, that list has its locks after the first m events.
+abbrev pub AreKnown : List Event → ℕ → List (Vec ℕ Global) → List (Option ℕ) → Type 0
+AreKnown T m lists known = (t n : ℕ) → slice_get known t ≡ Some (Some n) → AreLocksOfThread T lists m t n
+
+-- no thread's list is known
+abbrev pub AreUnknown : List (Option ℕ) → Type 0
+AreUnknown known = (t n : ℕ) → slice_get known t ≢ Some (Some n)

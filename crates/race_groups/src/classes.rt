@@ -1,15 +1,16 @@
 //! The classes of a trace's events.
 ghost use Rattle.std.specs.Prelude.{◌≡◌, ◌+◌, ◌++◌, ◌∷◌, ◌⊎◌, [], ◌<◌, ◌≤◌, ℕ, true, false, IfOk, OnOk, All, Some, None, IfSome, length, slice_get, slice_index};
 ghost use Rattle.event_index.specs.Relations.{is_access};
-ghost use Rattle.race_groups.specs.Building.{AreNumbered, AreMembersBelow, IsGrown, text_at};
+ghost use Rattle.race_groups.specs.Building.{AreNumbered, AreMembersBelow, IsGrown};
 ghost use Rattle.race_groups.specs.Classes.{AreClasses, AreLocks, AreMembers};
-ghost use Rattle.race_groups.specs.Holding.{AreHeld};
+ghost use Rattle.race_groups.specs.Holding.{AreHeld, AreKnown};
 ghost use Rattle.race_groups.specs.Takers.{AreTakers};
 
 use crate::class::Class;
 use crate::grouping::{Regrouped, grouped};
-use crate::holding::{begin, note, number_of};
-use crate::takers::{keep_lent, takers_of};
+use crate::holding::{begin, note};
+use crate::listing::{Holds, Listing};
+use crate::takers::takers_of;
 use event_index::Indexed;
 use indexmap::IndexSet;
 use rapid_text::{Op, OutOfMemory};
@@ -106,8 +107,7 @@ struct Numbering {
     numbers: Vec<u32>,
     infos: Vec<Class>,
     lists: IndexSet<Vec<u32>>,
-    // Those of the locks that a thread holds which more than one thread takes.
-    lent: Vec<u32>,
+    listing: Listing,
 }
 
 // The classes of all events.
@@ -127,64 +127,49 @@ fn numbering_of(
         numbers: Vec::with_capacity(alloc, indexed.len() as usize)?,
         infos: Vec::new(alloc),
         lists: IndexSet::new(alloc),
-        lent: Vec::new(alloc),
+        listing: Listing::new(alloc, indexed)?,
     };
     let mut held = begin(alloc, indexed)?;
     for event in 0..indexed.len() {
-        numbering.add(indexed, places, takers, held.as_slice(), event)?;
+        let holds = Holds {
+            indexed,
+            takers,
+            held: held.as_slice(),
+        };
+        numbering.add(holds, places, event)?;
         note(&mut held, indexed, event)?;
     }
     Ok(numbering)
 }
 
 impl Numbering {
-    // Takes in the next event. `held` has for each thread the locks that it holds before that.
-    fn add(
-        &mut self,
-        indexed: &Indexed,
-        places: &[u32],
-        takers: &[u32],
-        held: &[Vec<u32>],
-        event: u32,
-    ) -> Result<(), OutOfMemory>
-        requires event { event < length indexed.now.events }
-        requires places { length places.now ≡ length indexed.now.events }
-        requires takers { AreTakers indexed.now.events (length indexed.now.threads) takers.now }
-        requires held { AreHeld indexed.now.events event held.now }
-        requires len { length held.now ≡ length indexed.now.threads }
-        requires numbered { AreNumbered indexed.now.events (slice_index places.now) event self.old.numbers.items self.old.infos.items self.old.lists.keys }
-        ensures { OnOk result (AreNumbered indexed.now.events (slice_index places.now) (event + 1)
+    // Takes in the next event.
+    fn add(&mut self, holds: Holds<'_>, places: &[u32], event: u32) -> Result<(), OutOfMemory>
+        requires event { event < length holds.indexed.now.events }
+        requires places { length places.now ≡ length holds.indexed.now.events }
+        requires takers { AreTakers holds.indexed.now.events (length holds.indexed.now.threads) holds.takers.now }
+        requires held { AreHeld holds.indexed.now.events event holds.held.now }
+        requires len { length holds.held.now ≡ length holds.indexed.now.threads }
+        requires known { AreKnown holds.indexed.now.events event self.old.lists.keys self.old.listing.known.items }
+        requires threads { length self.old.listing.known.items ≡ length holds.indexed.now.threads }
+        requires numbered { AreNumbered holds.indexed.now.events (slice_index places.now) event
+            self.old.numbers.items self.old.infos.items self.old.lists.keys }
+        ensures numbered { OnOk result (AreNumbered holds.entry.indexed.now.events (slice_index places.now) (event + 1)
             self.new.numbers.items self.new.infos.items self.new.lists.keys) }
+        ensures known { OnOk result (AreKnown holds.entry.indexed.now.events (event + 1) self.new.lists.keys
+            self.new.listing.known.items) }
+        ensures threads { OnOk result (length self.new.listing.known.items ≡ length self.old.listing.known.items) }
     {
-        let found = indexed.event(event);
-        let locks = held[found.thread as usize].as_slice();
-        keep_lent(&mut self.lent, locks, takers, indexed.threads())?;
-        let alloc = *self.lent.allocator();
+        let _len = holds.indexed.len();
+        let held = self.listing.number(&mut self.lists, holds, event)?;
         let class = Class {
             place: places[event as usize],
-            op: found.op,
-            held: list_number(&mut self.lists, alloc, self.lent.as_slice(), found.op)?,
+            op: holds.indexed.event(event).op,
+            held,
         };
         let number = class_number(&mut self.keys, &mut self.infos, class)?;
         self.numbers.push(number)?;
         Ok(())
-    }
-}
-
-// The number of the list of locks under which this is done; 0 where it is no access.
-fn list_number(
-    lists: &mut IndexSet<Vec<u32>>,
-    alloc: Global,
-    locks: &[u32],
-    op: Op,
-) -> Result<u32, OutOfMemory>
-    requires { length lists.old.keys < 1048576 }
-    ensures at { IfOk result (λ n. (x : ℕ) → is_access x op ≡ true → text_at lists.new.keys n ≡ Some locks.now) }
-    ensures grown { OnOk result (IsGrown lists.old.keys lists.new.keys) }
-{
-    match variable_of(op) {
-        Some(_) => number_of(lists, alloc, locks),
-        None => Ok(0),
     }
 }
 

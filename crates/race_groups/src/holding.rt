@@ -113,7 +113,10 @@ fn let_go(locks: &mut Vec<u32>, lock: u32)
     requires { 0 < times lock locks.old.items }
     ensures { (k : ℕ) → times k locks.new.items + cond (lock == k) 1 0 ≡ times k locks.old.items }
 {
-    for at in 0..locks.len() {
+    // The lock that was taken last is mostly let go first.
+    let mut at = locks.len();
+    while at > 0 {
+        at -= 1;
         if locks[at] == lock {
             locks.remove(at);
             return;

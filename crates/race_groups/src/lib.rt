@@ -17,6 +17,7 @@ mod heavy;
 mod holding;
 mod kinds;
 pub mod least_pairs;
+mod listing;
 mod loose;
 mod owners;
 mod passing;

@@ -1,0 +1,161 @@
+//! The numbers of the lists of locks that threads hold. A list is made again only after its thread took a lock or let one go.
+ghost use Rattle.std.specs.Prelude.{◌≡◌, ◌+◌, ◌<◌, ℕ, IfOk, OnOk, Some, Vec, filter, length, slice_get, true};
+ghost use Rattle.std.specs.List.Sorted.{IsPermutation};
+ghost use Rattle.std.specs.declared.alloc.Global.{Global};
+ghost use Rattle.event_index.specs.Events.{op_at};
+ghost use Rattle.rapid_text.specs.declared.event.Op.{Op};
+ghost use Rattle.event_index.specs.Relations.{is_access};
+ghost use Rattle.race_groups.specs.Building.{IsGrown, text_at};
+ghost use Rattle.race_groups.specs.Holding.{AreHeld, AreKnown, AreLocksOf, AreLocksOfThread, AreUnknown};
+ghost use Rattle.race_groups.specs.Takers.{AreTakers, is_lent};
+
+use crate::classes::variable_of;
+use crate::holding::number_of;
+use crate::takers::keep_lent;
+use event_index::Indexed;
+use indexmap::IndexSet;
+use rapid_text::OutOfMemory;
+use std::alloc::Global;
+
+/// The most locks that the lists may have together which are made one after another. A trace whose threads never hold
+/// more than 1,024 locks at once stays below this.
+const MOST_MADE: u64 = 1_073_741_824;
+
+/// The most locks that the different lists may have together: half a gigabyte.
+const MOST_KEPT: u64 = 134_217_728;
+
+/// What the threads hold before an event, and for each lock the thread that takes it if only one does.
+#[derive(Clone, Copy)]
+pub(crate) struct Holds<'a> {
+    pub(crate) indexed: &'a Indexed,
+    pub(crate) takers: &'a [u32],
+    pub(crate) held: &'a [Vec<u32>],
+}
+
+/// The lists that were made last.
+#[derive(Drop)]
+pub(crate) struct Listing {
+    /// For each thread the number of its list, if it was made since the thread last took a lock or let one go.
+    pub(crate) known: Vec<Option<u32>>,
+    // The locks of the list that is being made.
+    lent: Vec<u32>,
+    // How many locks the lists have that were made, and how many those have that are kept.
+    made: u64,
+    kept: u64,
+}
+
+impl Listing {
+    /// No list was made yet.
+    pub(crate) fn new(alloc: Global, indexed: &Indexed) -> Result<Listing, OutOfMemory>
+        ensures known { IfOk result (λ made. AreUnknown made.known.items) }
+        ensures threads { IfOk result (λ made. length made.known.items ≡ length indexed.now.threads) }
+    {
+        let threads = indexed.threads();
+        let mut known = Vec::with_capacity(alloc, threads as usize)?;
+        for _thread in 0..threads {
+            known.push(None)?;
+        }
+        Ok(Listing {
+            known,
+            lent: Vec::new(alloc),
+            made: 0,
+            kept: 0,
+        })
+    }
+
+    /// The number of the list of locks under which the event accesses a variable; 0 if it is no access. The lists of one
+    /// trace take at most half a gigabyte: beyond that the answer is that there is no memory.
+    pub(crate) fn number(
+        &mut self,
+        lists: &mut IndexSet<Vec<u32>>,
+        holds: Holds<'_>,
+        event: u32,
+    ) -> Result<u32, OutOfMemory>
+        requires few { length lists.old.keys < 1048576 }
+        requires event { event < length holds.indexed.now.events }
+        requires takers { AreTakers holds.indexed.now.events (length holds.indexed.now.threads) holds.takers.now }
+        requires held { AreHeld holds.indexed.now.events event holds.held.now }
+        requires len { length holds.held.now ≡ length holds.indexed.now.threads }
+        requires known { AreKnown holds.indexed.now.events event lists.old.keys self.old.known.items }
+        requires threads { length self.old.known.items ≡ length holds.indexed.now.threads }
+        ensures at { IfOk result (λ n. (x : ℕ) (op : Op) → op_at holds.entry.indexed.now.events event ≡ Some op → is_access x op ≡ true
+            → AreLocksOf holds.entry.indexed.now.events lists.new.keys event n) }
+        ensures grown { OnOk result (IsGrown lists.old.keys lists.new.keys) }
+        ensures known { OnOk result (AreKnown holds.entry.indexed.now.events (event + 1) lists.new.keys self.new.known.items) }
+        ensures threads { OnOk result (length self.new.known.items ≡ length self.old.known.items) }
+    {
+        let found = holds.indexed.event(event);
+        let _len = holds.indexed.len();
+        let Some(_variable) = variable_of(found.op) else {
+            self.known[found.thread as usize] = None;
+            return Ok(0);
+        };
+        let number = self.list_of(lists, holds, event, found.thread)?;
+        Ok(number)
+    }
+
+    // The number of the thread's list before the event.
+    fn list_of(
+        &mut self,
+        lists: &mut IndexSet<Vec<u32>>,
+        holds: Holds<'_>,
+        _event: u32,
+        thread: u32,
+    ) -> Result<u32, OutOfMemory>
+        requires few { length lists.old.keys < 1048576 }
+        requires thread { thread < length holds.indexed.now.threads }
+        requires takers { AreTakers holds.indexed.now.events (length holds.indexed.now.threads) holds.takers.now }
+        requires held { AreHeld holds.indexed.now.events _event holds.held.now }
+        requires len { length holds.held.now ≡ length holds.indexed.now.threads }
+        requires known { AreKnown holds.indexed.now.events _event lists.old.keys self.old.known.items }
+        requires threads { length self.old.known.items ≡ length holds.indexed.now.threads }
+        ensures at { IfOk result (λ n. AreLocksOfThread holds.entry.indexed.now.events lists.new.keys _event thread n) }
+        ensures grown { OnOk result (IsGrown lists.old.keys lists.new.keys) }
+        ensures known { OnOk result (AreKnown holds.entry.indexed.now.events _event lists.new.keys self.new.known.items) }
+        ensures threads { OnOk result (length self.new.known.items ≡ length self.old.known.items) }
+    {
+        if let Some(number) = self.known[thread as usize] {
+            return Ok(number);
+        }
+        self.gather(holds, thread)?;
+        let number = self.numbered(lists)?;
+        self.known[thread as usize] = Some(number);
+        Ok(number)
+    }
+
+    // Makes the thread's list: those of its locks that more than one thread takes, in the order of their numbers.
+    fn gather(&mut self, holds: Holds<'_>, thread: u32) -> Result<(), OutOfMemory>
+        requires thread { thread < length holds.held.now }
+        ensures lent { OnOk result ((u : Vec ℕ Global) → slice_get holds.entry.held.now thread ≡ Some u
+            → IsPermutation (filter (is_lent holds.entry.takers.now (length holds.entry.indexed.now.threads)) u.items) self.new.lent.items) }
+        ensures known { self.new.known ≡ self.old.known }
+    {
+        let locks = holds.held[thread as usize].as_slice();
+        self.made = self.made.saturating_add(locks.len() as u64);
+        if self.made > MOST_MADE {
+            return Err(OutOfMemory);
+        }
+        keep_lent(&mut self.lent, locks, holds.takers, holds.indexed.threads())?;
+        self.lent.sort_unstable();
+        Ok(())
+    }
+
+    // The number of the list that was made.
+    fn numbered(&mut self, lists: &mut IndexSet<Vec<u32>>) -> Result<u32, OutOfMemory>
+        requires few { length lists.old.keys < 1048576 }
+        ensures at { IfOk result (λ n. text_at lists.new.keys n ≡ Some self.old.lent.items) }
+        ensures grown { OnOk result (IsGrown lists.old.keys lists.new.keys) }
+        ensures known { self.new.known ≡ self.old.known }
+    {
+        let before = lists.len();
+        let alloc = *self.lent.allocator();
+        let number = number_of(lists, alloc, self.lent.as_slice())?;
+        if lists.len() > before {
+            self.kept = self.kept.saturating_add(self.lent.len() as u64);
+            if self.kept > MOST_KEPT {
+                return Err(OutOfMemory);
+            }
+        }
+        Ok(number)
+    }
+}
