@@ -1,0 +1,13 @@
+# T1 and T2 hold 20 locks each. They write y under one lock more, v in an order that another lock made, and x in none.
+seq 41 | sed 's/.*/T3|acq(l&)|1\nT3|rel(l&)|1/'
+seq 20 | sed 's/.*/T1|acq(l&)|1/'
+seq 21 40 | sed 's/.*/T2|acq(l&)|2/'
+echo 'T2|w(x)|3'
+echo 'T1|w(v)|4'
+echo 'T1|acq(l41)|1'
+echo 'T1|w(y)|5'
+echo 'T1|rel(l41)|1'
+echo 'T2|acq(l41)|2'
+echo 'T2|w(y)|6'
+echo 'T2|w(v)|7'
+echo 'T1|w(x)|8'
