@@ -192,6 +192,24 @@ def own_locks(events, threads):
     return lines
 
 
+def nested_locks(events):
+    """One thread takes a fourth of the events' number of locks, which another took before, and then writes in turn with it."""
+    locks = range(events // 4)
+    lines = [f"T0|{word}(l{lock})|p" for lock in locks for word in ("acq", "rel")]
+    lines += [f"T1|acq(l{lock})|p" for lock in locks]
+    return lines + ["T1|w(x)|q", "T0|w(x)|r"] * ((events - len(lines)) // 2)
+
+
+def compared_locks(held, written):
+    """Two threads hold so many locks each, and write one variable at so many places each; half of the pairs are ordered."""
+    locks = [[f"{side}{lock}" for lock in range(held)] for side in "ab"]
+    lines = [f"T2|{word}({lock})|p" for lock in locks[0] + locks[1] for word in ("acq", "rel")]
+    lines += [f"T{thread}|acq({lock})|p" for thread in range(2) for lock in locks[thread]]
+    lines += [f"T0|w(x)|p{place}" for place in range(written)]
+    lines += ["T0|acq(m)|p", "T0|rel(m)|p", "T1|acq(m)|p", "T1|rel(m)|p"]
+    return lines + [f"T1|w(x)|q{place}" for place in range(written)] + [f"T0|w(x)|r{place}" for place in range(written)]
+
+
 def told_to_all(events, threads):
     """One thread writes a variable, and then all others read it, again and again: each event learns something."""
     lines = []
@@ -224,6 +242,8 @@ def write_places(folder):
     write_trace(folder, f"scattered_widely_16_{EVENTS}", scattered_widely(EVENTS, 16))
     write_trace(folder, f"own_locks_16_{4 * EVENTS}", own_locks(4 * EVENTS, 16))
     write_trace(folder, f"told_to_all_256_{MOST_EVENTS}", told_to_all(MOST_EVENTS, 256))
+    write_trace(folder, f"nested_locks_{MOST_EVENTS}", nested_locks(MOST_EVENTS))
+    write_trace(folder, f"compared_locks_{sized(1_000)}", compared_locks(sized(1_000), sized(20)))
     write_trace(folder, f"one_writing_{sized(100_000)}", one_writing_place(sized(100_000)))
     write_trace(folder, f"written_everywhere_{sized(40_000)}", [f"T0|w(x)|p{i}" for i in range(sized(40_000))])
 
