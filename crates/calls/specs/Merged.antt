@@ -9,7 +9,7 @@ use Rattle.client_scripts.specs.declared.fault.ReplayFault.TheVariants.{Write, O
 use Rattle.race_parts.specs.Cells.{AreSorted, row_said, rows_in}
 use Rattle.race_parts.specs.Merging.{ClashesIn, Gives, IsRefused}
 use Rattle.race_parts.specs.Objects.{merged_lines}
-use Rattle.race_parts.specs.Parts.{joined, text_at, told_in}
+use Rattle.race_parts.specs.Parts.{AreThere, joined, text_at, told_in}
 use Rattle.race_parts.specs.Texts.{heads_count, merged_words}
 use Rattle.race_parts.specs.declared.cells.Cell.{Cell}
 use Rattle.race_parts.specs.declared.cells.Row.{Row}
@@ -36,6 +36,11 @@ IsTaken rest name old new =
     (bytes : List ℕ) × (given : List (List ℕ × List ℕ))
     × IfSome rest (λ told. bytes ≡ told) × Gives name bytes given
     × ((q : Vec ℕ Global) → text_at new q ≡ joined (text_at old q) (told_in given q.items))
+
+-- The bytes that were read give parts, and each of these is among the parts.
+abbrev pub AreTakenIn : Option (List ℕ) → List ℕ → Named → Type 0
+AreTakenIn rest name new =
+    (bytes : List ℕ) × (given : List (List ℕ × List ℕ)) × IfSome rest (λ told. bytes ≡ told) × Gives name bytes given × AreThere new given
 
 -- Why a file of this name and number is not taken in among parts: it is not read, or what is read is refused. At a clash a part of it has the
 -- name of another part, which has another text and comes from the file of the last number.

@@ -3,7 +3,7 @@ ghost use Rattle.std.specs.Prelude.{◌≡◌, List, ℕ, Vec, Err, IfErr, IfOk,
 ghost use Rattle.std.specs.declared.alloc.Global.{Global};
 ghost use Rattle.client_scripts.specs.declared.fault.ReadCause.TheVariants.{Device};
 ghost use Rattle.client_scripts.specs.declared.fault.ReplayFault.TheVariants.{OutOfMemory as NoMemory, Read, Write};
-ghost use Rattle.calls.specs.Merged.{IsMergedJson, IsMergedText, IsTaken, IsUntaken, IsWritten, IsWrittenJson};
+ghost use Rattle.calls.specs.Merged.{AreTakenIn, IsMergedJson, IsMergedText, IsTaken, IsUntaken, IsWritten, IsWrittenJson};
 ghost use Rattle.calls.specs.declared.merge_fault.MergeFault.TheVariants.{Replay};
 
 use crate::merge_fault::MergeFault;
@@ -27,6 +27,7 @@ pub fn read_part<S: Source>(
     requires { S.has_failed reader.old ≡ false }
     // The parts come from bytes that were read. If the type of the reader shows its bytes, they are those.
     ensures ok { OnOk result (IsTaken (S.rest reader.old) name.now parts.old parts.new) }
+    ensures there { OnOk result (AreTakenIn (S.rest reader.old) name.now parts.new) }
     ensures err { IfErr result (IsUntaken parts.old file name.now (S.rest reader.old)) }
     ensures device { result ≡ Err (Replay (Read file Device)) → S.has_failed reader.new ≡ true }
     ensures failed { S.has_failed reader.new ≡ true → result ≡ Err (Replay (Read file Device)) }
