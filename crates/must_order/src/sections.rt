@@ -154,7 +154,10 @@ impl Sections {
         ensures found { IfSome result (EndsHeld indexed.now.events self.now event) }
         ensures none { result ≡ None → EndsNone indexed.now.events self.now event }
     {
-        for at in 0..self.held.len() {
+        // The section that began last mostly ends first.
+        let mut at = self.held.len();
+        while at > 0 {
+            at -= 1;
             if indexed.section(self.held[at]) == Some(event) {
                 return Some(at);
             }
