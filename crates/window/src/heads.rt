@@ -1,6 +1,6 @@
 //! A text that stands in the place of what was read, before a piece of a trace.
-ghost use Rattle.std.specs.Prelude.{◌≡◌, ◌++◌, [], if◌then◌else◌, codes, IfOk, OnOk};
-ghost use Rattle.window.specs.HeadText.{all_kept, all_of, head_text, noted_lines, said_line};
+ghost use Rattle.std.specs.Prelude.{◌≡◌, ◌++◌, ℕ, List, [], false, if◌then◌else◌, codes, IfOk, OnOk};
+ghost use Rattle.window.specs.HeadText.{all_kept, all_of, first_outside, head_text, noted_lines, said_line};
 ghost use Rattle.window.specs.Heads.{level_names, names_of, past_of};
 ghost use Rattle.window.specs.Streams.{is_named, read_name};
 
@@ -60,6 +60,40 @@ fn append_calls(
     for other in 0..raw.threads() {
         append_call(text, noted, thread, word, raw.thread_name(other))?;
     }
+    Ok(())
+}
+
+// Whether a thread of the piece is noted.
+fn is_any_noted(noted: &Levels, raw: &RawTrace) -> bool
+    ensures none { result ≡ false
+        → (line : List ℕ → List ℕ) → noted_lines line (level_names noted.now) raw.now.threads ≡ [] }
+{
+    for thread in 0..raw.threads() {
+        if is_noted(noted, raw.thread_name(thread)) {
+            return true;
+        }
+    }
+    false
+}
+
+// Appends for each thread of the piece that was joined: the line by which the first thread that was not joined joins it. That first thread
+// is looked for only if there is such a line. In a trace that keeps the rules a joined thread has no further event, so no piece has one.
+fn append_joins(
+    text: &mut Vec<u8>,
+    raw: &RawTrace,
+    seen: &Levels,
+    joined: &Levels,
+) -> Result<(), OutOfMemory>
+    ensures { OnOk result
+        (text.new.items
+        ≡ text.old.items
+        ++ noted_lines (λ name. said_line (first_outside (level_names seen.now) (level_names joined.now)) (codes "join") name)
+            (level_names joined.now) raw.now.threads) }
+{
+    if !is_any_noted(joined, raw) {
+        return Ok(());
+    }
+    append_calls(text, raw, joined, first_other(seen, joined), b"join")?;
     Ok(())
 }
 
@@ -173,11 +207,10 @@ impl Known {
     {
         let mut text = Vec::new(alloc);
         let first = first_of(&self.seen);
-        let other = first_other(&self.seen, &self.joined);
         append_calls(&mut text, raw, &self.forked, first, b"fork")?;
         append_reads(&mut text, raw, &self.seen)?;
         text.extend_from_slice(self.held.as_slice())?;
-        append_calls(&mut text, raw, &self.joined, other, b"join")?;
+        append_joins(&mut text, raw, &self.seen, &self.joined)?;
         Ok(text)
     }
 }
