@@ -88,7 +88,7 @@ fn append_joins(
         (text.new.items
         ≡ text.old.items
         ++ noted_lines (λ name. said_line (first_outside (level_names seen.now) (level_names joined.now)) (codes "join") name)
-            (level_names joined.now) raw.now.threads) }
+        (level_names joined.now) raw.now.threads) }
 {
     if !is_any_noted(joined, raw) {
         return Ok(());
