@@ -4,6 +4,7 @@ there is nothing to judge.
 
     judge_judges.py PROGRAM [JUDGE ..]      with names, such as judge_cut, only these
 
+The gate is judged too, under the name `gate`: a part that cannot start is one failure, and the others are run.
 A wrong program is a shell script that runs the right one and changes what it prints. The last line is `N passed, M
 failed`.
 """
@@ -11,6 +12,7 @@ failed`.
 import concurrent.futures
 import os
 import pathlib
+import shutil
 import subprocess
 import sys
 
@@ -67,6 +69,36 @@ NOTHING = {
     **{f"judge_{name}": ["0"] for name in "cut left merge merged_sarif places questions sarif triage triage_file windows".split()},
 }
 
+# The gate, and parts of it that stand in for the real ones; all others are missing. It finds no other commands.
+GATE = HERE.parent / "tools/test"
+PARTS = {
+    "lint": (0o755, "#!/bin/sh\necho 1 passed, 0 failed\n"),
+    "test-record": (0o644, "#!/bin/sh\necho 10 passed, 0 failed\n"),
+    "test-screen": (0o755, "#!/no/such/program\necho 10 passed, 0 failed\n"),
+    "test-programs": (0o755, "#!/bin/sh\necho 2 passed, 0 failed\n"),
+    "test-memory": (0o755, "#!/bin/sh\necho 4 passed, 0 failed\n"),
+}
+# What the gate counts: three parts pass, and six cannot start or are not there.
+COUNTED = "7 passed, 6 failed"
+
+
+def gate_told(folder: pathlib.Path) -> list[str]:
+    """What is wrong with the gate on parts that cannot start."""
+    tools = folder / "tools"
+    tools.mkdir()
+    for name, (mode, text) in PARTS.items():
+        (tools / name).write_text(text, encoding="ascii")
+        (tools / name).chmod(mode)
+    gate = shutil.copy(GATE, tools / "test")
+    words = [sys.executable, "-B", str(gate)]
+    alone = {"PATH": str(tools)}
+    done = subprocess.run(words, capture_output=True, text=True, timeout=LONGEST, check=False, env=alone)
+    last = done.stdout.splitlines()[-1:]
+    if (done.returncode, last, done.stderr) != (1, [COUNTED], ""):
+        return [f"status {done.returncode}, and the last line is {last}, not `{COUNTED}`: {done.stderr[-600:]}"]
+    unable = ("rt", "tools/test-record", "tools/test-screen", "tools/test-faults")
+    return [f"it does not say why {part} cannot start" for part in unable if f"\n{part}: " not in done.stdout]
+
 
 def wrong_program(folder: pathlib.Path, program: str, what: str) -> str:
     """Writes a wrong program, and answers its path."""
@@ -106,6 +138,8 @@ def judged(run: judging.Run) -> None:
         for case, wrong in zip(cases, pool.map(told_of, *zip(*cases))):
             judge, program, arguments = case
             run.case(f"{judge}, {os.path.basename(program)} {' '.join(arguments)}", wrong)
+    if not run.texts or "gate" in run.texts:
+        run.case("the gate, on parts that cannot start", gate_told(pathlib.Path.cwd()))
 
 
 if __name__ == "__main__":
