@@ -20,7 +20,7 @@ from judging import Wrong
 RUNS = [
     (["info", "none"], "racebench: read failed\n", "note: none does not exist\n"),
     (["info", "bad"], "racebench: trace line 2: 1 no bar\n", "note: line 2 of bad is `T1 w(x)`\n"),
-    (["explain", "good", "0", "0"], "racebench: no such pair\n", "note: both events are of thread T1\n"),
+    (["explain", "good", "0", "0"], "racebench: no such pair\n", "note: both numbers are event 0: a pair has two events\n"),
     (["replay", "good", "none"], "racebench: read failed\n", "note: none does not exist\n"),
     ([], "", "note: there is no line `---`, so there is no script\n"),
     (["info", "good"], "", ""),

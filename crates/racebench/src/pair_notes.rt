@@ -78,10 +78,13 @@ fn append_reason(
 ) -> Result<(), OutOfMemory> {
     let len = indexed.len();
     if one >= len {
-        return append_no_event(out, one, len);
+        return append_no_event(out, one, u64::from(len));
     }
     if other >= len {
-        return append_no_event(out, other, len);
+        return append_no_event(out, other, u64::from(len));
+    }
+    if one == other {
+        return append_same_event(out, one);
     }
     let first = indexed.event(one);
     if first.thread == indexed.event(other).thread {
@@ -96,9 +99,17 @@ fn append_reason(
     Ok(())
 }
 
+/// Appends the note on one event that is named twice.
+fn append_same_event(out: &mut Vec<u8>, event: u32) -> Result<(), OutOfMemory> {
+    out.extend_from_slice(b"note: both numbers are event ")?;
+    append_number(out, u64::from(event))?;
+    out.extend_from_slice(b": a pair has two events\n")?;
+    Ok(())
+}
+
 /// Appends the note on a number that is not an event. `len` is how many events the trace has. A number past those of
 /// events comes as the largest, so the note does not show that one.
-pub(crate) fn append_no_event(out: &mut Vec<u8>, event: u32, len: u32) -> Result<(), OutOfMemory> {
+pub(crate) fn append_no_event(out: &mut Vec<u8>, event: u32, len: u64) -> Result<(), OutOfMemory> {
     out.extend_from_slice(b"note: ")?;
     if event == u32::MAX {
         out.extend_from_slice(b"so large a number")?;
@@ -110,7 +121,7 @@ pub(crate) fn append_no_event(out: &mut Vec<u8>, event: u32, len: u32) -> Result
         return Ok(());
     }
     out.extend_from_slice(b" is not an event: those of the trace are 0 to ")?;
-    append_number(out, u64::from(len - 1))?;
+    append_number(out, len - 1)?;
     out.extend_from_slice(b"\n")?;
     Ok(())
 }

@@ -69,7 +69,7 @@ fn append_event_note(
     if number < indexed.len() {
         return Ok(false);
     }
-    append_no_event(out, number, indexed.len())?;
+    append_no_event(out, number, u64::from(indexed.len()))?;
     Ok(true)
 }
 
