@@ -5,7 +5,9 @@ use crate::doing::finish;
 use crate::input::input_at;
 use crate::pieces::Pieces;
 use crate::quoted::append_number;
-use crate::telling::{tell_files, tell_full, tell_replay, tell_unlisted, tell_unwritten};
+use crate::telling::{
+    tell_files, tell_full, tell_past_end, tell_replay, tell_unlisted, tell_unwritten,
+};
 use crate::windows::Windows;
 use calls::{BenchFault, cut_window};
 use client_scripts::{FromRead, FromWrite, ReplayFault, write_all};
@@ -50,15 +52,15 @@ fn print_window(
 ) -> Result<ExitCode, BenchFault>
     requires { 0 < task.now.most }
 {
-    match is_whole(&mut pieces) {
-        Ok(true) => {
-            let printed = print_whole(rt, &pieces, task);
+    match events_if_whole(&mut pieces) {
+        Ok(Some(events)) => {
+            let printed = print_whole(rt, &pieces, events, task);
             if is_too_wide(&printed) {
                 return print_long(rt, pieces, task);
             }
             printed
         }
-        Ok(false) => print_long(rt, pieces, task),
+        Ok(None) => print_long(rt, pieces, task),
         Err(fault) => Err(BenchFault::from(fault)),
     }
 }
@@ -73,25 +75,35 @@ fn is_too_wide(printed: &Result<ExitCode, BenchFault>) -> bool {
     }
 }
 
-/// Whether the trace can be read whole: it has not more events than a trace may have, nor more bytes than can be kept.
-fn is_whole(pieces: &mut Pieces) -> Result<bool, ReplayFault> {
+/// How many events the trace has, if it can be read whole: it has not more events than a trace may have, nor more bytes
+/// than can be kept.
+fn events_if_whole(pieces: &mut Pieces) -> Result<Option<u64>, ReplayFault> {
     let whole = pieces.span_kept(0, MAX_EVENTS)?;
-    pieces.is_end(whole.end)
+    if pieces.is_end(whole.end)? {
+        return Ok(Some(whole.events as u64));
+    }
+    Ok(None)
 }
 
-/// Prints a window of a trace that was read whole.
+/// Prints a window of a trace that was read whole, and has this many events.
 fn print_whole(
     rt: &HostRuntime,
     pieces: &Pieces,
+    events: u64,
     task: &CutTask<'_>,
 ) -> Result<ExitCode, BenchFault>
     requires { 0 < task.now.most }
 {
     let mut writer = FromWrite::new(io::writer(rt));
     let mut reader = FromRead::new(pieces.bytes());
-    cut_window(rt.alloc(), &mut reader, task.from, task.most, &mut writer)?;
-    pieces.tell_mark(rt, task.trace);
-    Ok(finish(rt, &mut writer))
+    match cut_window(rt.alloc(), &mut reader, task.from, task.most, &mut writer) {
+        Ok(()) => {
+            pieces.tell_mark(rt, task.trace);
+            Ok(finish(rt, &mut writer))
+        }
+        Err(BenchFault::NoSuchEvent) => Ok(tell_past_end(rt, task.from, events)),
+        Err(fault) => Err(fault),
+    }
 }
 
 /// Prints a window of a longer trace.
@@ -115,7 +127,7 @@ fn print_at(
             windows.tell_mark(rt, task.trace);
             Ok(print_text(rt, window.text.as_slice()))
         }
-        Ok(None) => Err(BenchFault::NoSuchEvent),
+        Ok(None) => Ok(tell_past_end(rt, task.from, windows.events())),
         Err(fault) => Err(fault),
     }
 }

@@ -5,7 +5,7 @@ ghost use Rattle.calls.specs.declared.fault.BenchFault.TheVariants.{TooManyScrip
 
 use crate::file_notes::append_file_notes;
 use crate::notes::{append_joint_notes, append_named, append_write_note, are_wanted};
-use crate::pair_notes::append_pair_note;
+use crate::pair_notes::{append_no_event, append_pair_note};
 use crate::quoted::append_name;
 use calls::pair::{PairFault, pair_fault_text};
 use calls::triage::{
@@ -231,6 +231,30 @@ pub(crate) fn tell_full(rt: &HostRuntime, path: &str) -> ExitCode
 {
     let mut lines = Vec::new(rt.alloc());
     let made = append_full(&mut lines, path);
+    end(rt, &lines, made, ExitCode::FAILURE)
+}
+
+/// Appends the line that reports that a window begins at no event, and the note that says which events the trace has.
+fn append_past_end(
+    rt: &HostRuntime,
+    out: &mut Vec<u8>,
+    event: u32,
+    events: u64,
+) -> Result<(), OutOfMemory> {
+    append_fault(out, &Fault::Bench(BenchFault::NoSuchEvent))?;
+    if are_wanted(rt) {
+        append_no_event(out, event, events)?;
+    }
+    Ok(())
+}
+
+/// 106: reports that the requested window begins at this number, which is no event. `events` is how many events the
+/// trace has.
+pub(crate) fn tell_past_end(rt: &HostRuntime, event: u32, events: u64) -> ExitCode
+    ensures { 0 < exit_status result }
+{
+    let mut lines = Vec::new(rt.alloc());
+    let made = append_past_end(rt, &mut lines, event, events);
     end(rt, &lines, made, ExitCode::FAILURE)
 }
 
