@@ -141,7 +141,7 @@ fn append_own_script_notes(
         return Ok(());
     }
     match likeness_of(text) {
-        Likeness::Other => Ok(()),
+        Likeness::Script | Likeness::Other => Ok(()),
         likeness => append_kind(out, path, likeness, words_for_script(likeness)),
     }
 }

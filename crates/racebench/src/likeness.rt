@@ -1,11 +1,12 @@
 //! What kind of file an input looks like, if it is not of the right kind. Its first bytes decide.
 
-use crate::lines::first_line;
+use crate::lines::{behind_line, command_of, first_line, first_word};
+use crate::notes::usage_of;
 use crate::pieces::before;
 use memchr::memchr;
-use rapid_text::trim_start;
+use rapid_text::{trim, trim_start};
 
-/// The kinds of files that users pass instead of a trace, a part of a report, or a log.
+/// The kinds of files that users pass instead of a trace, a script, a part of a report, or a log.
 #[derive(Clone, Copy, PartialEq, Eq)]
 pub(crate) enum Likeness {
     /// A file that gzip has packed.
@@ -28,11 +29,13 @@ pub(crate) enum Likeness {
     Log,
     /// A trace.
     Trace,
+    /// A script.
+    Script,
     /// None of these kinds.
     Other,
 }
 
-/// How many of the first bytes are searched for the head of a report, or for an event.
+/// How many of the first bytes are searched for the head of a report, or for the first line.
 const MAX_SEARCHED: usize = 4_096;
 
 /// The bytes at the head of a report of ThreadSanitizer.
@@ -63,7 +66,44 @@ fn is_event(line: &[u8]) -> bool {
         || operation.starts_with(b"join(")
 }
 
-/// The kind of a text that begins like a log, a report or a trace; else `Other`.
+/// The first line that is not empty, without blanks at its ends; empty if the first 4,096 bytes have none.
+fn first_full_line(text: &[u8]) -> &[u8] {
+    let mut rest = before(text, MAX_SEARCHED);
+    'lines: for _ in 0..MAX_SEARCHED {
+        let line = trim(first_line(rest, true).unwrap_or(b""));
+        if !line.is_empty() {
+            return line;
+        }
+        match behind_line(rest) {
+            Some(behind) => rest = behind,
+            None => return line,
+        }
+    }
+    rest
+}
+
+/// Whether the line begins like one of a script: a number and a command word.
+fn is_call(line: &[u8]) -> bool {
+    let client = first_word(line);
+    let command = command_of(line);
+    if client.is_empty() || command.is_empty() {
+        return false;
+    }
+    client.iter().all(|byte| byte.is_ascii_digit()) && usage_of(command).is_some()
+}
+
+/// The kind of a text whose first line is that of a trace or a script; else `Other`.
+fn likeness_by_line(line: &[u8]) -> Likeness {
+    if is_event(line) {
+        Likeness::Trace
+    } else if is_call(line) {
+        Likeness::Script
+    } else {
+        Likeness::Other
+    }
+}
+
+/// The kind of a text that begins like a log, a report, a trace or a script; else `Other`.
 fn own_likeness(text: &[u8]) -> Likeness {
     if text.starts_with(b"racebench log ") {
         Likeness::Log
@@ -73,10 +113,8 @@ fn own_likeness(text: &[u8]) -> Likeness {
         Likeness::Printed
     } else if text.starts_with(b"{\"") {
         Likeness::Part
-    } else if is_event(first_line(before(text, MAX_SEARCHED), true).unwrap_or(b"")) {
-        Likeness::Trace
     } else {
-        Likeness::Other
+        likeness_by_line(first_full_line(text))
     }
 }
 
@@ -115,6 +153,7 @@ pub(crate) fn words_of(likeness: Likeness) -> &'static [u8] {
         Likeness::Part | Likeness::Printed => b" is a report of races",
         Likeness::Log => b" is the log of a session",
         Likeness::Trace => b" is a trace",
+        Likeness::Script => b" is a script",
         Likeness::Other => b"",
     }
 }
@@ -128,6 +167,7 @@ pub(crate) fn words_for_trace(likeness: Likeness) -> &'static [u8] {
         Likeness::Elf => b": `record/run` records a trace of a program",
         Likeness::Mark => b", which a trace must not have",
         Likeness::Log => b": `racebench log` prints it",
+        Likeness::Script => b": `racebench replay TRACE SCRIPT` runs it on a trace",
         _ => b": triage needs a recorded trace",
     }
 }
@@ -136,6 +176,7 @@ pub(crate) fn words_for_trace(likeness: Likeness) -> &'static [u8] {
 pub(crate) fn words_for_script(likeness: Likeness) -> &'static [u8] {
     match likeness {
         Likeness::Mark => b", which a script must not have",
+        Likeness::Log => b": `racebench log` prints it as a script",
         _ => b", not a script",
     }
 }

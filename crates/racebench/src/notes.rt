@@ -37,7 +37,7 @@ pub(crate) fn are_wanted(rt: &HostRuntime) -> bool {
 }
 
 /// How a line with this command word is written after the client, as help says it.
-fn usage_of(command: &[u8]) -> Option<&'static [u8]> {
+pub(crate) fn usage_of(command: &[u8]) -> Option<&'static [u8]> {
     let mut rest = overview().as_bytes();
     let mut is_listed = false;
     'lines: for _ in 0..rest.len() {
