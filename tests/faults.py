@@ -99,7 +99,9 @@ def runs_of(made, program, words, stdin, here, way, files, left=None):
 
 def says_less(line, known):
     """Whether the line is the note on a file that was not read once more, and the known note says what it looks like."""
-    name = re.match(rb"note: (.+?) is (?:.+, (?:and not what|not a part: )|not the log of a session: )", known)
+    kind = rb"is (?:.+, (?:and not what|not a part: )|not the log of a session: )"
+    head = rb"is empty|is a log in another version|has a damaged first line"
+    name = re.match(rb"note: (.+?) (?:" + kind + rb"|" + head + rb")", known)
     if not name:
         return False
     less = rb"is not (?:whole, or not )?what `[^`]+` writes|was made with another trace: .+"

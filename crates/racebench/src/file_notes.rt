@@ -3,6 +3,7 @@
 use crate::input::is_standard;
 use crate::likeness::{Likeness, likeness_of, words_for_script};
 use crate::lines::line_of;
+use crate::log_notes::{append_head_note, head_fault};
 use crate::notes::{
     STANDARD_OUTPUT, append_kind, append_named, append_script_notes, append_write_note,
     unread_words,
@@ -233,19 +234,16 @@ fn append_form_notes_of(
         Some(line) if !line.is_empty() => append_quote(out, path, number, line)?,
         _ => {}
     }
+    if number == 1 && form.own == Likeness::Log {
+        if let Some(fault) = head_fault(text) {
+            return append_head_note(out, path, fault, b"");
+        }
+    }
     let likeness = likeness_of(text);
     if likeness == form.own || likeness == Likeness::Other {
         append_named(out, path, form.wrong)
     } else {
         append_kind(out, path, likeness, form.other)
-    }
-}
-
-/// Whether the file does not look like a log. False if it can't be read again.
-fn is_no_log(rt: &HostRuntime, path: &str) -> bool {
-    match bytes_again(rt, path) {
-        Some(text) => likeness_of(&text) != Likeness::Log,
-        None => false,
     }
 }
 
@@ -255,12 +253,29 @@ pub(crate) fn append_other_log_note(
     out: &mut Vec<u8>,
     path: &str,
 ) -> Result<(), OutOfMemory> {
-    let words: &[u8] = if is_no_log(rt, path) {
-        b" is not the log of a session: pass another name for the log"
-    } else {
-        b" was made with another trace: pass that trace, or another name for the log"
-    };
-    append_named(out, path, words)
+    match bytes_again(rt, path) {
+        Some(text) => append_other_note_of(out, path, &text),
+        None => append_named(out, path, OTHER_TRACE),
+    }
+}
+
+/// The note on a log that was made with another trace, after the file's name.
+const OTHER_TRACE: &[u8] =
+    b" was made with another trace: pass that trace, or another name for the log";
+
+/// Appends the note on a file with this text, which is not the log of the trace.
+fn append_other_note_of(out: &mut Vec<u8>, path: &str, text: &[u8]) -> Result<(), OutOfMemory> {
+    if let Some(fault) = head_fault(text) {
+        return append_head_note(out, path, fault, b": pass another name for the log");
+    }
+    if likeness_of(text) == Likeness::Log {
+        return append_named(out, path, OTHER_TRACE);
+    }
+    append_named(
+        out,
+        path,
+        b" is not the log of a session: pass another name for the log",
+    )
 }
 
 /// Appends the note on a refused triage file.

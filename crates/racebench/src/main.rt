@@ -17,6 +17,7 @@ mod leaving;
 mod likeness;
 mod lines;
 mod listing;
+mod log_notes;
 mod logging;
 mod marked;
 mod merging;
