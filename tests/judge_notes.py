@@ -16,17 +16,37 @@ import judging
 import running
 from judging import Wrong
 
+# The note on an event that is named twice.
+TWICE = "both numbers are event 0: a pair has two events"
 # What is run, what comes on standard error in any case, and the notes after it.
 RUNS = [
     (["info", "none"], "racebench: read failed\n", "note: none does not exist\n"),
     (["info", "bad"], "racebench: trace line 2: 1 no bar\n", "note: line 2 of bad is `T1 w(x)`\n"),
-    (["explain", "good", "0", "0"], "racebench: no such pair\n", "note: both numbers are event 0: a pair has two events\n"),
+    (["explain", "good", "0", "0"], "racebench: no such pair\n", f"note: {TWICE}\n"),
     (["replay", "good", "none"], "racebench: read failed\n", "note: none does not exist\n"),
     ([], "", "note: there is no line `---`, so there is no script\n"),
     (["info", "good"], "", ""),
     (["info", "shut"], "racebench: read failed\n", "note: shut may not be read: permission denied\n"),
     (["info", "in/good"], "racebench: read failed\n", "note: in/good may not be read: permission denied\n"),
 ]
+# What is run if an output cannot be written, which standard output it has, and the output and the cause that the note
+# names.
+UNWRITTEN = [
+    (["info", "good"], "a full device", "standard output cannot be written: the disk is full"),
+    (["info", "good"], "a closed pipe", "standard output cannot be written: the pipe was closed"),
+    (["info", "good"], "nothing", "standard output cannot be written: it is closed"),
+    (["--help"], "a closed pipe", "standard output cannot be written: the pipe was closed"),
+    (["cut", "good"], "a closed pipe", "standard output cannot be written: the pipe was closed"),
+    (["session", "good", "log"], "a closed pipe", "standard output cannot be written: the pipe was closed"),
+    (["session", "good", "kept"], "a pipe", "kept cannot be written: permission denied"),
+    (["session", "good", "held/log"], "a pipe", "held/log cannot be written: permission denied"),
+    (["session", "good", "none/log"], "a pipe", "none/log cannot be written: its folder does not exist"),
+    (["cut", "good", "--into", "held/new"], "a pipe", "held/new cannot be written: permission denied"),
+    (["cut", "good", "--into", "held"], "a pipe", "held/window-000000000.std cannot be written: permission denied"),
+    (["cut", "good", "--into", "none/new"], "a pipe", "none/new cannot be written: its folder does not exist"),
+]
+# Words that name what a user may not read or write.
+SHUT = ("shut", "in/good", "kept", "held", "held/log", "held/new")
 # How each line of a script is written.
 USAGES = {
     "new": "new NAME",
@@ -58,7 +78,7 @@ def runs():
 
 def user_of(words):
     """What makes a run on files that may not be read that of a user for whom it is so."""
-    is_shut = any(word in ("shut", "in/good") for word in words)
+    is_shut = any(word in SHUT for word in words)
     return {"user": 65534, "group": 65534, "extra_groups": []} if is_shut and os.geteuid() == 0 else {}
 
 
@@ -104,29 +124,83 @@ def on_terminal(program, words):
     return shown.decode("ascii")
 
 
+def output_of(how):
+    """A standard output of this kind, or None if it is to be a pipe that is read or closed."""
+    if how == "a full device":
+        return os.open("/dev/full", os.O_WRONLY)
+    if how == "a closed pipe":
+        mine, theirs = os.pipe()
+        os.close(mine)
+        return theirs
+    return None
+
+
+def through_output(program, words, how, value):
+    """Standard error, if standard output is of this kind."""
+    output = output_of(how)
+    done = subprocess.run(
+        [program, *words],
+        input=b"1 list\n",
+        stdout=subprocess.PIPE if output is None else output,
+        stderr=subprocess.PIPE,
+        env=environment(value),
+        timeout=running.PATIENCE,
+        check=False,
+        preexec_fn=(lambda: os.close(1)) if how == "nothing" else None,
+        **user_of(words),
+    )
+    if output is not None:
+        os.close(output)
+    return done.stderr.decode("ascii")
+
+
+def judge_unwritten(program, tally):
+    """Judges the notes on what was not written."""
+    for words, how, note in UNWRITTEN:
+        told = "racebench: write failed\n"
+        judge(words, f"with {how} and no notes", through_output(program, words, how, None), told)
+        judge(words, f"with {how}", through_output(program, words, how, "1"), f"{told}note: {note}\n")
+        tally["unwritten"] += 1
+
+
+def make_files(program):
+    """Makes the files of the runs; some may not be read or written by the user of the run."""
+    running.write("bad", "T1|w(x)|1\nT1 w(x)\n")
+    running.write("good", "T1|w(x)|1\n")
+    running.write("shut", "T1|w(x)|1\n")
+    os.chmod("shut", 0)
+    os.mkdir("in", 0o700 if os.geteuid() == 0 else 0)
+    os.mkdir("held")
+    os.chmod("held", 0o555)
+    for log, mode in (("kept", 0o444), ("log", 0o666)):
+        words = [program, "session", "good", log]
+        subprocess.run(words, stdin=subprocess.DEVNULL, timeout=running.PATIENCE, check=False)
+        os.chmod(log, mode)
+
+
 def judge(words, how, shown, wanted):
     if shown != wanted:
         raise Wrong(f"{words} {how} writes {shown!r}, and not {wanted!r}")
 
 
 def judged(run):
-    running.write("bad", "T1|w(x)|1\nT1 w(x)\n")
-    running.write("good", "T1|w(x)|1\n")
-    running.write("shut", "T1|w(x)|1\n")
-    os.chmod("shut", 0)
-    os.mkdir("in", 0o700 if os.geteuid() == 0 else 0)
     program = "./racebench"
     shutil.copy(run.program, program)
     os.chmod(program, 0o755)
     os.chmod(".", 0o755)
+    make_files(program)
     for words, line, notes in runs():
         for value in (None, "0", "", "11"):
             judge(words, f"with RACEBENCH_NOTES {value!r}", through_pipe(program, words, value), line)
         judge(words, "with RACEBENCH_NOTES 1", through_pipe(program, words, "1"), line + notes)
         judge(words, "on a terminal", on_terminal(program, words), line + notes)
         run.tally["runs"] += 1
-    return f"notes: {run.tally['runs']} runs, each through a pipe and on a terminal"
+    judge_unwritten(program, run.tally)
+    return (
+        f"notes: {run.tally['runs']} runs, each through a pipe and on a terminal; "
+        f"{run.tally['unwritten']} outputs that cannot be written"
+    )
 
 
 if __name__ == "__main__":
-    sys.exit(judging.main("notes", judged, ["runs"]))
+    sys.exit(judging.main("notes", judged, ["runs", "unwritten"]))

@@ -191,9 +191,8 @@ def judge_lines(program, run, events, pairs):
     words = ["triage", "trace"]
     run = Shown(program, words, "/dev/full")
     judge_status(words, run.status, 1)
-    return lines + judge_shown(
-        run, events, pairs, "racebench: write failed\nnote: standard output cannot be written\n"
-    )
+    note = "note: standard output cannot be written: the disk is full\n"
+    return lines + judge_shown(run, events, pairs, f"racebench: write failed\n{note}")
 
 
 def judged(run):

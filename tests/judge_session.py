@@ -393,7 +393,7 @@ def judge_full(sessions):
             resource.setrlimit(resource.RLIMIT_FSIZE, (limit, limit))
 
         noted = {**os.environ, "RACEBENCH_NOTES": "1"}
-        error = b"racebench: write failed\nnote: log cannot be written\n"
+        error = b"racebench: write failed\nnote: log cannot be written: the disk may be full\n"
         told = sessions.run(b"1 new long-name-of-a-schedule\n", status=1, error=error, preexec_fn=limited, env=noted)
         if told or sessions.entries() != [(1, "new A")]:
             fail(f"with {more} bytes left is told {told}, and the log has {sessions.entries()}")

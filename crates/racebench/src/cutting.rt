@@ -9,12 +9,14 @@ use crate::telling::{
     tell_files, tell_full, tell_past_end, tell_replay, tell_unlisted, tell_unwritten,
 };
 use crate::windows::Windows;
+use crate::write_notes::cause_of;
 use calls::{BenchFault, cut_window};
 use client_scripts::{FromRead, FromWrite, ReplayFault, write_all};
 use program_words::CutTask;
 use rapid_text::{MAX_EVENTS, OutOfMemory, TextCause};
 use std::alloc::Global;
 use std::fs::File;
+use std::io::Write;
 use std::process::ExitCode;
 use std::{fs, io};
 use window::Window;
@@ -142,7 +144,7 @@ pub(crate) fn print_text(rt: &HostRuntime, text: &[u8]) -> ExitCode {
 }
 
 /// What is at the path of the folder for the windows.
-#[derive(Clone, Copy, PartialEq, Eq)]
+#[derive(Clone, Copy)]
 enum Folder {
     /// A folder without files. It may have been made just now.
     Empty,
@@ -150,8 +152,8 @@ enum Folder {
     Full,
     /// Something that can't be read as a folder.
     Unread,
-    /// Nothing, and no folder can be made there.
-    Unmade,
+    /// Nothing, and no folder can be made there. This is why, in words.
+    Unmade(&'static [u8]),
     /// Memory ran out while looking.
     NoMemory,
 }
@@ -173,7 +175,7 @@ fn made_at(rt: &HostRuntime, path: &str) -> Folder {
             if error.kind() == io::ErrorKind::OutOfMemory {
                 Folder::NoMemory
             } else {
-                Folder::Unmade
+                Folder::Unmade(cause_of(&error))
             }
         }
     }
@@ -211,7 +213,7 @@ fn write_windows(
     match folder_at(rt, folder) {
         Folder::Empty => write_all_windows(rt, pieces, most, folder),
         Folder::Full => Ok(tell_full(rt, folder)),
-        Folder::Unmade => Ok(tell_unwritten(rt, folder)),
+        Folder::Unmade(cause) => Ok(tell_unwritten(rt, folder, cause)),
         Folder::Unread => Ok(tell_unlisted(rt, folder)),
         Folder::NoMemory => Err(BenchFault::Replay(ReplayFault::OutOfMemory)),
     }
@@ -279,10 +281,9 @@ fn write_window(rt: &HostRuntime, window: &Window, folder: &str) -> Result<Writt
 
 /// Writes this text as a file at this path. Reports a failure.
 fn write_at(rt: &HostRuntime, path: &str, text: &[u8]) -> Written {
-    if write_file(rt, path, text) {
-        Written::Window
-    } else {
-        Written::Failed(tell_unwritten(rt, path))
+    match write_file(rt, path, text) {
+        Ok(()) => Written::Window,
+        Err(error) => Written::Failed(tell_unwritten(rt, path, cause_of(&error))),
     }
 }
 
@@ -307,17 +308,23 @@ pub(crate) fn append_padded(out: &mut Vec<u8>, number: u64) -> Result<(), OutOfM
     Ok(())
 }
 
-/// Writes a new file. If that fails, no part of it is left. Returns whether it succeeded.
-fn write_file(rt: &HostRuntime, path: &str, text: &[u8]) -> bool {
-    let Ok(file) = File::create_new(rt, path) else {
-        return false;
-    };
-    let mut writer = FromWrite::new(file);
-    let is_written = write_all(&mut writer, text).is_ok() && writer.flush().is_ok();
-    if !is_written {
-        let _ = fs::remove_file(rt, path);
+/// Writes a new file. If that fails, no part of it is left.
+fn write_file(rt: &HostRuntime, path: &str, text: &[u8]) -> io::Result<()> {
+    match File::create_new(rt, path) {
+        Ok(file) => fill_file(rt, file, path, text),
+        Err(error) => Err(error),
     }
-    is_written
+}
+
+/// Writes the text into this file, which is new. If that fails, removes the file.
+fn fill_file(rt: &HostRuntime, mut file: File, path: &str, text: &[u8]) -> io::Result<()> {
+    match file.write_all(text) {
+        Ok(()) => Ok(()),
+        Err(error) => {
+            let _ = fs::remove_file(rt, path);
+            Err(error)
+        }
+    }
 }
 
 /// Prints the counts of the windows: see `append_counts`.

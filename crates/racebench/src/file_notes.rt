@@ -4,12 +4,10 @@ use crate::input::is_standard;
 use crate::likeness::{Likeness, likeness_of, words_for_script};
 use crate::lines::line_of;
 use crate::log_notes::{append_head_note, head_fault};
-use crate::notes::{
-    STANDARD_OUTPUT, append_kind, append_named, append_script_notes, append_write_note,
-    unread_words,
-};
+use crate::notes::{append_kind, append_named, append_script_notes, unread_words};
 use crate::quoted::append_quote;
 use crate::trace_notes::{append_limit_note, append_rule_notes, append_trace_notes};
+use crate::write_notes::append_standard_note;
 use calls::BenchFault;
 use client_scripts::{FromRead, ReadCause, ReplayFault, ScriptRefusal, read_all};
 use rapid_text::{OutOfMemory, TextRefusal};
@@ -172,7 +170,7 @@ pub(crate) fn append_file_notes(
         BenchFault::Replay(ReplayFault::Read { input, why }) => {
             append_unread_note(rt, out, path_of(paths, *input), *why)
         }
-        BenchFault::Replay(ReplayFault::Write) => append_write_note(out, STANDARD_OUTPUT),
+        BenchFault::Replay(ReplayFault::Write) => append_standard_note(rt, out),
         _ => Ok(()),
     }
 }

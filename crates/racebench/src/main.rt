@@ -41,6 +41,7 @@ mod trace_notes;
 mod triaging;
 mod triaging_windows;
 mod windows;
+mod write_notes;
 
 use crate::cutting::cut_of_file;
 use crate::doing::{

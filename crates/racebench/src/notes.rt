@@ -6,6 +6,7 @@ use crate::lines::{
 };
 use crate::quoted::{append_name, append_quote, append_shown};
 use crate::trace_notes::{append_rule_notes, append_text_notes};
+use crate::write_notes::append_standard_note;
 use client_scripts::{ReadCause, ReplayFault, ScriptCause, ScriptRefusal};
 use program_words::{LISTED_BEHIND, overview};
 use rapid_text::{OutOfMemory, trim};
@@ -134,6 +135,7 @@ pub(crate) fn append_script_notes(
 
 /// Appends the notes on a fault of a joint text. `text` has its first bytes.
 pub(crate) fn append_joint_notes(
+    rt: &HostRuntime,
     out: &mut Vec<u8>,
     text: &[u8],
     is_whole: bool,
@@ -149,16 +151,11 @@ pub(crate) fn append_joint_notes(
         ReplayFault::Rule(refusal) => {
             append_rule_notes(out, STANDARD_INPUT, text, is_whole, refusal.event)
         }
-        ReplayFault::Write => append_write_note(out, STANDARD_OUTPUT),
+        ReplayFault::Write => append_standard_note(rt, out),
         ReplayFault::Script(refusal) => match behind_divider(text) {
             Some(script) => append_script_notes(out, SCRIPT, script, is_whole, refusal),
             None => Ok(()),
         },
         _ => Ok(()),
     }
-}
-
-/// Appends the note on an output that was not written.
-pub(crate) fn append_write_note(out: &mut Vec<u8>, name: &str) -> Result<(), OutOfMemory> {
-    append_named(out, name, b" cannot be written")
 }

@@ -2,7 +2,6 @@
 //! both are fault 95.
 ghost use Rattle.std.specs.Prelude.{◌≡◌, false};
 
-use crate::notes::STANDARD_OUTPUT;
 use client_scripts::{Failed, Sink};
 
 /// A writer, and whether a write to it has failed.
@@ -24,9 +23,9 @@ impl<K: Sink> Output<K> {
         }
     }
 
-    /// What was not written at fault 95: standard output, or the log with this name.
-    pub(crate) fn unwritten<'a>(&self, log: &'a str) -> &'a str {
-        if self.failed { STANDARD_OUTPUT } else { log }
+    /// Whether a write has failed. If none has at fault 95, the log was not written.
+    pub(crate) fn is_broken(&self) -> bool {
+        self.failed
     }
 }
 

@@ -282,7 +282,7 @@ fn answer_apart<K: Sink>(
     answer_input(rt, trace, log, client, writer)
 }
 
-/// Answers the lines on standard input as they come. If a write fails, the report names standard output or the log.
+/// Answers the lines on standard input as they come. If a write fails, a note names standard output or the log.
 pub(crate) fn session_on_files(
     rt: &HostRuntime,
     trace: &str,
@@ -292,7 +292,7 @@ pub(crate) fn session_on_files(
     let mut writer = Output::new(FromWrite::new(io::writer(rt)));
     match answer_apart(rt, trace, log, client, &mut writer) {
         Ok(()) => ExitCode::SUCCESS,
-        Err(fault) => tell_session(rt, fault, trace, log, writer.unwritten(log)),
+        Err(fault) => tell_session(rt, fault, trace, log, writer.is_broken()),
     }
 }
 

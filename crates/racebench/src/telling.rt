@@ -4,9 +4,10 @@ ghost use Rattle.std.specs.Process.{exit_status};
 ghost use Rattle.calls.specs.declared.fault.BenchFault.TheVariants.{TooManyScripts};
 
 use crate::file_notes::append_file_notes;
-use crate::notes::{append_joint_notes, append_named, append_write_note, are_wanted};
+use crate::notes::{append_joint_notes, append_named, are_wanted};
 use crate::pair_notes::{append_no_event, append_pair_note};
 use crate::quoted::append_name;
+use crate::write_notes::{append_log_write_note, append_write_note};
 use calls::pair::{PairFault, pair_fault_text};
 use calls::triage::{
     ConfirmedFault, TriageFault, TriagedFault, confirmed_fault_text, triage_fault_text,
@@ -112,7 +113,7 @@ fn append_in_joint(
 ) -> Result<(), OutOfMemory> {
     append_fault(out, &Fault::Bench(BenchFault::from(fault)))?;
     if are_wanted(rt) {
-        append_joint_notes(out, kept, is_whole, &fault)?;
+        append_joint_notes(rt, out, kept, is_whole, &fault)?;
     }
     Ok(())
 }
@@ -258,21 +259,47 @@ pub(crate) fn tell_past_end(rt: &HostRuntime, event: u32, events: u64) -> ExitCo
     end(rt, &lines, made, ExitCode::FAILURE)
 }
 
-/// Appends the line that reports a failed write, and the note that names what was not written.
-fn append_unwritten(rt: &HostRuntime, out: &mut Vec<u8>, name: &str) -> Result<(), OutOfMemory> {
-    append_fault(out, &Fault::Bench(BenchFault::from(ReplayFault::Write)))?;
+/// 95.
+const UNWRITTEN: Fault = Fault::Bench(BenchFault::Replay(ReplayFault::Write));
+
+/// Appends the line that reports a failed write, and the note that names what was not written, and why.
+fn append_unwritten(
+    rt: &HostRuntime,
+    out: &mut Vec<u8>,
+    name: &str,
+    cause: &[u8],
+) -> Result<(), OutOfMemory> {
+    append_fault(out, &UNWRITTEN)?;
     if are_wanted(rt) {
-        append_write_note(out, name)?;
+        append_write_note(out, name, cause)?;
     }
     Ok(())
 }
 
-/// 95: reports that the output with this name was not written.
-pub(crate) fn tell_unwritten(rt: &HostRuntime, name: &str) -> ExitCode
+/// 95: reports that the output with this name was not written. `cause` says why in words, or is empty.
+pub(crate) fn tell_unwritten(rt: &HostRuntime, name: &str, cause: &[u8]) -> ExitCode
     ensures { 0 < exit_status result }
 {
     let mut lines = Vec::new(rt.alloc());
-    let made = append_unwritten(rt, &mut lines, name);
+    let made = append_unwritten(rt, &mut lines, name, cause);
+    end(rt, &lines, made, ExitCode::FAILURE)
+}
+
+/// Appends the line that reports a failed write of a log, and the note that names the log, and the likely cause.
+fn append_unlogged(rt: &HostRuntime, out: &mut Vec<u8>, path: &str) -> Result<(), OutOfMemory> {
+    append_fault(out, &UNWRITTEN)?;
+    if are_wanted(rt) {
+        append_log_write_note(rt, out, path)?;
+    }
+    Ok(())
+}
+
+/// 95: reports that the log at this path was not written.
+pub(crate) fn tell_unlogged(rt: &HostRuntime, path: &str) -> ExitCode
+    ensures { 0 < exit_status result }
+{
+    let mut lines = Vec::new(rt.alloc());
+    let made = append_unlogged(rt, &mut lines, path);
     end(rt, &lines, made, ExitCode::FAILURE)
 }
 

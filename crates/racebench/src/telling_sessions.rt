@@ -3,27 +3,27 @@ ghost use Rattle.std.specs.Prelude.{◌<◌};
 ghost use Rattle.std.specs.Process.{exit_status};
 
 use crate::file_notes::{LOG, append_form_notes, append_other_log_note};
-use crate::notes::{STANDARD_OUTPUT, are_wanted};
-use crate::telling::{Fault, append_fault, end, tell_files, tell_joint, tell_unwritten};
+use crate::notes::are_wanted;
+use crate::telling::{Fault, append_fault, end, tell_files, tell_joint, tell_unlogged};
 use calls::BenchFault;
 use client_scripts::ReplayFault;
 use kept_session::SessionFault;
 use rapid_text::OutOfMemory;
 use std::process::ExitCode;
 
-/// Reports a fault of a session on the trace and the log at these paths. If a write failed, `unwritten` names what was
-/// not written.
+/// Reports a fault of a session on the trace and the log at these paths. `has_failed` says whether a write to standard
+/// output failed; if none did, a failed write is one of the log.
 pub(crate) fn tell_session(
     rt: &HostRuntime,
     fault: SessionFault,
     trace: &str,
     log: &str,
-    unwritten: &str,
+    has_failed: bool,
 ) -> ExitCode
     ensures { 0 < exit_status result }
 {
     match fault {
-        SessionFault::Replay(ReplayFault::Write) => tell_unwritten(rt, unwritten),
+        SessionFault::Replay(ReplayFault::Write) if !has_failed => tell_unlogged(rt, log),
         SessionFault::Replay(ReplayFault::Read { input: 3, why }) => {
             tell_joint(rt, ReplayFault::Read { input: 1, why }, &[], true)
         }
@@ -58,5 +58,5 @@ fn append_in_session(
 pub(crate) fn tell_log(rt: &HostRuntime, fault: SessionFault, log: &str) -> ExitCode
     ensures { 0 < exit_status result }
 {
-    tell_session(rt, fault, log, log, STANDARD_OUTPUT)
+    tell_session(rt, fault, log, log, true)
 }
