@@ -46,6 +46,8 @@ TWICE = [
     *["merge - part -", "merge - --known -", "merge part - --triage -", "merge part --known - --triage -"],
     *["replay - -", "threads - -", "threads t - -", "threads t - s -", "triage - --windows --known -"],
 ]
+# Why an empty text is refused, by which all blocks would be left out, or none.
+EMPTY = "`--only` and `--hide` take a text that is not empty"
 # What goes with something else alone, or not with it, and why it is refused.
 ALONE = "`--windows` does not go with `--lines`, `--init-triage`, `--confirmed`"
 GOES = [
@@ -58,6 +60,9 @@ GOES = [
     ("cut t --into d --window 0", "`--into` writes all windows, and `--window` prints one"),
     ("triage t --windows 4", "`--windows` takes its number after `=`, as in `--windows=1000`"),
     ("triage --windows 4 t --apart", "`--windows` takes its number after `=`, as in `--windows=1000`"),
+    *[(f"{words} --hide=", EMPTY) for words in ("triage t", "triage t --windows", "merge part", "triage t --hide x")],
+    *[(f"{words} --only=", EMPTY) for words in ("triage t", "triage t --windows", "merge part", "merge part --only x")],
+    *[(f"{words} --only= --fail", EMPTY) for words in ("triage t --hide x", "triage t --json", "merge part --page")],
 ]
 # Words of which one is missing, or is one too many.
 COUNTS = [

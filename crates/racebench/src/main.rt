@@ -49,7 +49,7 @@ use crate::doing::{
 };
 use crate::merging::merge_files;
 use crate::sessions::{log_of_file, session_on_files};
-use crate::telling_words::tell_words;
+use crate::telling_words::{EMPTY_TEXT, tell_refusal, tell_words};
 use crate::triaging::triage_file;
 use crate::triaging_windows::triage_windows;
 use calls::triage::MAX_TRIES;
@@ -62,7 +62,7 @@ use std::sync::Wait;
 use std::thread::Threads;
 
 /// The limits of the arguments. There is one client more than scripts: the one that proposes what workers find.
-const LIMITS: Limits = Limits {
+pub(crate) const LIMITS: Limits = Limits {
     clients: MAX_SCRIPTS as u32 + 1,
     workers: MAX_WORKERS,
     tries: MAX_TRIES,
@@ -109,6 +109,37 @@ fn work<R: Threads + Wait + Sync + Clone + Send + Drop + 'static>(
     }
 }
 
+/// Whether one of the texts is empty.
+fn has_empty(texts: &[&str]) -> bool {
+    texts.iter().any(|text| text.is_empty())
+}
+
+/// Whether the task would leave blocks out by an empty text. Each block mentions that text, so all would be left out, or
+/// none.
+fn filters_by_nothing(task: &Task<'_>) -> bool {
+    match task {
+        Task::Triage(task) => has_empty(&task.only) || has_empty(&task.hide),
+        Task::Merge(task) => has_empty(&task.only) || has_empty(&task.hide),
+        _ => false,
+    }
+}
+
+/// Does the task, unless it would leave blocks out by an empty text.
+fn work_checked<R: Threads + Wait + Sync + Clone + Send + Drop + 'static>(
+    rt: &HostRuntime,
+    starts: &R,
+    task: &Task<'_>,
+    words: &[String],
+) -> ExitCode
+    requires { IsWithin LIMITS task.now }
+{
+    if filters_by_nothing(task) {
+        tell_refusal(rt, EMPTY_TEXT, words)
+    } else {
+        work(rt, starts, task)
+    }
+}
+
 /// Reads the arguments, and does the task that they name.
 fn work_on_words<R: Threads + Wait + Sync + Clone + Send + Drop + 'static>(
     rt: &HostRuntime,
@@ -116,14 +147,14 @@ fn work_on_words<R: Threads + Wait + Sync + Clone + Send + Drop + 'static>(
     words: &[String],
 ) -> ExitCode {
     match task_of(rt.alloc(), words, LIMITS) {
-        Ok(task) => work(rt, starts, &task),
-        Err(told) => tell_words(rt, &told),
+        Ok(task) => work_checked(rt, starts, &task, words),
+        Err(told) => tell_words(rt, &told, words),
     }
 }
 
 fn main(rt: HostRuntime) -> ExitCode {
     match read_words(&rt) {
         Ok(words) => work_on_words(&rt, &rt, words.as_slice()),
-        Err(told) => tell_words(&rt, &told),
+        Err(told) => tell_words(&rt, &told, &[]),
     }
 }

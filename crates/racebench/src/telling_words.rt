@@ -1,15 +1,26 @@
 //! What the program prints instead of doing a task: help, or why the arguments are refused.
 
+use crate::LIMITS;
+use crate::lines::{behind_line, first_line};
 use crate::notes::are_wanted;
 use crate::telling::{REFUSED, say, tell_replay};
 use client_scripts::{FromWrite, ReplayFault, write_all};
-use program_words::Told;
+use program_words::{Told, task_of};
+use rapid_text::OutOfMemory;
+use std::alloc::Global;
 use std::io;
 use std::process::ExitCode;
 
-/// The note on refused arguments.
+/// The note on refused arguments that name no command.
 const HELP: &[u8] =
     b"note: `racebench help` lists the commands, and `racebench help COMMAND` the options of one\n";
+
+/// Why an empty text is refused: each block mentions it.
+pub(crate) const EMPTY_TEXT: &[u8] =
+    b"error: `--only` and `--hide` take a text that is not empty\n\nFor more information, try '--help'.\n";
+
+/// How the line of a help text begins that has the usage.
+const USAGE: &[u8] = b"Usage: ";
 
 /// Prints the help that the arguments request.
 fn help(rt: &HostRuntime, text: &[u8]) -> ExitCode {
@@ -20,17 +31,92 @@ fn help(rt: &HostRuntime, text: &[u8]) -> ExitCode {
     ExitCode::SUCCESS
 }
 
-/// Prints help, or reports why the arguments are refused.
-pub(crate) fn tell_words(rt: &HostRuntime, told: &Told) -> ExitCode {
+/// The usage in the help of a command or in a refusal; None if the text has no such line.
+fn usage_in(text: &[u8]) -> Option<&[u8]> {
+    let mut rest = text;
+    'lines: for _ in 0..text.len() {
+        let line = first_line(rest, true)?;
+        if let Some(usage) = line.strip_prefix(USAGE) {
+            return Some(usage);
+        }
+        rest = behind_line(rest)?;
+    }
+    None
+}
+
+/// The arguments that request the help of this command, after the program's name.
+fn words_for_help(alloc: Global, command: &str) -> Result<Vec<String>, OutOfMemory> {
+    let mut words = Vec::new(alloc);
+    for word in ["racebench", "help", command] {
+        words.push(String::from_str(alloc, word)?)?;
+    }
+    Ok(words)
+}
+
+/// The help of this command; None if there is no such command.
+fn help_of(alloc: Global, command: &str) -> Result<Option<String>, OutOfMemory> {
+    let words = words_for_help(alloc, command)?;
+    let told = task_of(alloc, words.as_slice(), LIMITS);
+    match told {
+        Err(Told::Help(text)) => Ok(Some(text)),
+        _ => Ok(None),
+    }
+}
+
+/// Appends the notes on refused arguments of this command: its usage, unless the refusal has it, and where its help is.
+fn append_usage(
+    out: &mut Vec<u8>,
+    refusal: &[u8],
+    command: &str,
+    help: &[u8],
+) -> Result<(), OutOfMemory> {
+    match usage_in(help) {
+        Some(usage) if usage_in(refusal) != Some(usage) => {
+            out.extend_from_slice(b"note: it is written `")?;
+            out.extend_from_slice(usage)?;
+            out.extend_from_slice(b"`\n")?;
+        }
+        _ => {}
+    }
+    out.extend_from_slice(b"note: `racebench help ")?;
+    out.extend_from_slice(command.as_bytes())?;
+    out.extend_from_slice(b"` describes its arguments\n")?;
+    Ok(())
+}
+
+/// Appends the notes on refused arguments, of which the first is the program's name.
+fn append_notes(out: &mut Vec<u8>, refusal: &[u8], words: &[String]) -> Result<(), OutOfMemory> {
+    let command = match words.get(1) {
+        Some(word) if word.as_str() != "help" => word.as_str(),
+        _ => "",
+    };
+    match help_of(*out.allocator(), command)? {
+        Some(help) => append_usage(out, refusal, command, help.as_bytes()),
+        None => {
+            out.extend_from_slice(HELP)?;
+            Ok(())
+        }
+    }
+}
+
+/// Reports why the arguments are refused, of which the first is the program's name. If memory runs out, the notes are
+/// missing.
+pub(crate) fn tell_refusal(rt: &HostRuntime, refusal: &[u8], words: &[String]) -> ExitCode {
+    say(rt, refusal);
+    if are_wanted(rt) {
+        let mut notes = Vec::new(rt.alloc());
+        if append_notes(&mut notes, refusal, words).is_ok() {
+            say(rt, &notes);
+        }
+    }
+    ExitCode::from(REFUSED)
+}
+
+/// Prints help, or reports why the arguments are refused, of which the first is the program's name.
+pub(crate) fn tell_words(rt: &HostRuntime, told: &Told, words: &[String]) -> ExitCode {
     match told {
         Told::Help(text) => help(rt, text.as_bytes()),
-        Told::Refusal(text) => {
-            say(rt, text.as_bytes());
-            if are_wanted(rt) {
-                say(rt, HELP);
-            }
-            ExitCode::from(REFUSED)
-        }
+        Told::Refusal(text) => tell_refusal(rt, text.as_bytes(), words),
         Told::OutOfMemory => tell_replay(rt, ReplayFault::OutOfMemory),
     }
 }
