@@ -15,6 +15,7 @@ mod judging_windows;
 mod kept;
 mod leaving;
 mod likeness;
+mod line_notes;
 mod lines;
 mod listing;
 mod log_notes;

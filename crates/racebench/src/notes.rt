@@ -20,7 +20,7 @@ const MAX_SHOWN: usize = 40;
 const ASKED_BY: &str = "RACEBENCH_NOTES";
 
 /// The names of standard input, standard output, and the script of a joint text in notes.
-const STANDARD_INPUT: &str = "standard input";
+pub(crate) const STANDARD_INPUT: &str = "standard input";
 
 pub(crate) const STANDARD_OUTPUT: &str = "standard output";
 
@@ -98,12 +98,17 @@ fn append_usage_note(out: &mut Vec<u8>, command: &[u8]) -> Result<(), OutOfMemor
 }
 
 /// Appends the notes on a line that is refused for its command word, or for the number of its arguments.
-fn append_word_notes(out: &mut Vec<u8>, line: &[u8]) -> Result<(), OutOfMemory> {
+pub(crate) fn append_word_notes(out: &mut Vec<u8>, line: &[u8]) -> Result<(), OutOfMemory> {
     let command = command_of(line);
     if command.is_empty() {
         out.extend_from_slice(b"note: there is no command after the client's number\n")?;
         return Ok(());
     }
+    append_command_notes(out, command)
+}
+
+/// Appends the notes on the command word of a refused line: the word, and how a line with it is written.
+pub(crate) fn append_command_notes(out: &mut Vec<u8>, command: &[u8]) -> Result<(), OutOfMemory> {
     let shown = command.len().min(MAX_SHOWN);
     if shown < command.len() {
         out.extend_from_slice(b"note: the command begins with `")?;

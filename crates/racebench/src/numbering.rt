@@ -8,7 +8,7 @@ use std::alloc::Global;
 use window::Window;
 
 /// The number that the digits at the front make, and what comes after them.
-fn number_at(bytes: &[u8]) -> (u64, &[u8]) {
+pub(crate) fn number_at(bytes: &[u8]) -> (u64, &[u8]) {
     let end = bytes
         .iter()
         .position(|byte| *byte < b'0' || *byte > b'9')

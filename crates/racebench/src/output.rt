@@ -1,25 +1,29 @@
 //! Standard output of a session. It knows whether it failed, because a failed write may also be one of the log, and
-//! both are fault 95.
+//! both are fault 95. After answers it has the notes on them written.
 ghost use Rattle.std.specs.Prelude.{◌≡◌, false};
 
+use crate::line_notes::LineNotes;
+use crate::pieces::before;
 use client_scripts::{Failed, Sink};
 
-/// A writer, and whether a write to it has failed.
+/// A writer, whether a write to it has failed, and what writes notes on its bytes.
 #[derive(Drop)]
-pub(crate) struct Output<K: Sink> {
+pub(crate) struct Output<'a, K: Sink> {
     writer: K,
     failed: bool,
+    notes: &'a LineNotes<'a>,
 }
 
-impl<K: Sink> Output<K> {
+impl<'a, K: Sink> Output<'a, K> {
     /// A writer that has not failed.
-    pub(crate) fn new(writer: K) -> Output<K>
+    pub(crate) fn new(writer: K, notes: &'a LineNotes<'a>) -> Output<'a, K>
         requires { K.has_failed writer ≡ false }
         ensures { result.failed ≡ false }
     {
         Output {
             writer,
             failed: false,
+            notes,
         }
     }
 
@@ -29,7 +33,7 @@ impl<K: Sink> Output<K> {
     }
 }
 
-impl<K: Sink> Sink for Output<K> {
+impl<K: Sink> Sink for Output<'_, K> {
     ghost taken = { λ s. K.taken s.writer };
 
     ghost has_failed = { λ s. s.failed };
@@ -37,6 +41,9 @@ impl<K: Sink> Sink for Output<K> {
     fn write(&mut self, bytes: &[u8]) -> Result<usize, Failed> {
         let written = self.writer.write(bytes);
         self.failed = self.failed || written.is_err();
+        if let Ok(count) = written {
+            self.notes.tell(before(bytes, count));
+        }
         written
     }
 }

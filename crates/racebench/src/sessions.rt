@@ -5,6 +5,7 @@ ghost use Rattle.std.specs.Prelude.{◌≡◌, true, false};
 use crate::doing::finish;
 use crate::file_notes::is_plain;
 use crate::input::input_at;
+use crate::line_notes::{Heard, LineNotes};
 use crate::marked::tell_mark;
 use crate::output::Output;
 use crate::telling_sessions::{tell_log, tell_session};
@@ -180,14 +181,14 @@ fn trace_at(rt: &HostRuntime, path: &str) -> Result<Indexed, SessionFault> {
 fn answer_lines<D: Device + Drop, K: Sink>(
     rt: &HostRuntime,
     session: &mut Session<D>,
-    client: Option<u32>,
+    notes: &LineNotes<'_>,
     writer: &mut K,
 ) -> Result<(), SessionFault>
     requires in_step { session.old.is_in_step ≡ true }
     requires writer { K.has_failed writer.old ≡ false }
 {
-    let mut reader = FromRead::new(rt.reader());
-    run_session(rt.alloc(), session, client, &mut reader, writer)
+    let mut reader = Heard::new(FromRead::new(rt.reader()), notes);
+    run_session(rt.alloc(), session, notes.client, &mut reader, writer)
 }
 
 /// Answers standard input on a trace and the log in this file, which begins with this head.
@@ -196,13 +197,13 @@ fn answer_on_file<K: Sink>(
     indexed: Indexed,
     head: &[u8],
     file: File,
-    client: Option<u32>,
+    notes: &LineNotes<'_>,
     writer: &mut K,
 ) -> Result<(), SessionFault>
     requires { K.has_failed writer.old ≡ false }
 {
     match Session::open(rt.alloc(), indexed, head, Host::new(file)) {
-        Ok(mut session) => answer_lines(rt, &mut session, client, writer),
+        Ok(mut session) => answer_lines(rt, &mut session, notes, writer),
         Err((fault, _)) => Err(fault),
     }
 }
@@ -227,13 +228,13 @@ fn answer_on_trace<K: Sink>(
     rt: &HostRuntime,
     indexed: Indexed,
     log: &str,
-    client: Option<u32>,
+    notes: &LineNotes<'_>,
     writer: &mut K,
 ) -> Result<(), SessionFault>
     requires { K.has_failed writer.old ≡ false }
 {
     match opened_for(rt, &indexed, log) {
-        Ok((head, file)) => answer_on_file(rt, indexed, &head, file, client, writer),
+        Ok((head, file)) => answer_on_file(rt, indexed, &head, file, notes, writer),
         Err(fault) => Err(fault),
     }
 }
@@ -243,13 +244,13 @@ fn answer_input<K: Sink>(
     rt: &HostRuntime,
     trace: &str,
     log: &str,
-    client: Option<u32>,
+    notes: &LineNotes<'_>,
     writer: &mut K,
 ) -> Result<(), SessionFault>
     requires { K.has_failed writer.old ≡ false }
 {
     match trace_at(rt, trace) {
-        Ok(indexed) => answer_on_trace(rt, indexed, log, client, writer),
+        Ok(indexed) => answer_on_trace(rt, indexed, log, notes, writer),
         Err(fault) => Err(fault),
     }
 }
@@ -271,7 +272,7 @@ fn answer_apart<K: Sink>(
     rt: &HostRuntime,
     trace: &str,
     log: &str,
-    client: Option<u32>,
+    notes: &LineNotes<'_>,
     writer: &mut K,
 ) -> Result<(), SessionFault>
     requires { K.has_failed writer.old ≡ false }
@@ -279,7 +280,7 @@ fn answer_apart<K: Sink>(
     let _input = held(rt)?;
     let _output = held(rt)?;
     let _errors = held(rt)?;
-    answer_input(rt, trace, log, client, writer)
+    answer_input(rt, trace, log, notes, writer)
 }
 
 /// Answers the lines on standard input as they come. If a write fails, a note names standard output or the log.
@@ -289,8 +290,9 @@ pub(crate) fn session_on_files(
     log: &str,
     client: Option<u32>,
 ) -> ExitCode {
-    let mut writer = Output::new(FromWrite::new(io::writer(rt)));
-    match answer_apart(rt, trace, log, client, &mut writer) {
+    let notes = LineNotes::new(rt, client);
+    let mut writer = Output::new(FromWrite::new(io::writer(rt)), &notes);
+    match answer_apart(rt, trace, log, &notes, &mut writer) {
         Ok(()) => ExitCode::SUCCESS,
         Err(fault) => tell_session(rt, fault, trace, log, writer.is_broken()),
     }
