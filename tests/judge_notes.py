@@ -18,13 +18,16 @@ from judging import Wrong
 
 # The note on an event that is named twice.
 TWICE = "both numbers are event 0: a pair has two events"
+# The notes on a joint text: what is read from a terminal, and that there is no script.
+READING = "note: type a trace, a line `---` and a script, or see `racebench help`\n"
+NO_SCRIPT = "note: there is no line `---`, so there is no script\n"
 # What is run, what comes on standard error in any case, and the notes after it.
 RUNS = [
     (["info", "none"], "racebench: read failed\n", "note: none does not exist\n"),
     (["info", "bad"], "racebench: trace line 2: 1 no bar\n", "note: line 2 of bad is `T1 w(x)`\n"),
     (["explain", "good", "0", "0"], "racebench: no such pair\n", f"note: {TWICE}\n"),
     (["replay", "good", "none"], "racebench: read failed\n", "note: none does not exist\n"),
-    ([], "", "note: there is no line `---`, so there is no script\n"),
+    ([], "", NO_SCRIPT),
     (["info", "good"], "", ""),
     (["info", "shut"], "racebench: read failed\n", "note: shut may not be read: permission denied\n"),
     (["info", "in/good"], "racebench: read failed\n", "note: in/good may not be read: permission denied\n"),
@@ -178,6 +181,19 @@ def make_files(program):
         os.chmod(log, mode)
 
 
+def judge_reading(program):
+    """Judges the note on what is read from a terminal, before its end comes, and that it needs a terminal."""
+    mine, theirs = os.openpty()
+    os.write(mine, b"\x04")
+    given = {"stdout": subprocess.DEVNULL, "stderr": subprocess.PIPE, "timeout": running.PATIENCE, "check": False}
+    for value, wanted in ((None, ""), ("1", READING + NO_SCRIPT)):
+        done = subprocess.run([program], stdin=theirs, env=environment(value), **given)
+        judge([], f"on a terminal, with RACEBENCH_NOTES {value!r}", done.stderr.decode("ascii"), wanted)
+        os.write(mine, b"\x04")
+    os.close(mine)
+    os.close(theirs)
+
+
 def judge(words, how, shown, wanted):
     if shown != wanted:
         raise Wrong(f"{words} {how} writes {shown!r}, and not {wanted!r}")
@@ -196,6 +212,7 @@ def judged(run):
         judge(words, "on a terminal", on_terminal(program, words), line + notes)
         run.tally["runs"] += 1
     judge_unwritten(program, run.tally)
+    judge_reading(program)
     return (
         f"notes: {run.tally['runs']} runs, each through a pipe and on a terminal; "
         f"{run.tally['unwritten']} outputs that cannot be written"

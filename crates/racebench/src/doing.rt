@@ -13,6 +13,7 @@ use calls::{
 use client_scripts::{FromWrite, ReplayFault};
 use program_words::{Named, PairTask, ScheduleForm, ThreadsTask};
 use std::io;
+use std::io::IsTerminal;
 use std::process::ExitCode;
 use std::sync::Wait;
 use std::thread::Threads;
@@ -42,8 +43,19 @@ fn finish_read<W: io::Write>(
     }
 }
 
+/// What is said before a terminal is read. Else it would look as if the program did nothing.
+const READING: &[u8] = b"note: type a trace, a line `---` and a script, or see `racebench help`\n";
+
+/// If standard input is a terminal, a note says what is read there.
+fn note_terminal(rt: &HostRuntime) {
+    if rt.stdin().is_terminal() && are_wanted(rt) {
+        say(rt, READING);
+    }
+}
+
 /// Replays the joint text on standard input. If it has no line `---`, a note says that there is no script.
 pub(crate) fn replay_input(rt: &HostRuntime) -> ExitCode {
+    note_terminal(rt);
     match Watched::new(rt.alloc(), rt.reader()) {
         Ok(mut input) => replay_watched(rt, &mut input),
         Err(_) => tell_replay(rt, ReplayFault::OutOfMemory),

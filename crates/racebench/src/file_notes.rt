@@ -4,12 +4,14 @@ use crate::input::is_standard;
 use crate::likeness::{Likeness, likeness_of, words_for_script};
 use crate::lines::line_of;
 use crate::log_notes::{append_head_note, head_fault};
-use crate::notes::{append_kind, append_named, append_script_notes, unread_words};
+use crate::notes::{
+    append_client_note, append_kind, append_named, append_script_notes, unread_words,
+};
 use crate::quoted::append_quote;
 use crate::trace_notes::{append_limit_note, append_rule_notes, append_trace_notes};
 use crate::write_notes::append_standard_note;
 use calls::BenchFault;
-use client_scripts::{FromRead, ReadCause, ReplayFault, ScriptRefusal, read_all};
+use client_scripts::{FromRead, ReadCause, ReplayFault, ScriptCause, ScriptRefusal, read_all};
 use rapid_text::{OutOfMemory, TextRefusal};
 use std::fs::{File, metadata};
 use std::io;
@@ -115,15 +117,16 @@ fn append_rule_file_notes(
     }
 }
 
-/// Appends the notes on a refused line of the script in a file.
+/// Appends the notes on a refused line of the script in a file. `script` is its number, if there are several.
 fn append_script_file_notes(
     rt: &HostRuntime,
     out: &mut Vec<u8>,
     path: &str,
+    script: Option<u32>,
     refusal: &ScriptRefusal,
 ) -> Result<(), OutOfMemory> {
     match bytes_again(rt, path) {
-        Some(text) => append_own_script_notes(out, path, &text, refusal),
+        Some(text) => append_own_script_notes(out, path, &text, script, refusal),
         None => Ok(()),
     }
 }
@@ -133,14 +136,22 @@ fn append_own_script_notes(
     out: &mut Vec<u8>,
     path: &str,
     text: &[u8],
+    script: Option<u32>,
     refusal: &ScriptRefusal,
 ) -> Result<(), OutOfMemory> {
     append_script_notes(out, path, text, true, refusal)?;
-    if refusal.line != 1 {
-        return Ok(());
-    }
-    match likeness_of(text) {
-        Likeness::Script | Likeness::Other => Ok(()),
+    let likeness = if refusal.line == 1 {
+        likeness_of(text)
+    } else {
+        Likeness::Other
+    };
+    match likeness {
+        Likeness::Script | Likeness::Other => {
+            if refusal.why == ScriptCause::BadClient {
+                append_client_note(out, script)?;
+            }
+            Ok(())
+        }
         likeness => append_kind(out, path, likeness, words_for_script(likeness)),
     }
 }
@@ -162,10 +173,11 @@ pub(crate) fn append_file_notes(
             append_rule_file_notes(rt, out, path_of(paths, 1), refusal.event)
         }
         BenchFault::Replay(ReplayFault::Script(refusal)) => {
-            append_script_file_notes(rt, out, path_of(paths, 2), refusal)
+            append_script_file_notes(rt, out, path_of(paths, 2), None, refusal)
         }
         BenchFault::Script { place, refusal } => {
-            append_script_file_notes(rt, out, path_of(paths, place.saturating_add(1)), refusal)
+            let path = path_of(paths, place.saturating_add(1));
+            append_script_file_notes(rt, out, path, Some(*place), refusal)
         }
         BenchFault::Replay(ReplayFault::Read { input, why }) => {
             append_unread_note(rt, out, path_of(paths, *input), *why)

@@ -29,6 +29,10 @@ const BAD_CLIENT: u64 = 83;
 
 const BAD_QUESTION: u64 = 87;
 
+/// The note on a line that does not begin with its client.
+const CLIENT: &[u8] =
+    b"note: without `--client` a line begins with its client, a number from 1 to 32, as in `1 new A`\n";
+
 /// The lines that were read last, and the part of a line after them.
 #[derive(Drop)]
 struct Lines {
@@ -174,9 +178,7 @@ fn append_cause_note(
             None => append_word_notes(out, line),
         },
         BAD_CLIENT => {
-            out.extend_from_slice(
-                b"note: without `--client` a line begins with its client, 1 to 32, as in `1 new A`\n",
-            )?;
+            out.extend_from_slice(CLIENT)?;
             Ok(())
         }
         BAD_QUESTION => {

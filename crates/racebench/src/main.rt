@@ -115,8 +115,7 @@ fn has_empty(texts: &[&str]) -> bool {
     texts.iter().any(|text| text.is_empty())
 }
 
-/// Whether the task would leave blocks out by an empty text. Each block mentions that text, so all would be left out, or
-/// none.
+/// Whether the task would leave blocks out by an empty text. Each block mentions it, so all would be left out, or none.
 fn filters_by_nothing(task: &Task<'_>) -> bool {
     match task {
         Task::Triage(task) => has_empty(&task.only) || has_empty(&task.hide),

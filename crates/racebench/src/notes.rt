@@ -10,6 +10,7 @@ use crate::write_notes::append_standard_note;
 use client_scripts::{ReadCause, ReplayFault, ScriptCause, ScriptRefusal};
 use program_words::{LISTED_BEHIND, overview};
 use rapid_text::{OutOfMemory, trim};
+use report::{Piece, append_pieces};
 use std::env;
 use std::io::IsTerminal;
 
@@ -25,6 +26,10 @@ pub(crate) const STANDARD_INPUT: &str = "standard input";
 pub(crate) const STANDARD_OUTPUT: &str = "standard output";
 
 const SCRIPT: &str = "the script";
+
+/// The note on a line of a script that does not begin with its client.
+const CLIENT: &[u8] =
+    b"note: a line begins with its client, a number from 1 to 32, as in `1 new A`\n";
 
 /// Whether notes are wanted: standard error is a terminal, or the environment variable `RACEBENCH_NOTES` is 1.
 pub(crate) fn are_wanted(rt: &HostRuntime) -> bool {
@@ -120,6 +125,29 @@ pub(crate) fn append_command_notes(out: &mut Vec<u8>, command: &[u8]) -> Result<
     append_usage_note(out, command)
 }
 
+/// Appends the note on a line of a script that does not begin with its client. `script` is the number of the script, if
+/// there are several; the lines of each are of one client.
+pub(crate) fn append_client_note(
+    out: &mut Vec<u8>,
+    script: Option<u32>,
+) -> Result<(), OutOfMemory> {
+    let Some(number) = script else {
+        out.extend_from_slice(CLIENT)?;
+        return Ok(());
+    };
+    let number = Piece::Number(u64::from(number));
+    append_pieces(
+        out,
+        &[
+            Piece::Words(b"note: each line of script "),
+            number,
+            Piece::Words(b" begins with its client, as in `"),
+            number,
+            Piece::Words(b" new A`\n"),
+        ],
+    )
+}
+
 /// Appends the notes on a refused line of a script: the line, and what is wrong with its command word.
 pub(crate) fn append_script_notes(
     out: &mut Vec<u8>,
@@ -134,6 +162,20 @@ pub(crate) fn append_script_notes(
     append_quote(out, name, refusal.line, line)?;
     if refusal.why == ScriptCause::BadWord {
         append_word_notes(out, line)?;
+    }
+    Ok(())
+}
+
+/// Appends the notes on a refused line of the script of a joint text.
+fn append_joint_script_notes(
+    out: &mut Vec<u8>,
+    script: &[u8],
+    is_whole: bool,
+    refusal: &ScriptRefusal,
+) -> Result<(), OutOfMemory> {
+    append_script_notes(out, SCRIPT, script, is_whole, refusal)?;
+    if refusal.why == ScriptCause::BadClient {
+        append_client_note(out, None)?;
     }
     Ok(())
 }
@@ -158,7 +200,7 @@ pub(crate) fn append_joint_notes(
         }
         ReplayFault::Write => append_standard_note(rt, out),
         ReplayFault::Script(refusal) => match behind_divider(text) {
-            Some(script) => append_script_notes(out, SCRIPT, script, is_whole, refusal),
+            Some(script) => append_joint_script_notes(out, script, is_whole, refusal),
             None => Ok(()),
         },
         _ => Ok(()),

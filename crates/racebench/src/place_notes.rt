@@ -81,6 +81,16 @@ fn append_word(out: &mut Vec<u8>, word: &[u8]) -> Result<(), OutOfMemory> {
     Ok(())
 }
 
+/// Whether a variable of the trace has this name.
+fn is_variable(indexed: &Indexed, word: &[u8]) -> bool {
+    for variable in 0..indexed.variables() {
+        if indexed.variable_name(variable) == word {
+            return true;
+        }
+    }
+    false
+}
+
 /// Appends the note on a word that fits no access, with places of accesses in the word's file, if there are any.
 fn append_unknown(
     alloc: Global,
@@ -90,6 +100,10 @@ fn append_unknown(
 ) -> Result<(), OutOfMemory> {
     out.extend_from_slice(b"note: no access is at ")?;
     append_word(out, word)?;
+    if is_variable(indexed, word) {
+        out.extend_from_slice(b", which is a variable, not a location\n")?;
+        return Ok(());
+    }
     let file = file_of(word);
     let flags = flags_of(alloc, indexed, Name::Place(file))?;
     append_places(

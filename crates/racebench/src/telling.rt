@@ -3,7 +3,7 @@ ghost use Rattle.std.specs.Prelude.{◌≡◌, ◌≢◌, ◌<◌, MatchResult};
 ghost use Rattle.std.specs.Process.{exit_status};
 ghost use Rattle.calls.specs.declared.fault.BenchFault.TheVariants.{TooManyScripts};
 
-use crate::file_notes::append_file_notes;
+use crate::file_notes::{append_file_notes, is_plain};
 use crate::notes::{append_joint_notes, append_named, are_wanted};
 use crate::pair_notes::{append_no_event, append_pair_note};
 use crate::quoted::append_name;
@@ -16,7 +16,7 @@ use calls::triage::{
 use calls::{BenchFault, bench_fault_text};
 use client_scripts::{FromWrite, ReadCause, ReplayFault, write_all};
 use kept_session::{SessionFault, session_fault_text};
-use program_words::PairTask;
+use program_words::{Named, PairTask};
 use rapid_text::OutOfMemory;
 use std::process::ExitCode;
 
@@ -187,12 +187,49 @@ fn append_in_pair(
     Ok(())
 }
 
+/// The note on a trace that was not read if the last argument is a file.
+const ORDER: &[u8] = b"note: the trace comes first, and then the two events or locations\n";
+
+/// Whether the trace was not read, and the second event is named by what is a file.
+fn is_in_other_order(rt: &HostRuntime, fault: ReplayFault, pair: &PairTask<'_>) -> bool {
+    match fault {
+        ReplayFault::Read { input: _, why: _ } => match pair.other {
+            Named::Place(word) => is_plain(rt, word),
+            Named::Event(_) => false,
+        },
+        _ => false,
+    }
+}
+
+/// Appends the line that reports a fault of the trace of a pair, and its notes.
+fn append_in_trace(
+    rt: &HostRuntime,
+    out: &mut Vec<u8>,
+    fault: ReplayFault,
+    pair: &PairTask<'_>,
+) -> Result<(), OutOfMemory> {
+    append_in_files(rt, out, &BenchFault::from(fault), &[pair.trace])?;
+    if are_wanted(rt) && is_in_other_order(rt, fault, pair) {
+        out.extend_from_slice(ORDER)?;
+    }
+    Ok(())
+}
+
+/// Reports a fault of the trace of this pair of events.
+fn tell_in_trace(rt: &HostRuntime, fault: ReplayFault, pair: &PairTask<'_>) -> ExitCode
+    ensures { 0 < exit_status result }
+{
+    let mut lines = Vec::new(rt.alloc());
+    let made = append_in_trace(rt, &mut lines, fault, pair);
+    end(rt, &lines, made, ExitCode::FAILURE)
+}
+
 /// Reports a fault of a call on this pair of events.
 pub(crate) fn tell_pair(rt: &HostRuntime, fault: PairFault, pair: &PairTask<'_>) -> ExitCode
     ensures { 0 < exit_status result }
 {
     match fault {
-        PairFault::Replay(fault) => tell_files(rt, BenchFault::from(fault), &[pair.trace]),
+        PairFault::Replay(fault) => tell_in_trace(rt, fault, pair),
         fault => {
             let mut lines = Vec::new(rt.alloc());
             let made = append_in_pair(rt, &mut lines, &fault, pair);
