@@ -46,18 +46,37 @@ static void look_for_waiting(u64 at, u64 pc) {
     if (again && left_of_turn > 2 * (u64)one_in) begin_turn(1);
 }
 
-static inline void access_(int kind, const volatile void *at, u64 size, u64 pc) {
+/* An access of a call that has been made, in the turn that it was made in: no other thread comes between. */
+static inline void accessed(int kind, const volatile void *at, u64 size, u64 pc) {
     if (IDLE || !size) return;
-    if (following) about_to(kind, (u64)at, size, pc);
-    if (kind == READ) look_for_waiting((u64)at, pc);
-    else last_read[0].pc = last_read[1].pc = 0;
-    maybe_give();
     if (is_full && !following) {
         __atomic_store_n(&head->used, head->used + 1, __ATOMIC_RELAXED);
         return;
     }
     see_place(pc);
     put(kind, (u64)at, size, pc);
+}
+
+static inline void access_(int kind, const volatile void *at, u64 size, u64 pc) {
+    if (IDLE || !size) return;
+    if (following) about_to(kind, (u64)at, size, pc);
+    if (kind == READ) look_for_waiting((u64)at, pc);
+    else last_read[0].pc = last_read[1].pc = 0;
+    maybe_give();
+    accessed(kind, at, size, pc);
+}
+
+/* Before a call whose accesses are known when it has been made: another thread may come first. */
+static void comes_to_call(void) {
+    if (!IDLE) maybe_give();
+}
+
+/* What a call wrote, where it wrote something: it is a tick all the same. */
+static void wrote(const volatile void *at, u64 size, u64 pc) {
+    int error = errno;
+    if (size) accessed(WRITE, at, size, pc);
+    else pass_silently(pc);
+    errno = error;
 }
 
 #define ACCESSES(n) \

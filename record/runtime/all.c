@@ -10,6 +10,8 @@
 #include "atomics.c"
 #include "heap.c"
 #include "texts.c"
+#include "searches.c"
+#include "numbers.c"
 #include "containers.c"
 #include "locks.c"
 #include "conditions.c"
@@ -22,6 +24,7 @@
 #include "streams.c"
 #include "sockets.c"
 #include "world.c"
+#include "clocks.c"
 #undef syscall
 #include "futex.c"
 #define syscall raw_syscall

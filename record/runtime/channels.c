@@ -99,11 +99,7 @@ static struct tick_entry *read_expected(int f, u64 pc) {
 static ssize_t read_at(int f, void *to, size_t n, u64 pc) {
     struct tick_entry *e = following ? read_expected(f, pc) : NULL;
     ssize_t got_bytes = e ? read_again(f, to, n, e) : ON_CHANNEL(f, in_of(f), POLLIN, 0, __real_read(f, to, n));
-    int error = errno;
-    received(f, got_bytes, pc);
-    if (got_bytes > 0) access_(WRITE, to, (u64)got_bytes, pc);
-    else pass_silently(pc);
-    errno = error;
+    received(f, got_bytes, pc), wrote(to, got_bytes > 0 ? (u64)got_bytes : 0, pc);
     return got_bytes;
 }
 
@@ -158,8 +154,9 @@ static void goes_over(int kind, const struct iovec *v, size_t pieces, ssize_t by
     size_t left = bytes > 0 ? (size_t)bytes : 0;
     for (size_t k = 0; k < pieces && !IDLE; k++) {
         size_t n = v[k].iov_len < left ? v[k].iov_len : left;
-        if (n) access_(kind, v[k].iov_base, n, pc);
-        else pass_silently(pc);
+        if (!n) pass_silently(pc);
+        else if (kind == WRITE) accessed(kind, v[k].iov_base, n, pc);
+        else access_(kind, v[k].iov_base, n, pc);
         left -= n;
     }
     errno = error;

@@ -43,13 +43,32 @@ void LIST(10_M_reverseEv)(struct list_node *mine) {
     } while (n != mine);
 }
 
+/* A head gets the nodes that the other had, or none. */
+static void gets_nodes(struct list_node *mine, struct list_node *other, struct list_node had, u64 pc) {
+    access_(WRITE, mine, sizeof *mine, pc);
+    if (had.next == other) {
+        mine->next = mine->before = mine;
+        return;
+    }
+    *mine = had;
+    access_(WRITE, &had.next->before, 8, pc), access_(WRITE, &had.before->next, 8, pc);
+    had.next->before = had.before->next = mine;
+}
+
+/* The heads of two lists change their nodes. */
+void LIST(4swapERS0_S1_)(struct list_node *a, struct list_node *b) {
+    access_(READ, a, sizeof *a, PC), access_(READ, b, sizeof *b, PC);
+    struct list_node of_a = *a, of_b = *b;
+    if (of_a.next == a && of_b.next == b) return;
+    gets_nodes(a, b, of_b, PC), gets_nodes(b, a, of_a, PC);
+}
+
 /* The nodes of the balanced tree below std::map and std::set. Its head is the parent of the root, and has the first and
  * the last node at its sides. */
 struct tree_node {
     int color;
     struct tree_node *parent, *left, *right;
 };
-#define WEAKLY extern __attribute__((weak))
 
 WEAKLY void __real__ZSt29_Rb_tree_insert_and_rebalancebPSt18_Rb_tree_node_baseS0_RS_(_Bool left, struct tree_node *mine,
                                                                                      struct tree_node *parent,

@@ -54,6 +54,7 @@ static void set_end(int f, u32 reads, u32 writes, int is_pipe) {
 
 static int gives_two(int answer, int *two, int is_pipe, u64 pc) {
     if (answer || IDLE) return answer;
+    wrote(two, 2 * sizeof *two, pc);
     gives(two[0], pc), gives(two[1], pc);
     u32 way = __atomic_add_fetch(&channels, is_pipe ? 1 : 2, SC);
     set_end(two[0], way, is_pipe ? 0 : way - 1, is_pipe);

@@ -127,7 +127,8 @@ static void sends(int f, u64 pc);
 static ssize_t sent(int f, ssize_t n);
 static void sends_stream(FILE *s, u64 pc);
 static void sent_stream(FILE *s);
-static void awaits_stream(FILE *s);
+enum { NO_END = -1, NO_SPACE = -2 };
+static void awaits_stream(FILE *s, size_t bytes, int end);
 static void received_stream(FILE *s, u64 pc);
 /* threads.c */
 static u8 hold_cancel(void);
@@ -152,6 +153,8 @@ static void count_record(void);
 #define REAL_OF(name, version, type, ...) \
     static type (*real)(__VA_ARGS__); \
     if (!real) real = (type(*)(__VA_ARGS__))next(#name, version)
+/* A function that not every program is linked with. */
+#define WEAKLY extern __attribute__((weak))
 /* A call that waits in the C library, without the token. */
 #define OUTSIDE(call) \
     ({ \

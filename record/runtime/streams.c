@@ -15,14 +15,23 @@ static void sent_stream(FILE *s) {
     errno = error;
 }
 
-/* Before a call that may receive: it waits in the recorder if the stream's buffer is empty. */
-static void awaits_stream(FILE *s) {
-    u32 channel = IDLE ? 0 : in_of(s->_fileno);
-    if (channel && s->_IO_read_ptr >= s->_IO_read_end) comes_at_once(s->_fileno, channel, POLLIN, 0);
+/* Whether a call will find what it looks for in the stream's buffer: so many bytes, or this letter before. */
+static int is_in_buffer(const FILE *s, size_t bytes, int end) {
+    const char *at = s->_IO_read_ptr;
+    size_t there = at < s->_IO_read_end ? (size_t)(s->_IO_read_end - at) : 0;
+    if (end != NO_SPACE) return there >= bytes || (end >= 0 && there && __real_memchr(at, end, there));
+    while (there && (*at == ' ' || (*at >= '\t' && *at <= '\r'))) at++, there--;
+    return there > 0;
+}
+
+/* Before a call that may receive: it waits in the recorder if the stream's buffer has too little. */
+static void awaits_stream(FILE *s, size_t bytes, int end) {
+    u32 channel = IDLE || !s ? 0 : in_of(s->_fileno);
+    if (channel && !is_in_buffer(s, bytes, end)) comes_at_once(s->_fileno, channel, POLLIN, 0);
 }
 
 static void received_stream(FILE *s, u64 pc) {
-    u32 channel = IDLE ? 0 : in_of(s->_fileno);
+    u32 channel = IDLE || !s ? 0 : in_of(s->_fileno);
     if (!channel) return;
     pass_of(OF_CHANNEL, channel, pc);
     unpark(key_of(channel));
@@ -40,13 +49,62 @@ static void received_stream(FILE *s, u64 pc) {
 WRITES_STREAM(fputc, to, (int c, FILE *to), (c, to))
 WRITES_STREAM(putc, to, (int c, FILE *to), (c, to))
 WRITES_STREAM(putchar, stdout, (int c), (c))
-WRITES_STREAM(fflush, to, (FILE * to), (to))
+
+/* The streams that fdopen made of channels. */
+struct stream {
+    FILE *is;
+    struct stream *next;
+};
+static struct stream *streams;
+
+/* Where a stream is in the list; NULL finds the place of one that was closed. */
+static struct stream *place_of(const FILE *stream) {
+    struct stream *s = streams;
+    while (s && s->is != stream) s = s->next;
+    return s;
+}
+
+/* In the thread's turn. Its place stays: another thread may be at it. */
+static void forget_stream(const FILE *stream) {
+    struct stream *s = place_of(stream);
+    if (s) s->is = NULL;
+}
+
+FILE *fdopen(int f, const char *how) {
+    REAL(fdopen, FILE *, int, const char *);
+    FILE *made = real(f, how);
+    if (IDLE || !made || !out_of(f)) return made;
+    keep_turn();
+    struct stream *s = place_of(NULL);
+    if (s) s->is = made;
+    else if ((s = __libc_malloc(sizeof *s))) *s = (struct stream){made, streams}, streams = s;
+    return made;
+}
+
+static void sends_all_streams(u64 pc) {
+    sends_stream(stdout, pc);
+    for (struct stream *s = streams; s; s = s->next) sends_stream(s->is, pc);
+}
+
+static void sent_all_streams(void) {
+    sent_stream(stdout);
+    for (struct stream *s = streams; s; s = s->next) sent_stream(s->is);
+}
+
+/* Without a stream it writes all of them out. */
+int fflush(FILE *to) {
+    REAL(fflush, int, FILE *);
+    to ? sends_stream(to, PC) : IDLE ? (void)0 : sends_all_streams(PC);
+    int answer = real(to);
+    to ? sent_stream(to) : IDLE ? (void)0 : sent_all_streams();
+    return answer;
+}
 
 #define READS_STREAM(type, name, s, given, passed_on) \
     type name given { \
         static type(*real) given; \
         if (!real) real = (type(*) given)next(#name, NULL); \
-        awaits_stream(s); \
+        awaits_stream(s, 1, NO_END); \
         type answer = real passed_on; \
         received_stream(s, PC); \
         return answer; \
@@ -54,13 +112,33 @@ WRITES_STREAM(fflush, to, (FILE * to), (to))
 READS_STREAM(int, fgetc, from, (FILE * from), (from))
 READS_STREAM(int, getc, from, (FILE * from), (from))
 READS_STREAM(int, getchar, stdin, (void), ())
-READS_STREAM(ssize_t, getline, from, (char **to, size_t *n, FILE *from), (to, n, from))
-READS_STREAM(ssize_t, getdelim, from, (char **to, size_t *n, int end, FILE *from), (to, n, end, from))
+
+/* A line goes into a block of the program, which the call may replace by a larger one. */
+typedef ssize_t reads_until(char **, size_t *, int, FILE *);
+static ssize_t reads_line(char **to, size_t *room, int end, FILE *from, u64 pc) {
+    static reads_until *real;
+    if (!real) real = (reads_until *)next("getdelim", NULL);
+    if (IDLE || !to || !room) return real(to, room, end, from);
+    access_(READ, to, sizeof *to, pc), access_(READ, room, sizeof *room, pc);
+    char *block = *to;
+    size_t before = *room;
+    awaits_stream(from, SIZE_MAX, end);
+    ssize_t n = real(to, room, end, from);
+    received_stream(from, pc);
+    wrote(to, *to == block ? 0 : sizeof *to, pc), wrote(room, *room == before ? 0 : sizeof *room, pc);
+    wrote(*to, n < 0 ? 0 : (u64)n + 1, pc);
+    return n;
+}
+ssize_t getline(char **to, size_t *room, FILE *from) { return reads_line(to, room, '\n', from, PC); }
+ssize_t getdelim(char **to, size_t *room, int end, FILE *from) { return reads_line(to, room, end, from, PC); }
+/* What the headers call in their place. */
+ssize_t __getdelim(char **to, size_t *room, int end, FILE *from) { return reads_line(to, room, end, from, PC); }
 
 int fclose(FILE *stream) {
     REAL(fclose, int, FILE *);
     int f = stream->_fileno;
     if (f >= 0) closes(f, PC);
+    if (!IDLE) keep_turn(), forget_stream(stream);
     int answer = real(stream);
     closed(f);
     return answer;

@@ -258,18 +258,14 @@ size_t __wrap_fwrite(const void *from, size_t size, size_t count, FILE *to) {
     return n;
 }
 size_t __wrap_fread(void *to, size_t size, size_t count, FILE *from) {
-    awaits_stream(from);
+    comes_to_call(), awaits_stream(from, size * count, NO_END);
     size_t n = __real_fread(to, size, count, from);
-    received_stream(from, PC);
-    if (n) WRITES(to, n * size);
-    else pass_silently(PC);
+    received_stream(from, PC), wrote(to, n * size, PC);
     return n;
 }
 char *__wrap_fgets(char *to, int n, FILE *from) {
-    awaits_stream(from);
+    comes_to_call(), awaits_stream(from, n > 1 ? (size_t)n - 1 : 0, '\n');
     char *line = __real_fgets(to, n, from);
-    received_stream(from, PC);
-    if (line) WRITES(to, __real_strlen(to) + 1);
-    else pass_silently(PC);
+    received_stream(from, PC), wrote(to, line ? __real_strlen(to) + 1 : 0, PC);
     return line;
 }

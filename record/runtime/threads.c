@@ -144,6 +144,8 @@ static int create(pthread_t *id, const pthread_attr_t *attributes, void *(*body)
     watch();
     note_modules();
     maybe_give();
+    /* The C library writes the number before the thread begins. */
+    if (id) put(WRITE, (u64)id, sizeof *id, pc);
     u32 number = planned_child();
     if (number == NOBODY) number = __atomic_fetch_add(&threads, 1, SC);
     struct child *c = number < MOST_THREADS ? __libc_malloc(sizeof *c) : NULL;
@@ -216,7 +218,9 @@ static int join(pthread_t id, void **value, u64 pc) {
     short_wait = 1;
     int answer = join_gone(real, id, value);
     short_wait = 0;
-    return joined(answer, number, pc);
+    joined(answer, number, pc);
+    if (value) wrote(value, answer ? 0 : sizeof *value, pc);
+    return answer;
 }
 
 int pthread_join(pthread_t id, void **value) { return join(id, value, PC); }

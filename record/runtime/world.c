@@ -150,39 +150,6 @@ static struct tick_entry *entry_of_accept(u64 pc) {
 ACCEPTS(accept, (int f, struct sockaddr *a, socklen_t *n), (f, a, n))
 ACCEPTS(accept4, (int f, struct sockaddr *a, socklen_t *n, int g), (f, a, n, g))
 
-/* ---- the time: it is as recorded where a plan is followed ---- */
-
-int clock_gettime(clockid_t k, struct timespec *t) {
-    if (IDLE) return (int)syscall(SYS_clock_gettime, k, t);
-    struct tick_entry *e = world_expected(ANSWER, PC);
-    int answer = 0;
-    if (e) *t = (struct timespec){(time_t)e->at, (long)e->answer};
-    else answer = (int)syscall(SYS_clock_gettime, k, t);
-    put_answer(ANSWER, (u64)t->tv_sec, (u64)t->tv_nsec, PC);
-    return answer;
-}
-
-int gettimeofday(struct timeval *t, void *z) {
-    if (IDLE || !t) return (int)syscall(SYS_gettimeofday, t, z);
-    struct tick_entry *e = world_expected(ANSWER, PC);
-    if (e) *t = (struct timeval){(time_t)e->at, (suseconds_t)e->answer};
-    else syscall(SYS_gettimeofday, t, z);
-    put_answer(ANSWER, (u64)t->tv_sec, (u64)t->tv_usec, PC);
-    return 0;
-}
-
-time_t time(time_t *to) {
-    struct timespec t;
-    syscall(SYS_clock_gettime, CLOCK_REALTIME, &t);
-    if (!IDLE) {
-        struct tick_entry *e = world_expected(ANSWER, PC);
-        if (e) t.tv_sec = (time_t)e->at;
-        put_answer(ANSWER, (u64)t.tv_sec, 0, PC);
-    }
-    if (to) *to = t.tv_sec;
-    return t.tv_sec;
-}
-
 /* ---- chance: the C library's numbers come from one state, so their order is an order; the state of rand and random
  * is one ---- */
 
