@@ -8,7 +8,8 @@ from typing import Any
 
 from .checked import Mistake, named, paired
 from .layout import Layout
-from .mirror import Mirror, Row
+from .mirror import Mirror
+from .row import Row
 from .session import Session
 from .sheet import Sheet
 from .trace import Trace

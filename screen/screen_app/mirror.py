@@ -11,6 +11,7 @@ from array import array
 
 from . import entries
 from .entries import Entry
+from .row import Row
 from .text import Told
 from .trace import Trace
 
@@ -20,16 +21,6 @@ HEAD = 81
 TAIL = 80
 # So many of the latest proposals are told at once.
 PROPOSALS = 6
-
-
-class Row:
-    """A schedule. `since` has for each position the entry that put its event there."""
-
-    __slots__ = ("birth", "owner", "events", "since", "version", "by", "touched")
-
-    def __init__(self, birth: tuple[int, int], owner: int, events: array[int], since: array[int]) -> None:
-        self.birth, self.owner, self.events, self.since = birth, owner, events, since
-        self.version, self.by, self.touched = 0, owner, birth[0]
 
 
 class Mirror:
@@ -45,6 +36,7 @@ class Mirror:
         self.digest = ""  # of the trace, as the log's first line has it
         self.tail = b""  # what stands before the known end
         self.number = 0  # of the file that was read, as the system counts files
+        self.is_followed = False  # whether changes of schedules are kept: pages show some, and others change them
         self.fault: str | None = None  # why the file is followed no longer
 
     def grew(self) -> bool:
@@ -116,6 +108,8 @@ class Mirror:
         row = self.rows.get(name)
         if row:
             row.version, row.by, row.touched = self.version, entry.client, entry.number
+            if self.is_followed:
+                row.touch(entry.number)
         self.changed[name] = True
 
     def _do(self, entry: Entry, place: int, word: str, name: str, *rest: str) -> tuple[object, ...]:
@@ -138,21 +132,18 @@ class Mirror:
         if word == "add":
             if number >= len(self.trace):
                 raise ValueError(number)
-            row.events.append(number)
-            row.since.append(entry.number)
+            self._push(row, number, entry.number, entry)
             return self.pops.setdefault(name, ("pop", name))
         if word == "back":
-            return ("push", name, row.events.pop(), row.since.pop())
+            return ("push", name, *self._pop(row, entry))
         if word == "swap":
-            exchange(row, number)
+            self._exchange(row, number, entry)
             return ("swap", name, number)
         if word == "drop":
             return ("row", name, self.rows.pop(name))
         if word == "adopt":
-            step = ("list", name, row.events, row.since)
-            row.events = self.proposals[number][:]
-            row.since = array("I", [entry.number]) * len(row.events)
-            return step
+            since = array("I", [entry.number]) * len(self.proposals[number])
+            return ("list", name, *self._replace(row, self.proposals[number][:], since, entry))
         raise ValueError(word)
 
     def _turn(self, step: tuple[object, ...], entry: Entry) -> None:
@@ -163,16 +154,40 @@ class Mirror:
             case ("row", str(name), Row() as row):
                 self.rows[name] = row
             case ("pop", str(name)):
-                self.rows[name].events.pop()
-                self.rows[name].since.pop()
+                self._pop(self.rows[name], entry)
             case ("push", str(name), int(event), int(since)):
-                self.rows[name].events.append(event)
-                self.rows[name].since.append(since)
+                self._push(self.rows[name], event, since, entry)
             case ("list", str(name), array() as events, array() as since):
-                self.rows[name].events, self.rows[name].since = events, since
+                self._replace(self.rows[name], events, since, entry)
             case ("swap", str(name), int(at)):
-                exchange(self.rows[name], at)
+                self._exchange(self.rows[name], at, entry)
         self._note(str(step[1]), entry)
+
+    def _push(self, row: Row, event: int, since: int, entry: Entry) -> None:
+        if self.is_followed:
+            row.pushed(entry.number, event)
+        row.events.append(event)
+        row.since.append(since)
+
+    def _pop(self, row: Row, entry: Entry) -> tuple[int, int]:
+        event = row.events.pop()
+        if self.is_followed:
+            row.popped(entry.number, event)
+        return event, row.since.pop()
+
+    def _replace(self, row: Row, events: array[int], since: array[int], entry: Entry) -> tuple[object, object]:
+        """The events and their entries that were there before."""
+        before = row.events, row.since
+        row.events, row.since = events, since
+        if self.is_followed:
+            row.replaced(entry.number, before[0])
+        return before
+
+    def _exchange(self, row: Row, at: int, entry: Entry) -> None:
+        for listed in (row.events, row.since):
+            listed[at], listed[at + 1] = listed[at + 1], listed[at]
+        if self.is_followed:
+            row.exchanged(entry.number, at)
 
     # For the browser.
 
@@ -201,8 +216,3 @@ class Mirror:
 
     def told(self, first: int, count: int) -> list[Told]:
         return [entries.told(entry, self.trace) for entry in self.entries[first : first + count]]
-
-
-def exchange(row: Row, at: int) -> None:
-    for listed in (row.events, row.since):
-        listed[at], listed[at + 1] = listed[at + 1], listed[at]

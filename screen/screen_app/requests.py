@@ -7,9 +7,10 @@ from . import frontier, steps
 from .bench import Bench
 from .checked import Mistake, counted, named, paired
 from .kept import Names, Seen
-from .mirror import Row
 from .news import News
 from .pairs import Pairs, Races
+from .row import Row
+from .shown import Shown
 from .source import Source
 from .text import Told
 
@@ -94,6 +95,7 @@ class Requests:
         else:
             first = max(0, layout.total - count) if request["from"] is None else counted(request["from"])
         told = layout.window(first, count)
+        told["n"] = len(self.bench.mirror.entries)
         told["lanes"] = layout.lanes({self.bench.trace.thread[event] for event in aim})
         told["counts"] = [[thread, made] for thread, made in enumerate(sheet.counts) if made]
         if layout.total > MAPPED:
@@ -136,11 +138,15 @@ class Requests:
 
     # Steps.
 
+    def _shown(self, request: Told) -> Shown:
+        """The schedule of a step, as the page showed it."""
+        return Shown(self.bench, named(request["name"]), request.get("shown"))
+
     async def do_add(self, request: Told) -> Told:
         return await steps.add(self.bench, named(request["name"]), counted(request["event"]))
 
     async def do_back(self, request: Told) -> Told:
-        return await steps.one(self.bench, f"back {named(request['name'])}")
+        return await steps.back(self._shown(request))
 
     async def do_new(self, request: Told) -> Told:
         return await steps.one(self.bench, f"new {named(request['name'])}")
@@ -149,8 +155,7 @@ class Requests:
         return await steps.one(self.bench, f"drop {named(request['name'])}")
 
     async def do_branch(self, request: Told) -> Told:
-        name, length, to = named(request["name"]), counted(request["length"]), named(request["to"])
-        return await steps.one(self.bench, f"branch {name} {length} {to}")
+        return await steps.branch(self._shown(request), counted(request["length"]), named(request["to"]))
 
     async def do_adopt(self, request: Told) -> Told:
         return await steps.one(self.bench, f"adopt {named(request['name'])} {counted(request['proposal'])}")
@@ -163,7 +168,7 @@ class Requests:
         by = request["by"]
         if not isinstance(by, int) or abs(by) > FARTHEST:
             raise Mistake("no such move")
-        return await steps.move(self.bench, named(request["name"]), counted(request["p"]), by)
+        return await steps.move(self._shown(request), counted(request["p"]), by)
 
     async def do_run(self, request: Told) -> Told:
         """Runs a thread until it must stop, or to an event, with it or up to it."""

@@ -276,6 +276,7 @@ class Server:
     async def follow(self) -> None:
         """Answers what the page asks; the trace was read. The log is followed from here on."""
         self.bench.mirror.sync()
+        self.bench.mirror.is_followed = True
         self.bench.mirror.take_changes()
         self.told_to = len(self.bench.mirror.entries)
         self.names.changed()

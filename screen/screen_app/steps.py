@@ -8,6 +8,7 @@ from collections.abc import Sequence
 
 from .bench import Bench
 from .causes import Causes, dependent
+from .shown import Shown
 from .text import Told, clean
 
 # The most commands of a batch; so many batches are written together.
@@ -103,23 +104,33 @@ def swaps(name: str, places: Sequence[int]) -> str:
     return line if len(places) == 1 else "batch " + line
 
 
-async def move(bench: Bench, name: str, position: int, by: int) -> Told:
+async def back(shown: Shown) -> Told:
+    return shown.told(await shown.say(f"back {shown.name}"))
+
+
+async def branch(shown: Shown, length: int, to: str) -> Told:
+    return shown.told(await shown.say(f"branch {shown.name} {length} {to}", 0, length))
+
+
+async def move(shown: Shown, position: int, by: int) -> Told:
     """Moves an event up or down by neighbours that change places, as far as that goes."""
     places = list(range(position - 1, position + by - 1, -1) if by < 0 else range(position, position + by))[:BATCH]
     if not places or min(places) < 0:
         return {"moved": 0, "answer": "nothing to move"}
-    answer = await bench.say_one(swaps(name, places))
+    span = min(places), max(places) + 2
+    answer = await shown.say(swaps(shown.name, places), *span)
     if is_done(answer):
-        return {"moved": len(places), "answer": answer}
-    found = REFUSED_SWAP.match(answer)
+        return shown.told(answer, moved=len(places))
+    found = None if shown.other else REFUSED_SWAP.match(answer)
     if not found:
-        return {"moved": 0, "answer": clean(answer)}
+        return shown.told(answer, moved=0)
     good = int(found[1] or 0)
     if good:
-        more = await bench.say_one(swaps(name, places[:good]))
-        if not is_done(more):
-            return {"moved": 0, "answer": clean(more)}
-    return {"moved": good, "answer": clean(answer), **stays(bench, name, position, good if by > 0 else -good, by)}
+        more = await shown.say(swaps(shown.name, places[:good]), *span)
+        if shown.other or not is_done(more):
+            return shown.told(more, moved=0)
+    stop = stays(shown.bench, shown.name, position, good if by > 0 else -good, by)
+    return shown.told(answer, moved=good, **stop)
 
 
 def stays(bench: Bench, name: str, position: int, moved: int, by: int) -> Told:

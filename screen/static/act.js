@@ -6,14 +6,17 @@ import { who, said, reason, isRefused } from "./words.js";
 import * as feed from "./feed.js";
 import * as frontier from "./frontier.js";
 import * as queue from "./queue.js";
+import * as sheet from "./sheet.js";
 
 // How long the program may take before the page says that it waits, in milliseconds.
 const LONG = 400;
 
-// The most entries that one request takes back.
+// The most entries that one request takes back, or names as those of this page.
 const UNDONE = 4096;
+const OWN = 4096;
 
 let sayings = 0;
+let own = []; // the entries that this page made
 let runs = null; // of each step of this tab that made several entries: these, the newest first
 let acting = 0;
 
@@ -52,6 +55,15 @@ export async function act(what, given) {
   return told;
 }
 
+// Makes a step that goes by positions. It is for the events that the page showed: what this page did since then is as
+// it was meant, but what others did is not.
+export async function actOn(shown, what, given) {
+  const { n, since = own.filter((entry) => entry >= n) } = shown;
+  const told = await act(what, { ...given, shown: { n, own: since } });
+  if (told.changed) await Promise.all([sheet.refresh(false), frontier.load()]);
+  return told;
+}
+
 const key = () => kept("sessionStorage", "key");
 
 // What the tab kept of its steps before a reload. Another key is that of another screen, and maybe of another log.
@@ -65,8 +77,14 @@ function keepRuns(isLeft, more = []) {
   keep("sessionStorage", "runs", JSON.stringify([key(), runs]));
 }
 
+function madeBy(told) {
+  const one = /^(\d+): /.exec(told.answer);
+  return told.made ?? told.entries ?? (one ? [Number(one[1])] : []);
+}
+
 // Keeps the entries of a step, and not those that an undo took back.
 function note(what, told, given) {
+  own = [...own, ...madeBy(told)].slice(-OWN);
   const gone = new Set(what === "undo" ? given.entries?.slice(0, told.undone ?? 0) : []);
   keepRuns((entry) => !gone.has(entry), what === "undo" ? [] : [...(told.entries ?? [])].reverse());
 }
@@ -80,6 +98,7 @@ export async function undoLatest() {
 }
 
 function outcome(what, told, given) {
+  if (told.changed) return changed(told.changed);
   if (told.rests) return rests(told.rests.entry, told.undone);
   if (told.undone > 1 && !isRefused(told)) return `took back ${many(told.undone, "entry", "entries")}`;
   if (told.why) return refused(told, given.event);
@@ -93,6 +112,14 @@ function rests(entry, undone) {
   feed.jump(entry.i);
   return [undone ? `took back ${many(undone, "entry", "entries")}; ` : null, bad("not taken back: "), "entry ",
     feed.link(entry.i), " of ", who(entry.c), " rests on it ", el("span", "dim", `(${entry.w.slice(0, 80)})`)];
+}
+
+// Another analyst changed what the step is about before the page showed it. Mostly the step was not made.
+function changed({ entry, client, name, made, stays }) {
+  const then = made === undefined ? null : el("span", "dim", stays ? ` · entry ${made} stays: others rest on it`
+    : ` · entry ${made} was made and taken back`);
+  return [bad(stays ? "done on other events: " : "not done: "), "entry ", feed.link(entry), " of ", who(client),
+    ` changed ${name} meanwhile`, then];
 }
 
 // An event that may not come next.

@@ -2,7 +2,7 @@
 import { $, el, fill, many } from "./make.js";
 import { connect, on, ask } from "./net.js";
 import { state } from "./words.js";
-import { act, bad, isActing, say, undoLatest } from "./act.js";
+import { act, actOn, bad, isActing, say, undoLatest } from "./act.js";
 import { showKeys, showLink } from "./dialogs.js";
 import { reveal } from "./frame.js";
 import { later, now } from "./queue.js";
@@ -15,7 +15,8 @@ import * as schedules from "./schedules.js";
 import * as views from "./views.js";
 import * as pair from "./pair.js";
 
-for (const part of [sheet, frontier, feed, pair]) part.events.act = act;
+for (const part of [frontier, feed, pair]) part.events.act = act;
+sheet.events.act = actOn;
 for (const part of [sheet, frontier, feed, schedules]) part.events.say = say;
 feed.events.open = schedules.events.open = (view) => now(() => views.open(view));
 schedules.events.go = views.open;

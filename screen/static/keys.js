@@ -1,7 +1,7 @@
 // The keys. What a key does depends on the pane that has the focus; without one it is what may come next.
 import { $ } from "./make.js";
 import { state } from "./words.js";
-import { act, say, undoLatest } from "./act.js";
+import { actOn, say, undoLatest } from "./act.js";
 import { later, isBusy } from "./queue.js";
 import { answer, showKeys } from "./dialogs.js";
 import { nextPane, paneOf, reveal } from "./frame.js";
@@ -17,10 +17,10 @@ import { edge, neighbour } from "./schedules.js";
 const schedule = () => state.view?.schedule;
 const last = () => Math.max(0, (sheet.current()?.length ?? 0) - 1);
 
-function swap(by) {
+function swap(shown, by) {
   const row = sheet.cursorRow();
   if (!row) return say("choose an event first: ↑ and ↓ move the cursor");
-  return row.b ? say("a block moves no further: Enter opens it") : sheet.swap(row.p, by);
+  return row.b ? say("a block moves no further: Enter opens it") : sheet.swap(shown, row.p, by);
 }
 
 function propose() {
@@ -50,14 +50,21 @@ function inOrder(step) {
   return later(step);
 }
 const inTurn = (keys) => Object.fromEntries(Object.entries(keys).map(([key, does]) => [key, () => inOrder(does)]));
+// A step that goes by position is for what is shown when its key is pressed.
+const ofShown = (step) => () => {
+  const before = sheet.shown();
+  return inOrder(ofSchedule(() => step(sheet.meant(before))));
+};
 const down = (move) => ({ ArrowDown: () => move(1), j: () => move(1), ArrowUp: () => move(-1), k: () => move(-1) });
 
 // By pane.
 const IN = {
-  stage: inTurn({
-    ...down(sheet.step), Enter: sheet.enter, Home: () => sheet.jump(0), End: () => sheet.jump(last()),
-    "Alt+ArrowUp": ofSchedule(() => swap(-1)), "Alt+ArrowDown": ofSchedule(() => swap(1)),
-  }),
+  stage: {
+    ...inTurn({
+      ...down(sheet.step), Enter: sheet.enter, Home: () => sheet.jump(0), End: () => sheet.jump(last()),
+    }),
+    "Alt+ArrowUp": ofShown((shown) => swap(shown, -1)), "Alt+ArrowDown": ofShown((shown) => swap(shown, 1)),
+  },
   "race-list": {
     ...down(races.step), Home: () => races.jump(0), End: () => races.jump(Infinity), Enter: () => inOrder(openRace),
   },
@@ -81,6 +88,7 @@ const typed = []; // keys meanwhile
 let isGiving = false;
 
 function branch() {
+  const before = sheet.shown();
   let isOpening = true;
   opening++;
   const go = () => {
@@ -89,7 +97,7 @@ function branch() {
     give();
   };
   inOrder(() => {
-    ofSchedule(() => void views.branch())();
+    ofSchedule(() => void views.branch(sheet.meant(before)))();
     go();
   }).then(go); // a step that is left out opens nothing
 }
@@ -120,10 +128,9 @@ function filterRaces() {
 // Everywhere.
 const ANYWHERE = {
   "?": showKeys, "/": filterRaces, F6: () => nextPane(1), "Shift+F6": () => nextPane(-1), n: views.fresh,
-  s: markSeen, b: branch,
+  s: markSeen, b: branch, Backspace: ofShown((shown) => actOn(shown, "back", { name: shown.name })),
   ...inTurn({
     u: undoLatest, "Ctrl+z": undoLatest, p: ofSchedule(propose),
-    Backspace: ofSchedule(() => act("back", { name: schedule() })),
     r: ofSchedule(() => frontier.run()), t: ofSchedule(() => frontier.toAim()),
     f: ofSchedule(() => frontier.follow()), x: ofAim(views.why), e: ofAim(views.startEmpty), v: viewSource,
     w: () => (state.view?.witness ? views.take() : ofAim(views.witness)()),

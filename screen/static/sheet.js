@@ -6,6 +6,7 @@ import { HEIGHT, lay, rails, bars } from "./lanes.js";
 import * as drawn from "./rows.js";
 import * as edges from "./edges.js";
 import * as map from "./map.js";
+import { later } from "./queue.js";
 
 // So many rows beyond the sight are drawn on both sides.
 const AHEAD = 24;
@@ -38,6 +39,18 @@ let height = 0;
 let breadth = 0;
 
 export const current = () => win;
+
+// What is shown of the open schedule: how many entries the log had when it was drawn.
+export function shown() {
+  const name = state.view?.schedule;
+  return name && win ? { name, n: win.n } : null;
+}
+
+// What a step by position is for: what was shown when it was asked for, unless another schedule was opened since.
+export function meant(before) {
+  const name = state.view?.schedule;
+  return before?.name === name ? before : shown() ?? { name, n: state.n };
+}
 export const cursorRow = () => win?.rows.find((row) => row.p === cursor) ?? null;
 
 const visible = () => Math.ceil((height || stage.clientHeight) / HEIGHT) + 1;
@@ -223,11 +236,11 @@ export async function enter() {
 }
 
 // Moves an event as far as it goes; why it goes no farther stands between the two rows.
-export async function swap(position, by) {
-  if (!state.view?.schedule || !by) return;
+export async function swap(before, position, by) {
+  if (!by) return;
   stop = null;
-  const told = await events.act("swap", { name: state.view.schedule, p: position, by });
-  if (told.mistake || told.gone) return;
+  const told = await events.act(before, "swap", { name: before.name, p: position, by });
+  if (told.mistake || told.gone || told.changed) return;
   cursor = position + (by > 0 ? told.moved : -told.moved);
   await load();
   if (told.stop && win) {
@@ -243,8 +256,7 @@ let drag = null;
 stage.addEventListener("pointerdown", (event) => {
   const row = event.target.closest(".row");
   if (!row || event.button || row.dataset.block || !state.view?.schedule || !event.target.closest(".lanes")) return;
-  const p = Number(row.dataset.p);
-  drag = { p, event: win?.rows.find((one) => one.p === p)?.e, y: event.clientY, by: 0, row };
+  drag = { p: Number(row.dataset.p), shown: shown(), y: event.clientY, by: 0, row };
 });
 stage.addEventListener("dragstart", (event) => event.preventDefault());
 stage.addEventListener("pointermove", (event) => {
@@ -266,11 +278,12 @@ export function letGo() {
 addEventListener("pointercancel", letGo);
 addEventListener("pointerup", () => {
   const mine = letGo();
-  if (!mine?.by || !win) return;
+  if (!mine?.by || !win || mine.shown?.name !== state.view?.schedule) return;
   const at = win.rows.findIndex((row) => row.p === mine.p);
-  if (win.rows[at]?.e !== mine.event) return; // another analyst moved it meanwhile
   const other = win.rows[Math.max(0, Math.min(win.rows.length - 1, at + mine.by))];
-  swap(mine.p, Math.max(-FARTHEST, Math.min(FARTHEST, other.p - mine.p)));
+  const by = at < 0 ? mine.by : other.p - mine.p;
+  // It is for the row as it was when the button went down, so what this page did since is no part of it.
+  later(() => swap({ ...mine.shown, since: [] }, mine.p, Math.max(-FARTHEST, Math.min(FARTHEST, by))));
 });
 
 // A double click on a block opens it, whether its events stand there by the second press or not. One on an event that

@@ -2,7 +2,7 @@
 import { $, el, fill, button, many } from "./make.js";
 import { ask } from "./net.js";
 import { state, who, short, isDone, isRefused } from "./words.js";
-import { act, awaited, bad, say as tell } from "./act.js";
+import { act, actOn, awaited, bad, say as tell } from "./act.js";
 import { asked } from "./dialogs.js";
 import { reveal } from "./frame.js";
 import { later, now } from "./queue.js";
@@ -224,7 +224,7 @@ function viewButtons() {
     return [inTurn("Work on it", "w", take, "main"), aimed];
   }
   const isThere = state.rows.has(state.view?.schedule); // another analyst may have dropped it
-  return isThere ? [button("Branch", "b", branch), inTurn("Drop", "", drop)] : null;
+  return isThere ? [button("Branch", "b", () => branch()), inTurn("Drop", "", drop)] : null;
 }
 
 function aimLine() {
@@ -276,8 +276,9 @@ async function begin(name) {
 }
 
 // Makes a schedule and opens it.
-async function make(what, given) {
-  if (isDone(await act(what, given))) await begin(given.to ?? given.name);
+async function make(what, given, shown = null) {
+  const told = await (shown ? actOn(shown, what, given) : act(what, given));
+  if (isDone(told)) await begin(given.to ?? given.name);
 }
 
 export async function fresh() {
@@ -285,7 +286,8 @@ export async function fresh() {
   if (name) later(() => make("new", { name }));
 }
 
-export async function branch() {
+// What is shown when it is asked for is branched, though the name may come later.
+export async function branch(shown = sheet.meant(null)) {
   const name = state.view?.schedule;
   const row = state.rows.get(name);
   if (!row) return;
@@ -294,7 +296,7 @@ export async function branch() {
   const last = at?.b ? at.last.e : at?.e;
   const to = await asked(`Branch ${name} after its first ${many(length, "event")}`, freeName(name, ".b"),
     at ? `up to and with event ${last}, where the cursor is` : "all of it; move the cursor to branch earlier");
-  if (to) later(() => make("branch", { name, length, to }));
+  if (to) later(() => make("branch", { name, length, to }, shown));
 }
 
 export async function drop() {

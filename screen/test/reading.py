@@ -122,6 +122,39 @@ def mirrored(program, draw, trace):
     return mirror
 
 
+def grown(path, lines):
+    """The file as it grows, a line at a time: the gate behind its last line is closed."""
+    with open(path, "wb") as file:
+        for number in range(len(lines)):
+            file.seek(0)
+            file.write(b"\n ".join(lines[: number + 1]) + b"\n!")
+            file.flush()
+            yield number
+
+
+def test_a_schedule_as_it_was(program):
+    """What the mirror keeps of changes leads back to the events of each schedule, however long ago."""
+    for seed in range(ROUNDS):
+        traces.write("trace", traces.COUNT)
+        trace = Trace("trace").read_at_once()
+        mirrored(program, random.Random(seed), trace)
+        with open("log", "rb") as file:
+            lines = file.read().rstrip(b"!").rstrip(b"\n").split(b"\n ")
+        mirror, was = Mirror("part", trace), []
+        mirror.is_followed = True
+        for number in grown("part", lines):
+            mirror.sync()
+            same((mirror.fault, len(mirror.entries)), (None, number))
+            was += [(number, row, list(row.events)) for row in mirror.rows.values()]
+        for number, row, events in was:
+            same(row.events_at(number), events)
+        assert len(was) > 50, len(was)
+        touches = {entry for _, row, _ in was for entry in row.touches}
+        changed = [entry.number for entry in mirror.entries if entry.kind not in ("propose", "drop", "undo")]
+        same([entry for entry in changed if entry not in touches and mirror.entries[entry].undone is None], [])
+        os.remove("log")
+
+
 def test_the_mirror_is_the_log(program):
     entries = 0
     for seed in range(ROUNDS):

@@ -1,0 +1,351 @@
+"""Steps that go by positions while another changes the schedule: they are for the events that the page shows."""
+
+import os
+
+import traces
+from browser import ALT, Browser
+from judged import same
+from live import session
+from sight import FRAMES, HOLD
+from stage import LENGTH, ORDER, ROWS, SAID, Screen, Socket, comes, focus, is_clean, logged, new, press
+
+# Holds back all that tells the page of what others do, from `hold()` on until `letGo()`.
+DEAF = HOLD.replace('["view"]', '["view", "frontier"]').replace(
+    "const isRows = rows.has(JSON.parse(message.data).id);",
+    "const told = JSON.parse(message.data); const isRows = Boolean(told.push) || rows.has(told.id);",
+)
+OPEN = "document.querySelector('#bar h2').textContent"
+ASKING = "document.getElementById('ask').open"
+# Events without any order between them, an event a thread.
+FREE = "".join(f"T{thread}|w(a{thread})|a:{thread}\n" for thread in range(8))
+# A program that lets others do something just before it does a line.
+BETWEEN = """#!/bin/sh
+program={program}
+if [ "$1" != session ]; then exec "$program" "$@"; fi
+while read -r line; do
+    case $line in
+{cases}
+    esac
+    echo "$line"
+done | "$program" "$@"
+"""
+CASE = """    "{line}") if [ ! -e '{flag}' ]; then
+        touch '{flag}'
+        echo "{does}" | "$program" session trace log --client 2 > /dev/null
+    fi ;;"""
+
+
+def between(program, **does):
+    """The path of a program before whose lines others do something, once each. `_` stands for a blank."""
+    cases = [
+        CASE.format(line=line.replace("_", " "), flag=f"done-{line}", does=call) for line, call in does.items()
+    ]
+    traces.write("between", BETWEEN.format(program=program, cases="\n".join(cases)))
+    os.chmod("between", 0o755)
+    return os.path.abspath("between")
+
+
+async def deaf(browser, screen, events, threads=8):
+    """A page that shows schedule A with the first events, and can be made deaf."""
+    page = await browser.page("about:blank")
+    await page.call("Page.addScriptToEvaluateOnNewDocument", source=DEAF)
+    await page.open(screen.link)
+    await new(page, threads)
+    await press(page, *[str(event + 1) for event in range(events)])
+    await shows(page, events)
+    return page
+
+
+async def shows(page, length):
+    """Waits until a schedule of so many events is drawn."""
+    await page.until(
+        f"{ROWS} === {length} && {LENGTH} === '{length} event{'' if length == 1 else 's'}' && "
+        f"document.getElementById('next-list').dataset.length === '{length}'"
+    )
+    await page.run(FRAMES)
+
+
+async def not_done(page, entry, client=2, step="not done: "):
+    await page.until(f"{SAID}.startsWith('{step}entry {entry} of {client} changed A meanwhile')")
+
+
+async def test_a_step_back_is_for_the_event_that_is_shown(program):
+    """The last event of the page may be the last no longer. Then the page says who changed that, and shows it."""
+    traces.write("trace", FREE)
+    async with Screen(program, "trace", "log") as screen, Browser() as browser:
+        page = await deaf(browser, screen, 2)
+        await page.run("hold()")
+        await session(program, 2, "add A 2\n")
+        await press(page, "Backspace")
+        await not_done(page, 3)
+        await page.run("letGo()")
+        await shows(page, 3)
+        same(logged()[3:], ["2 add A 2"])
+        await press(page, "Backspace")  # now it is shown
+        await shows(page, 2)
+        await page.run("hold()")
+        await session(program, 2, "back A\nadd A 5\n")  # as long as it was
+        await press(page, "Backspace")
+        await not_done(page, 5)
+        await page.run("letGo()")
+        await shows(page, 2)
+        same(await page.run(ORDER), "0 5")
+        same(logged()[5:], ["2 back A", "2 add A 5"])
+        is_clean(page, screen)
+
+
+async def test_a_step_back_whose_event_stays(program):
+    """What others do elsewhere, or take back, does not matter."""
+    traces.write("trace", FREE)
+    async with Screen(program, "trace", "log") as screen, Browser() as browser:
+        page = await deaf(browser, screen, 4)
+        for others in ("swap A 0\n", "add A 5\nundo\n", "add A 6\nback A\n", "new B\nadd B 0\n"):
+            before = len(logged())
+            await page.run("hold()")
+            await session(program, 2, others)
+            await press(page, "Backspace")
+            same(logged()[before + others.count("\n") :], ["1 back A"])
+            await page.run("letGo()")
+            await shows(page, 3)
+            await press(page, "4")
+            await shows(page, 4)
+        is_clean(page, screen)
+
+
+async def test_steps_back_that_are_typed_ahead(program):
+    """The page's own steps do not count as those of another; those of another do."""
+    traces.write("trace", FREE)
+    async with Screen(program, "trace", "log") as screen, Browser() as browser:
+        page = await deaf(browser, screen, 2)
+        for key in ("3", "4", "Backspace", "Backspace", "Backspace"):
+            await page.key(key)
+        await shows(page, 1)
+        same(logged()[3:], ["1 add A 2", "1 add A 3", *["1 back A"] * 3])
+        await press(page, "2", "3")
+        await shows(page, 3)
+        await page.run("hold()")
+        await session(program, 2, "back A\n")
+        await press(page, "Backspace")
+        await not_done(page, 10)
+        await page.run("letGo()")
+        await shows(page, 2)
+        same(logged()[10:], ["2 back A"])
+        is_clean(page, screen)
+
+
+async def test_steps_back_of_an_event_on_others_that_are_not_shown(program):
+    """An event came to a schedule that another one changed before: the page takes back that event, and no other."""
+    traces.write("trace", FREE)
+    async with Screen(program, "trace", "log") as screen, Browser() as browser:
+        page = await deaf(browser, screen, 2)
+        await page.run("hold()")
+        await session(program, 2, "add A 5\n")
+        await page.run("import('/act.js').then((page) => page.act('add', { name: 'A', event: 6 }))")
+        await comes(lambda: len(logged()) == 5)
+        await press(page, "Backspace")
+        same(logged()[3:], ["2 add A 5", "1 add A 6", "1 back A"])
+        await press(page, "Backspace")
+        await not_done(page, 3)
+        await page.run("letGo()")
+        await shows(page, 3)
+        same(len(logged()), 6)
+        is_clean(page, screen)
+
+
+async def test_another_tab_of_the_same_analyst(program):
+    """What is done in one is no step of the other."""
+    traces.write("trace", FREE)
+    async with Screen(program, "trace", "log") as screen, Browser() as browser:
+        page = await deaf(browser, screen, 2)
+        await page.run("hold()")
+        await session(program, 1, "add A 2\n")
+        await press(page, "Backspace")
+        await not_done(page, 3, "you")
+        await page.run("letGo()")
+        await shows(page, 3)
+        same(logged()[3:], ["1 add A 2"])
+        is_clean(page, screen)
+
+
+async def test_a_move_is_for_the_events_that_are_shown(program):
+    traces.write("trace", FREE)
+    async with Screen(program, "trace", "log") as screen, Browser() as browser:
+        page = await deaf(browser, screen, 4)
+        await focus(page, "stage")
+        await page.key("Home")
+        await page.until("document.querySelector('.row.on')?.dataset.p === '0'")
+        await page.key("ArrowDown")
+        await page.run("hold()")
+        await session(program, 2, "add A 4\nswap A 1\n")
+        await press_alt(page, "ArrowDown")
+        await not_done(page, 6)
+        await page.run("letGo()")
+        await page.until(f"{ORDER} === '0 2 1 3 4'")
+        await shows(page, 5)
+        same(logged()[5:], ["2 add A 4", "2 swap A 1"])
+        await page.run("hold()")
+        await session(program, 2, "add A 5\nswap A 3\n")  # beside it
+        await press_alt(page, "ArrowDown")
+        await comes(lambda: logged()[9:] == ["1 swap A 1"])
+        await page.run("letGo()")
+        await page.until(f"{ORDER} === '0 1 2 4 3 5'")
+        is_clean(page, screen)
+
+
+async def press_alt(page, key):
+    before = await page.run("document.getElementById('said').dataset.n")
+    await page.key(key, ALT)
+    await page.until(f"document.getElementById('said').dataset.n !== '{before}'", what=f"an answer to Alt {key}")
+
+
+async def test_a_drag_is_for_the_row_that_was_pressed(program):
+    """Another one moves it before the button goes up. The page says so, and moves nothing."""
+    traces.write("trace", FREE)
+    async with Screen(program, "trace", "log") as screen, Browser() as browser:
+        page = await deaf(browser, screen, 5)
+        x, y = await page.press("#space .row[data-p='2'] .lanes")
+        await page.mouse("mouseMoved", x, y - 22, button="left", buttons=1)
+        await session(program, 2, "swap A 2\n")
+        await page.until(f"{ORDER} === '0 1 3 2 4'")
+        await page.mouse("mouseMoved", x, y - 44, button="left", buttons=1)
+        await page.release(x, y - 44)
+        await not_done(page, 6)
+        same(logged()[6:], ["2 swap A 2"])
+        await page.drag("#space .row[data-p='3'] .lanes", 0, -66)  # what it shows now
+        await page.until(f"{ORDER} === '2 0 1 3 4'")
+        x, y = await page.press("#space .row[data-p='4'] .lanes")
+        await page.mouse("mouseMoved", x, y - 22, button="left", buttons=1)
+        await session(program, 2, "back A\n")  # the row is gone
+        await shows(page, 4)
+        await page.release(x, y - 22)
+        await not_done(page, 8)
+        same(len(logged()), 9)
+        is_clean(page, screen)
+
+
+async def asked(page):
+    await page.key("b")
+    await page.until(ASKING)
+
+
+async def test_a_branch_is_for_the_events_that_are_shown(program):
+    """Also if they change while the name is asked for. What comes behind them does not matter."""
+    traces.write("trace", FREE)
+    async with Screen(program, "trace", "log") as screen, Browser() as browser:
+        page = await deaf(browser, screen, 4)
+        await asked(page)
+        await session(program, 2, "swap A 1\n")
+        await page.until(f"{ORDER} === '0 2 1 3'")
+        await page.key("Enter")
+        await not_done(page, 5)
+        same((await page.run(OPEN), logged()[5:]), ("A", ["2 swap A 1"]))
+        await asked(page)
+        await session(program, 2, "back A\nback A\nadd A 6\nadd A 7\n")  # as long as it was
+        await page.key("Enter")
+        await not_done(page, 6)
+        same(len(logged()), 10)
+        await shows(page, 4)
+        await asked(page)
+        await session(program, 2, "add A 3\nadd A 4\n")
+        await page.key("Enter")
+        await page.until(f"{OPEN} === 'A.b' && {ROWS} === 4")
+        same(logged()[12:], ["1 branch A 4 A.b"])
+        is_clean(page, screen)
+
+
+async def test_a_branch_while_another_runs_far(program):
+    """Thousands of events come to the schedule while the name is asked for."""
+    traces.write("trace", "".join(f"T{at // 9000}|w(a{at // 9000})|a:{at}\n" for at in range(18000)))
+    async with Screen(program, "trace", "log") as screen, Browser() as browser:
+        page = await deaf(browser, screen, 2, 2)
+        await asked(page)
+        batches = [" ; ".join(f"add A {event}" for event in range(at, at + 60)) for at in range(1, 8941, 60)]
+        await session(program, 2, "".join(f"batch {batch}\n" for batch in batches))
+        await page.until(f"{LENGTH} === '8,942 events'")
+        await page.key("Enter")
+        await page.until(f"{OPEN} === 'A.b' && {ROWS} === 2")
+        same(logged()[-1], "1 branch A 2 A.b")
+        is_clean(page, screen)
+
+
+async def test_a_branch_of_another_schedule_of_that_name(program):
+    traces.write("trace", FREE)
+    async with Screen(program, "trace", "log") as screen, Browser() as browser:
+        page = await deaf(browser, screen, 2)
+        await session(program, 2, "new B\nadd B 0\nadd B 5\n")
+        await asked(page)
+        await session(program, 2, "batch drop A ; branch B 2 A\n")
+        await page.key("Enter")
+        await not_done(page, 6)
+        same(len(logged()), 7)
+        await page.until(f"{ORDER} === '0 5'")
+        is_clean(page, screen)
+
+
+async def test_another_is_faster_than_the_look(program):
+    """The log grows between the screen's look at it and the program's own: then the step is taken back."""
+    traces.write("trace", FREE)
+    path = between(program, back_A="add A 2", swap_A_1="swap A 0", branch_A_3_X="swap A 1")
+    async with Screen(path, "trace", "log") as screen, Browser() as browser:
+        page = await deaf(browser, screen, 2)
+        await press(page, "Backspace")
+        await not_done(page, 3)
+        assert " · entry 4 was made and taken back" in await page.run(SAID), await page.run(SAID)
+        await shows(page, 3)
+        await focus(page, "stage")
+        await page.key("End")
+        await page.until("document.querySelector('.row.on')?.dataset.p === '2'")
+        await press_alt(page, "ArrowUp")
+        await not_done(page, 6)
+        await page.until(f"{ORDER} === '1 0 2'")
+        await asked(page)
+        await page.run("document.getElementById('ask-input').value = 'X'")
+        await page.key("Enter")
+        await not_done(page, 9)
+        await page.until(f"{ORDER} === '1 2 0' && document.querySelectorAll('.sched').length === 1")
+        same(
+            logged()[3:],
+            ["2 add A 2", "1 back A", "1 undo 4", "2 swap A 0", "1 swap A 1", "1 undo 7"]
+            + ["2 swap A 1", "1 branch A 3 X", "1 undo 10"],
+        )
+        is_clean(page, screen)
+
+
+async def test_a_step_that_stays_made(program):
+    """Another one rests on it before it can be taken back. The page says so."""
+    traces.write("trace", FREE)
+    path = between(program, back_A="add A 2", undo_4="add A 7")
+    async with Screen(path, "trace", "log") as screen, Browser() as browser:
+        page = await deaf(browser, screen, 2)
+        await press(page, "Backspace")
+        await not_done(page, 3, step="done on other events: ")
+        assert " · entry 4 stays: others rest on it" in await page.run(SAID), await page.run(SAID)
+        await page.until(f"{ORDER} === '0 1 7'")
+        same(logged()[3:], ["2 add A 2", "1 back A", "2 add A 7"])
+        is_clean(page, screen)
+
+
+async def test_a_refusal_of_what_is_not_shown(program):
+    """A move that is refused since another was faster says that, and no reason for other events."""
+    traces.write("trace", "T0|w(a)|a:0\nT1|w(b)|a:1\nT1|w(b)|a:2\nT2|w(c)|a:3\nT3|w(b)|a:4\n")
+    path = between(program, swap_A_1="swap A 2")
+    async with Screen(path, "trace", "log") as screen, Socket(screen) as socket:
+        await session(program, 1, "new A\nadd A 0\nadd A 1\nadd A 3\nadd A 2\n")
+        await comes(lambda: len(logged()) == 5)
+        told = await socket.call(do="swap", name="A", p=1, by=1, shown={"n": 5, "own": []})
+        same(told["changed"], {"entry": 5, "client": 2, "name": "A"})
+        same((told["moved"], told["made"], "stop" in told), (0, [], False))
+        same(logged()[5:], ["2 swap A 2"])
+
+
+async def test_what_a_page_may_not_say_that_it_showed(program):
+    """It gets a fault, and nothing is done."""
+    traces.write("trace", FREE)
+    async with Screen(program, "trace", "log") as screen, Socket(screen) as socket:
+        await session(program, 1, "new A\nadd A 0\n")
+        for shown in (1, "x", [], {"n": 2}, {"own": []}, {"n": -1, "own": []}, {"n": 2, "own": [True]}):
+            told = await socket.call(do="back", name="A", shown=shown)
+            assert "mistake" in told, (shown, told)
+        same(logged(), ["1 new A", "1 add A 0"])
+        told = await socket.call(do="back", name="A", shown={"n": 10**9, "own": [10**9]})
+        same(logged()[2:], ["1 back A"])
