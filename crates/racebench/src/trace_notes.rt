@@ -36,7 +36,12 @@ pub(crate) fn append_limit_note(
     Ok(())
 }
 
-/// Appends the notes on a refused line of a trace: the line, and what kind of file the text looks like.
+/// The note on a text that does not begin like a trace, nor like another known kind of file.
+const FORM: &[u8] =
+    b"note: a line of a trace is `THREAD|OPERATION(NAME)|LOCATION`, as in `T1|w(x)|7`: docs/FORMATS.md\n";
+
+/// Appends the notes on a refused line of a trace: the line, and what kind of file the text looks like. If it is the
+/// first line, and no kind is known, the last note says what a line of a trace is.
 pub(crate) fn append_text_notes(
     out: &mut Vec<u8>,
     name: &str,
@@ -46,6 +51,10 @@ pub(crate) fn append_text_notes(
 ) -> Result<(), OutOfMemory> {
     if let Some(line) = line_of(text, is_whole, refusal.line) {
         append_quote(out, name, refusal.line, line)?;
+    }
+    if refusal.line == 1 && likeness_of(text) == Likeness::Other {
+        out.extend_from_slice(FORM)?;
+        return Ok(());
     }
     append_likeness(out, name, text)
 }
