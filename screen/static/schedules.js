@@ -17,11 +17,15 @@ let shown = null; // which schedule was scrolled to
 const byBirth = (one, other) => one.birth[0] - other.birth[0] || one.birth[1] - other.birth[1];
 export const inOrder = () => [...state.rows.values()].sort(byBirth);
 
-function line(row, at) {
+function line(row, at, total) {
   const isFresh = row.touched >= state.marked && row.by !== state.client;
   const isOn = state.view?.schedule === row.name;
-  const sign = JSON.stringify([row, at, isFresh, isOn, clientName(row.owner), clientName(row.by)]);
-  return part(`schedule-${row.name}`, sign, () => drawn(row, at, isFresh, isOn));
+  const sign = JSON.stringify([row, at, total, isFresh, isOn, clientName(row.owner), clientName(row.by)]);
+  return part(`schedule-${row.name}`, sign, () => {
+    const made = drawn(row, at, isFresh, isOn);
+    made.setAttribute("aria-setsize", total);
+    return made;
+  });
 }
 
 function drawn(row, at, isFresh, isOn) {
@@ -55,7 +59,7 @@ function renderList() {
   if (shown !== state.view?.schedule && at >= 0) sight.reveal(list, HEIGHT, at);
   shown = state.view?.schedule;
   const [from, to] = sight.inSight(list, HEIGHT);
-  fill(space, all.slice(from, to).map((row, number) => line(row, from + number)));
+  fill(space, all.slice(from, to).map((row, number) => line(row, from + number, all.length)));
   nameChosen(list);
 }
 sight.watch(list, renderList);

@@ -32,7 +32,8 @@ let latest = null; // the promise of what was asked last
 let goal = END;
 let seen = 0; // how far it was scrolled when the goal was set
 let isHidden = false; // another part is shown in its place
-let cursor = null;
+let cursor = null; // a position
+let on = null; // the event there, unless it is a block
 let stop = null;
 let hovered = null;
 let height = 0;
@@ -78,7 +79,7 @@ function scrollTo(to) {
 
 // Nothing is drawn until the next answer. The end is what that shows, or where it stood.
 export function reset({ end = false } = {}) {
-  win = cursor = stop = null;
+  win = cursor = on = stop = null;
   if (end) want(END);
   taken = ++asked; // no answer to what was asked before is drawn
   latest = null;
@@ -124,6 +125,7 @@ async function fetchRows({ to, toggle }) {
 function take(told) {
   const first = goal === null ? win?.rows[topRow() - win.from] : null;
   win = told;
+  follow();
   draw();
   if (goal === END) scrollTo(win.total * HEIGHT);
   else if (goal === null) stay(first);
@@ -132,6 +134,15 @@ function take(told) {
     want(whereItStands());
   }
   map.mark();
+}
+
+// The cursor stays on its event, wherever others move it. A block that takes the event in has the cursor.
+function follow() {
+  if (cursor === null) return;
+  const row = on === null ? null : win.rows.find((one) => one.e === on);
+  const around = win.rows[edges.rowAt(win, cursor)];
+  if (row) cursor = row.p;
+  else if (around?.b) cursor = around.p;
 }
 
 function draw() {
@@ -191,6 +202,7 @@ export function select(position, { into = true } = {}) {
   old?.classList.remove("on");
   old?.setAttribute("aria-selected", "false");
   cursor = position;
+  on = cursorRow()?.e ?? null;
   const made = drawn.rowElement(position);
   made?.classList.add("on");
   made?.setAttribute("aria-selected", "true");
@@ -206,8 +218,9 @@ export function select(position, { into = true } = {}) {
 export function step(by) {
   if (!win?.rows.length) return;
   const last = win.rows.length - 1;
-  const at = cursor === null ? last : win.rows.findIndex((row) => row.p === cursor) + by;
-  select(win.rows[Math.max(0, Math.min(last, at))].p);
+  const at = cursor === null ? last + 1 : edges.rowAt(win, cursor);
+  const next = at < 0 ? topRow() - win.from : at + by; // the first in sight, if the cursor is far away
+  select(win.rows[Math.max(0, Math.min(last, next))].p);
 }
 
 // Puts the cursor on an event, or on the block that has it.
@@ -239,9 +252,11 @@ export async function enter() {
 export async function swap(before, position, by) {
   if (!by) return;
   stop = null;
+  const moved = win?.rows.find((row) => row.p === position)?.e ?? null;
   const told = await events.act(before, "swap", { name: before.name, p: position, by });
   if (told.mistake || told.gone || told.changed) return;
   cursor = position + (by > 0 ? told.moved : -told.moved);
+  on = moved;
   await load();
   if (told.stop && win) {
     stop = { row: win.from + edges.rowAt(win, told.stop.p) + 1, text: `stays: ${told.stop.why}` };

@@ -1,0 +1,138 @@
+"""What an analyst notices: what is blue, the order of lists, where rows and the cursor are, what is said."""
+
+import traces
+from browser import ALT, Browser
+from judged import same
+from live import session
+from meanwhile import FREE, shows
+from stage import LENGTH, NEXT, ORDER, ROWS, SAID, TITLE, Screen, focus, is_clean, logged, new, press
+from table import SEVERAL
+
+OPEN = "document.querySelector('#bar h2').textContent"
+SCHEDULES = "[...document.querySelectorAll('.sched .sched-name')].map((e) => e.textContent).join()"
+CURSOR = "document.querySelector('#space .row.on')?.dataset.p"
+# How far each row is from where its number in the list puts it.
+ASTRAY = (
+    "[...document.querySelectorAll('#space .row')].sort((one, other) => one.dataset.p - other.dataset.p)"
+    ".map((row, at) => parseFloat(row.style.top) - 22 * at).filter((by) => by).join()"
+)
+
+
+async def test_keys_for_a_schedule_that_another_dropped(program):
+    traces.write("trace", FREE)
+    async with Screen(program, "trace", "log") as screen, Browser() as browser:
+        page = await browser.page(screen.link)
+        await new(page, 8)
+        await press(page, "1", "2")
+        await session(program, 2, "drop A\n")
+        await page.until("document.querySelector('#bar .bad')?.textContent === 'dropped'")
+        for key in ("Backspace", "r", "t", "f", "p", "1", "b"):
+            await page.run("document.getElementById('said').replaceChildren()")
+            await page.key(key)
+            await page.until(f"{SAID} === 'A was dropped: n makes a schedule'", what=f"an answer to {key}")
+        await focus(page, "stage")
+        for key in ("ArrowUp", "ArrowDown"):
+            await page.run("document.getElementById('said').replaceChildren()")
+            await page.key(key, ALT)
+            await page.until(f"{SAID} === 'A was dropped: n makes a schedule'", what=f"an answer to Alt {key}")
+        same(logged()[3:], ["2 drop A"])
+        is_clean(page, screen)
+
+
+async def test_escape_closes_an_explanation(program):
+    traces.write("trace", SEVERAL)
+    async with Screen(program, "trace", "log") as screen, Browser() as browser:
+        page = await browser.page(screen.link)
+        await page.until("document.querySelectorAll('.race').length === 2")
+        await page.click(".race")
+        await page.until(f"{OPEN} === 'Witness'")
+        await page.key("x")
+        await page.until("!document.getElementById('note').hidden")
+        await page.key("Escape")
+        await page.until("document.getElementById('note').hidden")
+        same(await page.run(OPEN), "Witness")
+        is_clean(page, screen)
+
+
+async def test_rows_below_a_block_move_up(program):
+    """A run that becomes a block takes one row, and what is below it follows."""
+    traces.write("trace", "".join(f"T{thread}|w(a{thread})|a:{at}\n" for thread in range(4) for at in range(8)))
+    async with Screen(program, "trace", "log") as screen, Browser() as browser:
+        page = await browser.page(screen.link)
+        await new(page, 4)
+        await session(program, 2, "".join(f"add A {event}\n" for event in range(16)))
+        await page.until(f"{LENGTH} === '16 events' && !!document.querySelector('[data-p=\"15\"]')")
+        await page.until(f"{ASTRAY} === ''")
+        rows = await page.run(ROWS)
+        await session(program, 2, "".join(f"add A {event}\n" for event in range(16, 32)))
+        await page.until(f"{LENGTH} === '32 events' && !!document.querySelector('[data-p=\"31\"]')")
+        await page.until(f"{ASTRAY} === ''")
+        await session(program, 2, "back A\n" * 16)
+        await page.until(f"{LENGTH} === '16 events' && {ROWS} === {rows}")
+        await page.until(f"{ASTRAY} === ''")
+        is_clean(page, screen)
+
+
+async def test_schedules_of_one_entry(program):
+    """They are listed in the order in which they were made, and the keys lead round."""
+    traces.write("trace", FREE)
+    await session(program, 2, "new M\nbatch new Z ; new B ; branch M 0 K\n")
+    async with Screen(program, "trace", "log") as screen, Browser() as browser:
+        page = await browser.page(screen.link)
+        await page.until(f"{SCHEDULES} === 'M,Z,B,K' && {OPEN} === 'K' && {NEXT} === 8")
+        for key, name in (("]", "M"), ("]", "Z"), ("[", "M"), ("[", "K"), ("[", "B")):
+            await page.key(key)
+            await page.until(f"{OPEN} === '{name}'")
+        said = "[...document.querySelectorAll('.sched')].map((e) => `${e.ariaPosInSet}/${e.ariaSetSize}`).join()"
+        same(await page.run(said), "1/4,2/4,3/4,4/4")
+        is_clean(page, screen)
+
+
+FRESH = (
+    "[...document.querySelectorAll('.sched')].filter((e) => e.querySelector('.fresh.is'))"
+    ".map((e) => e.querySelector('.sched-name').textContent).join()"
+)
+
+
+async def test_own_schedules_are_no_news(program):
+    """What this analyst did after the news of others is none of them."""
+    traces.write("trace", FREE)
+    await session(program, 1, "new A\n")
+    async with Screen(program, "trace", "log") as screen, Browser() as browser:
+        page = await browser.page(screen.link)
+        await page.until(f"{OPEN} === 'A' && {NEXT} === 8 && {TITLE}")
+        await session(program, 2, "new B\n")
+        await page.until(f"{FRESH} === 'B' && document.querySelectorAll('.entry.fresh').length === 1")
+        await press(page, "1", "2")
+        await shows(page, 2)
+        same(await page.run(FRESH), "B")
+        same(await page.run("document.querySelectorAll('.entry.fresh').length"), 1)
+        same(await page.run("document.querySelectorAll('.pos.new').length"), 0)
+        is_clean(page, screen)
+
+
+async def test_the_cursor_stays_on_its_event(program):
+    """Wherever others move it. A block that takes it in has the cursor, and the next key goes on from there."""
+    lines = [f"T1|w(a)|a:{at}\n" for at in range(8)] + [f"T2|w(b)|b:{at}\n" for at in range(20)]
+    traces.write("trace", FREE.replace("T1|", "T9|").replace("T2|", "T8|") + "".join(lines))
+    async with Screen(program, "trace", "log") as screen, Browser() as browser:
+        page = await browser.page(screen.link)
+        await new(page, 10)
+        await session(program, 2, "".join(f"add A {event}\n" for event in (0, 3, 4, 8, 9)))
+        await shows(page, 5)
+        await focus(page, "stage")
+        for key in ("End", "ArrowUp", "ArrowUp"):
+            await page.key(key)
+        await page.until(f"{CURSOR} === '2'")
+        await session(program, 2, "swap A 1\n")
+        await page.until(f"{ORDER} === '0 4 3 8 9' && {CURSOR} === '1'")
+        await page.key("ArrowDown", ALT)
+        await page.until(f"{ORDER} === '0 3 4 8 9' && {CURSOR} === '2'")
+        await page.key("ArrowDown")
+        await page.until(f"{CURSOR} === '3'")  # the first of its thread
+        await session(program, 2, "".join(f"add A {event}\n" for event in (*range(10, 14), *range(16, 26))))
+        await page.until("document.querySelector('#space .row.on')?.dataset.block === '5'")
+        same(await page.run(CURSOR), "3")
+        await page.key("ArrowUp")
+        await page.until(f"{CURSOR} === '2'")
+        is_clean(page, screen)
