@@ -81,7 +81,13 @@ def wrong(given: argparse.Namespace) -> str | None:
     if os.path.isdir(given.log):
         return f"{given.log} is a folder, and no log"
     folder = os.path.dirname(given.log) or "."
-    return None if os.path.isdir(folder) else f"{folder} is no folder for a log"
+    if not os.path.isdir(folder):
+        return f"{folder} is no folder for a log"
+    if os.path.exists(given.log):
+        is_open = os.access(given.log, os.R_OK | os.W_OK)
+        return None if is_open else f"you may not write {given.log}; name another LOG"
+    is_open = os.access(folder, os.W_OK | os.X_OK)
+    return None if is_open else f"you may not make {given.log}; name a LOG in a folder of yours"
 
 
 def decided(given: argparse.Namespace) -> list[str]:

@@ -1,7 +1,7 @@
 // The keys. What a key does depends on the pane that has the focus; without one it is what may come next.
 import { $ } from "./make.js";
 import { state } from "./words.js";
-import { actOn, say, undoLatest } from "./act.js";
+import { act, actOn, say, undoLatest } from "./act.js";
 import { later, isBusy } from "./queue.js";
 import { answer, showKeys } from "./dialogs.js";
 import { nextPane, paneOf, reveal } from "./frame.js";

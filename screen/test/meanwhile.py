@@ -45,10 +45,10 @@ def between(program, **does):
     return os.path.abspath("between")
 
 
-async def deaf(browser, screen, events, threads=8):
+async def deaf(browser, screen, events, threads=8, script=DEAF):
     """A page that shows schedule A with the first events, and can be made deaf."""
     page = await browser.page("about:blank")
-    await page.call("Page.addScriptToEvaluateOnNewDocument", source=DEAF)
+    await page.call("Page.addScriptToEvaluateOnNewDocument", source=script)
     await page.open(screen.link)
     await new(page, threads)
     await press(page, *[str(event + 1) for event in range(events)])

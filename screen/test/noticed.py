@@ -4,7 +4,7 @@ import traces
 from browser import ALT, Browser
 from judged import same
 from live import session
-from meanwhile import FREE, shows
+from meanwhile import DEAF, FREE, deaf, shows
 from stage import LENGTH, NEXT, ORDER, ROWS, SAID, TITLE, Screen, focus, is_clean, logged, new, press
 from table import SEVERAL
 
@@ -135,4 +135,25 @@ async def test_the_cursor_stays_on_its_event(program):
         same(await page.run(CURSOR), "3")
         await page.key("ArrowUp")
         await page.until(f"{CURSOR} === '2'")
+        is_clean(page, screen)
+
+
+# What is drawn a moment after the connection ended, and before the page tries again.
+AFTER_THE_END = (
+    f"new Promise((done) => {{ socket.addEventListener('close', () => setTimeout(() => done([{ROWS}, {NEXT}]), 200)); "
+    "socket.close(); })"
+)
+
+
+async def test_answers_that_are_lost_with_the_connection(program):
+    """What was drawn before stays, though the page had asked for more."""
+    traces.write("trace", FREE)
+    async with Screen(program, "trace", "log") as screen, Browser() as browser:
+        page = await deaf(browser, screen, 3, script=DEAF.replace("Boolean(told.push) || ", ""))
+        await page.run("hold()")
+        await session(program, 2, "add A 5\n")
+        await page.until(f"{LENGTH} === '4 events'")  # rows and the list are asked for, and the answers held
+        same(await page.run(AFTER_THE_END), [3, 5])
+        await page.run("letGo()")
+        await shows(page, 4)
         is_clean(page, screen)

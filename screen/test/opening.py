@@ -3,6 +3,7 @@
 import os
 import random
 import re
+import shutil
 import subprocess
 import sys
 
@@ -124,6 +125,26 @@ def test_wrong_words_are_told_in_a_line(program):
         )
         same(done.returncode, 2)
         assert why in done.stderr and len(done.stderr) < 400, done.stderr
+
+
+def test_a_log_that_may_not_be_written(program):
+    """The screen names it. The program would only say that a write failed."""
+    shutil.copytree(os.path.dirname(SCREEN), "own", ignore=shutil.ignore_patterns("test", "__pycache__"))
+    os.chmod(".", 0o755)
+    os.mkdir("there", 0o755)
+    traces.write("trace", traces.COUNT)
+    traces.write("there/log", "")
+    for path, mode in (("trace", 0o644), ("there/log", 0o444), ("there", 0o555)):
+        os.chmod(path, mode)
+    other = {"user": 65534, "group": 65534, "extra_groups": []} if os.geteuid() == 0 else {}  # root may do all
+    for log, why in (
+        ("there/log", "you may not write there/log; name another LOG"),
+        ("there/new", "you may not make there/new; name a LOG in a folder of yours"),
+    ):
+        words = ["/usr/bin/python3", "-B", "own/screen", "trace", log, "--program", "/bin/true"]
+        done = subprocess.run(words, capture_output=True, text=True, **other)
+        same((done.returncode, done.stderr.splitlines()[-1]), (2, f"screen: error: {why}"))
+    os.chmod("there", 0o755)
 
 
 async def test_a_list_that_is_longer_than_is_kept(program):
