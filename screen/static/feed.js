@@ -158,8 +158,10 @@ function newsLine(one) {
     one.undo ? `took back ${many(one.undo, "entry", "entries")}` : null,
     one.propose ? many(one.propose, "proposal") : null, one.drop ? "dropped" : null,
   ];
-  return el("div", "away-line", who(one.c), " ", one.name ? el("span", "sched-name", one.name) : null, " ",
-    did.filter(Boolean).join(", "));
+  const made = el("div", "away-line", who(one.c), " ", one.name ? el("span", "sched-name", one.name) : null, " ",
+    el("span", "news", did.filter(Boolean).join(", ")));
+  made.title = one.name ?? "";
+  return made;
 }
 
 function showNews(news) {

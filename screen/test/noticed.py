@@ -56,10 +56,10 @@ async def test_escape_closes_an_explanation(program):
 
 async def test_rows_below_a_block_move_up(program):
     """A run that becomes a block takes one row, and what is below it follows."""
-    traces.write("trace", "".join(f"T{thread}|w(a{thread})|a:{at}\n" for thread in range(4) for at in range(8)))
+    traces.write("trace", "".join(f"T{at // 8 % 2}|w(a{at // 8 % 2})|a:{at}\n" for at in range(32)))
     async with Screen(program, "trace", "log") as screen, Browser() as browser:
         page = await browser.page(screen.link)
-        await new(page, 4)
+        await new(page, 2)
         await session(program, 2, "".join(f"add A {event}\n" for event in range(16)))
         await page.until(f"{LENGTH} === '16 events' && !!document.querySelector('[data-p=\"15\"]')")
         await page.until(f"{ASTRAY} === ''")
@@ -156,4 +156,114 @@ async def test_answers_that_are_lost_with_the_connection(program):
         same(await page.run(AFTER_THE_END), [3, 5])
         await page.run("letGo()")
         await shows(page, 4)
+        is_clean(page, screen)
+
+
+async def test_what_a_thread_waits_for_is_counted(program):
+    """The button says how many events its run adds."""
+    traces.write("trace", traces.COUNT)
+    button = "document.querySelector('#next-list .next.on .do button').textContent"
+    async with Screen(program, "trace", "log") as screen, Browser() as browser:
+        page = await browser.page(screen.link)
+        await new(page, 3)
+        await press(page, "1", "1", "2", "2", "3")
+        same(await page.run(button), "run T1 to 5 (2) f")
+        await press(page, "f")
+        assert (await page.run(SAID)).startswith("added 2 events"), await page.run(SAID)
+        await press(page, "3", "3")
+        await press(page, "1")  # the join of T1
+        same(await page.run(button), "run T1 to 7 (2) f")
+        await press(page, "f")
+        assert (await page.run(SAID)).startswith("added 2 events"), await page.run(SAID)
+        is_clean(page, screen)
+
+
+SAYINGS = {
+    "3: done": "entry 3",
+    "4: undone 3": "entry 4: took back 3",
+    "5: proposed 0": "entry 5: proposal 0",
+    "refused 42 no such schedule": "refused: no such schedule",
+    "refused 43 name taken": "refused: that name is taken",
+    "refused 44 no such proposal": "refused: no such proposal",
+    "refused 45 nothing to retract": "refused: there is no event to take back",
+    "refused 48 too short": "refused: the schedule is shorter",
+    "refused 51 nothing to undo": "refused: you have nothing to undo",
+    "refused 54 not shown": "refused: it does not show that pair",
+    "refused 55 log full": "refused: the log is full",
+    "refused 58 not own": "refused: that entry is not yours",
+    "refused 59 not live": "refused: that entry was taken back already",
+    "refused 70 at 0 43 name taken": "refused: at 0 43 name taken",
+    "line 3: 81 bad word": "line 3: 81 bad word",
+}
+
+
+async def test_answers_of_the_program_in_words(program):
+    traces.write("trace", FREE)
+    async with Screen(program, "trace", "log") as screen, Browser() as browser:
+        page = await browser.page(screen.link)
+        await new(page, 8)
+        for answer, words in SAYINGS.items():
+            same(await page.run(f"import('/words.js').then((words) => words.said({answer!r}))"), words)
+        await press(page, "1", "2")
+        await page.run("document.getElementById('said').replaceChildren()")
+        undo = "import('/act.js').then((page) => void page.act('undo', { entries: [2] }))"
+        await session(program, 1, "undo 2\n")
+        await page.run(undo)
+        await page.until(f"{SAID}.startsWith('refused: that entry was taken back already')")
+        is_clean(page, screen)
+
+
+LONG = "".join(
+    f"worker-{'x' * 240}{at % 3}|{'wr'[at // 3 % 2]}(variable-{'y' * 220}{at % 2})|/a/{'sub/' * 20}file{at}.c:{at}\n"
+    for at in range(24)
+)
+# Of each place of the pair, and of each line of news, what is not in sight.
+UNSEEN = """[...document.querySelectorAll('#pair .access, .away-line')].map((line) => {
+  if (!line.offsetWidth) return '';
+  const part = line.querySelector('.place .end') ?? line.querySelector('.place, .news');
+  const [box, room] = [part?.getBoundingClientRect(), line.getBoundingClientRect()];
+  const isSeen = box && box.width > 30 && box.right <= room.right + 1 && box.bottom <= room.bottom + 1;
+  return isSeen && part.scrollWidth <= part.clientWidth + 1 ? '' : line.className + ': ' + part?.textContent;
+}).filter((text) => text).join('; ')"""
+PARTS = "[...document.querySelectorAll('#pair .access, .away-line')].filter((line) => line.offsetWidth).length"
+
+
+async def test_long_names_leave_room(program):
+    """In the pair its places are in sight, and in the news what others did."""
+    traces.write("trace", LONG)
+    name = "N" * 64
+    async with Screen(program, "trace", "log") as screen, Browser() as browser:
+        page = await browser.page(screen.link)
+        await page.until("document.querySelectorAll('.race').length > 2")
+        await page.click(".race")
+        await page.until(f"{OPEN} === 'Witness' && !document.getElementById('pair').hidden")
+        await session(program, 2, f"new {name}\nadd {name} 0\nback {name}\nadd {name} 0\n")
+        await page.until("!document.getElementById('away').hidden")
+        for width, parts in ((1440, 3), (1180, 3), (1000, 3), (760, 2), (560, 2), (320, 2)):
+            await page.size(width, 900)
+            await page.until(f"innerWidth === {width} && {PARTS} === {parts}")
+            await page.until(f"{UNSEEN} === ''", what=f"all in sight at {width}: {await page.run(UNSEEN)}")
+        is_clean(page, screen)
+
+
+async def test_names_as_long_as_names_may_be(program):
+    """The name that is proposed for a branch of one is no longer."""
+    traces.write("trace", FREE)
+    name = "N" * 64
+    async with Screen(program, "trace", "log") as screen, Browser() as browser:
+        page = await browser.page(screen.link)
+        await new(page, 8, name)
+        await press(page, "1")
+        for end in (".b", ".b.2"):
+            await page.key("b")
+            await page.until("document.getElementById('ask').open")
+            branch = name[: 64 - len(end)] + end
+            same(await page.run("document.getElementById('ask-input').value"), branch)
+            await page.key("Enter")
+            await page.until(f"{OPEN} === '{branch}'")
+            await page.key("[")
+            await page.until(f"{OPEN} !== '{branch}'")
+            if end == ".b":
+                await page.until(f"{OPEN} === '{name}'")
+        same(logged()[2:], [f"1 branch {name} 1 {name[:62]}.b", f"1 branch {name} 1 {name[:60]}.b.2"])
         is_clean(page, screen)
