@@ -21,10 +21,10 @@ if a write failed may it have those of the turn at work too, all or none. So it 
 import os
 import pathlib
 import re
-import shutil
 import subprocess
 from collections import namedtuple
 
+import running
 from disk import HEAD, kept_lines
 
 from judging import Wrong
@@ -56,14 +56,7 @@ Log = namedtuple("Log", "name before after client text")
 
 def library(folder):
     """The library that has calls fail, made in this folder."""
-    made = pathlib.Path(folder) / "refuse.so"
-    kit = pathlib.Path(
-        subprocess.run(["rt", "doc"], capture_output=True, text=True, check=False).stdout.strip() or "/"
-    ).parent
-    compiler = shutil.which("cc") or shutil.which("clang") or kit / "toolchain/bin/clang"
-    sources = [TOP / "tools/refuse.c", TOP / "tools/disk.c"]
-    subprocess.run([compiler, "-O2", "-shared", "-fPIC", "-o", made, *sources], check=True)
-    return made
+    return running.library(pathlib.Path(folder) / "refuse.so", TOP / "tools/refuse.c", TOP / "tools/disk.c")
 
 
 def runs_of(made, program, words, stdin, here, way, files, left=None):

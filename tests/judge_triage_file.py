@@ -14,6 +14,7 @@ Says what is wrong, if something is, and ends with status 1 then, also if a kind
 """
 
 import datetime
+import itertools
 import json
 import os
 import random
@@ -28,6 +29,7 @@ import running
 from judging import Wrong
 
 TRACES = 120
+TOOLS = os.path.join(judging.HERE, "..", "tools")
 TODAY = datetime.date(2027, 6, 1)
 PATHS = ["p/u.c", "q/u.c", "u.c", "a b.c"]
 FUNCTIONS = ["add", "get", "operator new", ""]
@@ -50,7 +52,12 @@ REACHED = [
     "more behind entries",
     "no TOML at a column",
     "days of the clock",
+    "days of other clocks",
+    "no day",
 ]
+# Years whose days are compared: with and without a leap day, and the longest number of a year that the format takes.
+YEARS = [1970, 1972, 1999, 2000, 2023, 2024, 2027, 2099, 2100, 2101, 2399, 2400, 2401, 9999]
+DAY = datetime.timedelta(days=1)
 WORDS = {
     "table": "is no table",
     "unknown": "has an unknown key",
@@ -403,12 +410,47 @@ def judge_clock(program, folder, reached):
         reached["days of the clock"] += 1
 
 
+def at_clock(program, folder, clock, *words):
+    """A run at these seconds of the clock of the day, by tools/clock.c."""
+    path = os.path.abspath(os.path.join(folder, "clock.so"))
+    return running.ended(program, ["triage", *words], {"LD_PRELOAD": path, "CLOCK_AT": str(clock)})
+
+
+def judge_day(program, folder, day, seconds, reached):
+    """At so many seconds of a day, an entry that expires on it is in force, and one of the day before is not."""
+    clock = (day - datetime.date(1970, 1, 1)).days * 86400 + seconds
+    for last in (day, day - DAY):
+        write(folder, "f.toml", text_of([{"paths": ["no.c", "no.c"], "verdict": "known", "expires": last}]))
+        told = at_clock(program, folder, clock, "t.std", "--triage", "f.toml")
+        wanted = at_clock(program, folder, clock, "t.std", "--triage", "f.toml", "--today", day.isoformat())
+        demand(told == wanted, f"the clock at {clock}, {day}: {told} in place of {wanted}")
+        demand(told[0] == int(last < day), f"the clock at {clock}, {day}: status {told[0]} of an entry up to {last}")
+    reached["days of other clocks"] += 1
+
+
+def judge_other_clocks(program, folder, reached):
+    """The first or the last second of the first and last days of months; and clocks that have no date."""
+    running.library(os.path.join(folder, "clock.so"), os.path.join(TOOLS, "clock.c"))
+    for year in YEARS:
+        for month in range(1, 13):
+            first = datetime.date(year, month, 1)
+            for day in [first, first - DAY, *[first + 27 * DAY, first + 28 * DAY] * (month == 2)]:
+                if day >= datetime.date(1970, 1, 1):
+                    judge_day(program, folder, day, 86399 * (month % 2), reached)
+    for clock, words in itertools.product(["none", -1, -86400], [["t.std"], ["t.std", "--windows=2"]]):
+        told = at_clock(program, folder, clock, *words, "--triage", "f.toml")
+        wanted = (1, b"", b"racebench: the clock has no date: pass one with `--today`\n")
+        demand(told == wanted, f"{words} with the clock at {clock}: {told}")
+        reached["no day"] += 1
+
+
 def judged(run):
     for seed in run.seeds():
         with judging.about(f"seed {seed}"):
             judge_trace(run.program, ".", seed, run.tally)
             judge_columns(run.program, ".", random.Random(seed), run.tally)
     judge_clock(run.program, ".", run.tally)
+    judge_other_clocks(run.program, ".", run.tally)
     return ", ".join(f"{what} {run.tally[what]}" for what in REACHED)
 
 

@@ -1,6 +1,8 @@
 """Runs the program for the judges, in the folder that they are in, and takes what `threads` printed apart."""
 
 import os
+import pathlib
+import shutil
 import subprocess
 
 from judging import Wrong, given
@@ -29,6 +31,16 @@ def printed(program, words):
     if status != 0 or err:
         raise Wrong(f"{words[0]}: status {status}: {err.decode()[:300]}{given(words[1:])}")
     return out
+
+
+def library(made, *sources):
+    """The library at the path `made` for LD_PRELOAD, which is made of these C sources."""
+    kit = pathlib.Path(
+        subprocess.run(["rt", "doc"], capture_output=True, text=True, check=False).stdout.strip() or "/"
+    ).parent
+    compiler = shutil.which("cc") or shutil.which("clang") or kit / "toolchain/bin/clang"
+    subprocess.run([compiler, "-O2", "-shared", "-fPIC", "-o", made, *sources], check=True)
+    return made
 
 
 # What `threads` is told beside its files: that each thread may queue for its turn at any time, so that clients change
