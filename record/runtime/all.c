@@ -13,6 +13,7 @@
 #include "searches.c"
 #include "numbers.c"
 #include "containers.c"
+#include "ostreams.c"
 #include "locks.c"
 #include "conditions.c"
 #include "readers.c"

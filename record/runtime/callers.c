@@ -16,16 +16,29 @@ static int is_hooked(u64 pc) {
     return 0;
 }
 
-static int note_range(struct dl_phdr_info *info, size_t size, void *pc) {
-    (void)size;
+/* The part of a program or library that a place is in. */
+static struct range part_of(const struct dl_phdr_info *info, u64 pc) {
     for (int i = 0; i < info->dlpi_phnum; i++) {
         const ElfW(Phdr) *p = &info->dlpi_phdr[i];
         u64 start = info->dlpi_addr + p->p_vaddr;
-        if (p->p_type != PT_LOAD || *(u64 *)pc - start >= p->p_memsz) continue;
-        if (hooked_count < MOST_RANGES) hooked[hooked_count++] = (struct range){start, p->p_memsz};
-        return 1;
+        if (p->p_type == PT_LOAD && pc - start < p->p_memsz) return (struct range){start, p->p_memsz};
     }
-    return 0;
+    return (struct range){0, 0};
+}
+
+static int note_range(struct dl_phdr_info *info, size_t size, void *pc) {
+    (void)size;
+    struct range part = part_of(info, *(u64 *)pc);
+    if (part.size && hooked_count < MOST_RANGES) hooked[hooked_count++] = part;
+    return !!part.size;
+}
+
+/* The code of the C library. */
+static struct range c_library;
+static int note_c_library(struct dl_phdr_info *info, size_t size, void *none) {
+    (void)size, (void)none;
+    c_library = part_of(info, (u64)__libc_free);
+    return !!c_library.size;
 }
 
 /* A part with hooks has code here. */
@@ -62,9 +75,25 @@ static _Unwind_Reason_Code step(struct _Unwind_Context *context, void *data) {
     return ++w->steps < MOST_STEPS ? _URC_NO_REASON : _URC_NORMAL_STOP;
 }
 
+/* A call of a library that the recorder makes for the program, and how many calls the hooks saw begin before. What the
+ * library calls then is called at this place. */
+struct library_call {
+    u64 pc;
+    u32 depth;
+};
+static __thread struct library_call library_call;
+static void end_library_call(struct library_call *before) { library_call = *before; }
+#define IN_LIBRARY(call) \
+    ({ \
+        __attribute__((cleanup(end_library_call))) struct library_call before_ = library_call; \
+        library_call = (struct library_call){PC, depth}; \
+        (call); \
+    })
+
 /* The first place with hooks around a place in a library; the place itself where there is none. */
 static u64 caller_in_program(u64 pc) {
     if (is_hooked(pc)) return pc;
+    if (library_call.pc && library_call.depth == depth) return library_call.pc;
     int error = errno;
     struct walk w = {pc, pc, 0};
     inside = 1;
@@ -72,4 +101,11 @@ static u64 caller_in_program(u64 pc) {
     inside = 0;
     errno = error;
     return w.found;
+}
+
+/* Where a function was called: what the library of C++ calls has hooks too, such as those of std::string. The C library
+ * calls threads, and what it sorts by again and again: there the place is its own. */
+static u64 site_of_call(u64 site) {
+    if (library_call.pc && library_call.depth == depth) return library_call.pc;
+    return site - c_library.start < c_library.size ? site : in_program(site);
 }

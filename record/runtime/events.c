@@ -8,7 +8,7 @@ struct call {
     u32 node;
 };
 static __thread struct call *calls;
-static __thread u32 depth, known_nodes;
+static __thread u32 known_nodes;
 
 static struct node *all_nodes;
 /* Numbers of nodes by what they are: places of a table, 0 where there is none. */
@@ -182,7 +182,7 @@ static void end_calls(void) {
 void __tsan_func_entry(void *site) {
     if (!calls && !make_calls()) return;
     if (depth < CALLS) {
-        calls[depth].site = (u64)site;
+        calls[depth].site = site_of_call((u64)site);
         calls[depth].body = PC;
         calls[depth].stack = (u64)__builtin_frame_address(0);
         if (known_nodes > depth) known_nodes = depth;

@@ -1,9 +1,5 @@
 /* The heap: where blocks begin and end, so that memory that is given out again is another variable. */
 
-extern void *__libc_malloc(size_t), *__libc_calloc(size_t, size_t), *__libc_realloc(void *, size_t),
-    *__libc_memalign(size_t, size_t);
-extern void __libc_free(void *);
-
 #define PAGE (size_t) sysconf(_SC_PAGESIZE)
 
 /* A library that the thread is in without its turn, as one that waits or that made the thread, goes on without it. */

@@ -56,6 +56,8 @@ static __thread u32 me = NOBODY;
 /* The clock of this thread: the hooks that it passed, and the blocks that it gave back since. */
 static __thread u64 tick;
 static __thread u32 sub;
+/* How many calls of this thread the hooks saw begin, and not end. */
+static __thread u32 depth;
 /* The stack of this thread. */
 static __thread u64 stack_start, stack_size;
 /* This thread may be cancelled wherever it is; while it is in the recorder it is not: it could have its lock. */
@@ -65,8 +67,13 @@ static __thread u64 making_team;
 /* The team of OpenMP in whose barrier this thread waits without a task. */
 static __thread struct region *idle_in;
 
+/* The heap of the C library, below the recorder's. */
+extern void *__libc_malloc(size_t), *__libc_calloc(size_t, size_t), *__libc_realloc(void *, size_t),
+    *__libc_memalign(size_t, size_t);
+extern void __libc_free(void *);
+
 /* callers.c: where the program called what led here. */
-static u64 caller_in_program(u64 pc);
+static u64 caller_in_program(u64 pc), site_of_call(u64 site);
 static u64 main_start, main_size;
 static inline u64 in_program(u64 pc) { return pc - main_start < main_size || IDLE ? pc : caller_in_program(pc); }
 #if defined __x86_64__

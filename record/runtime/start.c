@@ -71,6 +71,7 @@ static void begin(void) {
     joinable[0] = 1;
     note_modules();
     note_program((u64)begin);
+    dl_iterate_phdr(note_c_library, NULL);
     start_following(getenv("RACEBENCH_FOLLOW"));
     if (plan) threads = plan->threads > 1 ? (u32)plan->threads : 1;
     on = 1;

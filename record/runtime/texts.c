@@ -132,7 +132,7 @@ void *__wrap_mempcpy(void *to, const void *from, size_t n) {
 extern void __real_qsort(void *, size_t, size_t, int (*)(const void *, const void *));
 void __wrap_qsort(void *first, size_t count, size_t size, int (*compare)(const void *, const void *)) {
     READS(first, count * size), WRITES(first, count * size);
-    __real_qsort(first, count, size, compare);
+    IN_LIBRARY(__real_qsort(first, count, size, compare));
 }
 
 /* ---- what is printed: a format reads its texts, and what is printed into memory writes there ---- */
