@@ -22,6 +22,7 @@ import recorded_counts
 import recorded_follow
 import recorded_options
 import recorded_places
+import recorded_planted
 import recorded_reports
 import recorded_runs
 import recorded_strangers
@@ -199,6 +200,7 @@ def cases_of(racebench, pairs):
         seeds = SEEDS if place == 0 else SEEDS[:1]
         cases.append((f"count.std, {c}", judge_example, (c, cxx)))
         cases += recorded_places.cases(c, cxx) + recorded_reports.cases(racebench, c)
+        cases += recorded_planted.cases(racebench, c, cxx)
         if place == 0:
             cases += recorded_options.cases(racebench, c) + recorded_runs.cases(c) + recorded_follow.cases(racebench)
             cases += recorded_chance.cases(racebench) + recorded_ci.cases(racebench) + recorded_counts.cases(c)

@@ -29,6 +29,7 @@ COMPILED = {
     "many_waits.cpp": ["-std=c++20"],
     "meetings.cpp": ["-std=c++20"],
     "stop_tokens.cpp": ["-std=c++20"],
+    "planted.cpp": ["-std=c++20", "-latomic"],
     "shared_atomic.cpp": ["-std=c++20"],
     "waits_atomic.cpp": ["-std=c++20"],
     "wide_atomic.cpp": ["-std=c++17", "-latomic"],

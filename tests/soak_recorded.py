@@ -7,9 +7,12 @@ import sys
 
 import recorded_chance
 import recorded_follow
+import recorded_planted
 
 # How many programs are made by chance, recorded and followed.
 MANY_PROGRAMS = 100
+# How many programs of C++ have planted races.
+MANY_PLANTED = 20
 
 
 def main():
@@ -18,7 +21,8 @@ def main():
         return recorded_chance.soak(program, int(seeds[0]), 1)
     first = secrets.randbelow(10**9)
     print(f"soak: the seed of the first program is {first}", flush=True)
-    return recorded_follow.soak(program) | recorded_chance.soak(program, first, MANY_PROGRAMS)
+    planted = recorded_planted.soak(program, first, MANY_PLANTED)
+    return planted | recorded_follow.soak(program) | recorded_chance.soak(program, first, MANY_PROGRAMS)
 
 
 sys.exit(main())
