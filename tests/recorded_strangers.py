@@ -234,6 +234,23 @@ def judge_header(c):
         raise Wrong(f"what is compiled is not there: {os.listdir()}")
 
 
+def judge_own_names(c):
+    """What one source of the program defines and another one uses is the program's, also if the recorder stands for a
+    function of that name: another function, or a variable. So is what its library defines."""
+    sources = {"first.c": OWN_NAMES, "second.c": OTHER_NAMES, "third.c": LIBRARY_NAMES}
+    for name, text in sources.items():
+        with open(name, "w", encoding="ascii") as source:
+            source.write(text)
+    environment, cc = dict(os.environ, RECORD_CC=c), os.path.join(RECORD, "cc")
+    for words in (["-c", "second.c"], ["-fPIC", "-shared", "third.c", "-olib.so"]):
+        ran([cc, "-w", "-fno-builtin", *words], env=environment)
+    words = ["first.c", "second.o", "./lib.so", "-oprogram"]
+    status, _, told = ran([cc, "-w", "-fno-builtin", *words], env=environment)
+    _, trace, said = ran([os.path.join(RECORD, "run"), "./program"])
+    if status or not said.startswith("47 3 9 texts\n") or "(memmem+4)" not in trace or "ended with status 0" not in said:
+        raise Wrong(f"the program's own names are not its own: {told}{said}{trace}")
+
+
 def judge_regions(c, cxx):
     """The functions that a compiler makes of OpenMP's regions and tasks have the names of those around them, and of
     clang's library, whose orders the recorder does not know, it is said so."""
@@ -329,6 +346,30 @@ int main(void) {
 }
 """
 
+# Names of the C library that are the program's own.
+OWN_NAMES = """#include <pthread.h>
+extern int printf(const char *, ...), strsep(int), strtok(void);
+extern const char *stpcpy;
+extern struct { int a, b; } memmem;
+static void *work(void *p) { memmem.b++; return p; }
+int main(void) {
+    pthread_t t;
+    pthread_create(&t, 0, work, 0);
+    memmem.b++;
+    pthread_join(t, 0);
+    printf("%d %d %d %s\\n", strsep(5), memmem.b, strtok(), stpcpy);
+    return 0;
+}
+"""
+OTHER_NAMES = """static int base = 42;
+int strsep(int n) { return n + base; }
+struct { int a, b; } memmem = {0, 1};
+const char *stpcpy = "texts";
+"""
+LIBRARY_NAMES = """static int nine = 9;
+int strtok(void) { return nine; }
+"""
+
 # Regions in a function of a template in a class, and in main, and a task. Both threads read what the tasks write, so it
 # is in the trace also if one thread runs both.
 REGIONS = """int sum, other, seen;
@@ -393,7 +434,7 @@ def cases(racebench, c, cxx):
     found = [(f"calls behind a jump, {c}", judge_calls), (f"a library that is opened late, {c}", judge_late)]
     found += [(f"threads in waves, {c}", judge_waves)]
     found += [(f"few open files, {c}", judge_few_files), (f"a header for later, {c}", judge_header)]
-    found += [(f"descriptors of the recorder, {c}", judge_descriptors)]
+    found += [(f"descriptors of the recorder, {c}", judge_descriptors), (f"names of its own, {c}", judge_own_names)]
     strangers = [(f"strangers/{name}, {c}", judge_stranger, (racebench, name, c, cxx)) for name in names]
     strangers.append((f"what is wrong with strangers, {c}", judge_defects, (racebench, c)))
     return strangers + [(name, judge, (c,)) for name, judge in found]

@@ -4,7 +4,6 @@
 extern size_t __real_strspn(const char *, const char *), __real_strcspn(const char *, const char *);
 extern char *__real_strpbrk(const char *, const char *), *__real_strcasestr(const char *, const char *);
 extern char *__real_strchrnul(const char *, int), *__real_stpncpy(char *, const char *, size_t);
-extern char *__real_index(const char *, int), *__real_rindex(const char *, int);
 extern void *__real_memrchr(const void *, int, size_t), *__real_rawmemchr(const void *, int);
 extern void *__real_memmem(const void *, size_t, const void *, size_t);
 extern int __real_bcmp(const void *, const void *, size_t), __real_strcoll(const char *, const char *);
@@ -37,16 +36,6 @@ char *__wrap_strcasestr(const char *s, const char *part) {
 char *__wrap_strchrnul(const char *s, int c) {
     READS(s, searched(s, __real_strchrnul(s, c), 1, 0));
     return __real_strchrnul(s, c);
-}
-
-char *__wrap_index(const char *s, int c) {
-    READS(s, searched(s, __real_strchr(s, c), 1, __real_strlen(s) + 1));
-    return __real_strchr(s, c);
-}
-
-char *__wrap_rindex(const char *s, int c) {
-    READS_TEXT(s);
-    return __real_strrchr(s, c);
 }
 
 /* From the end on. */

@@ -23,7 +23,7 @@ static void *writes(void *p) {
 }
 static void *reads(void *p) {
     n += a[0];             /* RACE a */
-    n += b[1];             /* RACE b */
+    n += b[15];            /* RACE b */
     n += c[0];             /* RACE c */
     n += d[1];             /* RACE d */
     n += e[0];             /* RACE e */
