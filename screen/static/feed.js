@@ -12,6 +12,8 @@ const SHOWN = 120;
 const MORE = 200;
 const MOST = 520;
 const KEPT = 8_000;
+// So many threads of a group are named.
+const NAMED = 4;
 // So many entries are looked at for later steps than a long one.
 const FAR = 1_000;
 // So many entries behind one that is jumped to are shown, and so many before it.
@@ -99,7 +101,8 @@ function added(group) {
   if (group.events === 1) return [nameLink(entry.name), " + ", entry.ev ? short(entry.ev) : entry.w];
   const threads = [...new Set(group.entries.flatMap((one) => one.threads ?? one.ev.t))];
   return [nameLink(entry.name), ` + ${many(group.events, "event")} `,
-    threads.slice(0, 4).map((thread) => [tag(thread), " "])];
+    threads.slice(0, NAMED).map((thread) => [tag(thread), " "]),
+    threads.length > NAMED ? el("span", "dim", `and ${count(threads.length - NAMED)} more`) : null];
 }
 
 const SENTENCES = {

@@ -134,18 +134,22 @@ function line(one, lit) {
 function drawn(one, lit) {
   const source = told.source?.[one.l];
   const why = one.why ? reason(one.why, one) : null;
+  const far = distance(one);
   const more = button(open === one.t ? "▾" : `${count(one.left)} ›`, "", () => {
     choose(one.t);
     later(unfold);
   }, "more plain");
   more.dataset.does = "more";
-  more.title = `${many(one.left, "event")} of ${threadName(one.t)} to come (→)`;
+  const left = `${many(one.left, "event")} of ${threadName(one.t)} to come`;
+  more.title = `${left} (→)`;
+  more.setAttribute("aria-label", left);
+  more.setAttribute("aria-expanded", open === one.t);
   const what = el("span", "what", el("span", "num", String(one.e)), " ", operation(one));
   what.title = `${one.o} ${one.n}`;
   const made = el("div", `next${why ? " no" : " yes"}${one.t === chosen ? " on" : ""}${lit.has(one.e) ? " lit" : ""}`,
     el("kbd", "digit", one.t < 9 ? String(one.t + 1) : ""), tag(one.t), el("span", "dot", why ? "○" : "●"),
     what, why ?? el("span", "code", place(one.l), source ? el("code", "", source) : null),
-    el("span", "do", distance(one), buttons(one), more));
+    el("span", "do", far, buttons(one), more));
   made.dataset.t = one.t;
   made.dataset.place = one.l;
   does(made, ({ target }) => {
@@ -153,8 +157,8 @@ function drawn(one, lit) {
     choose(one.t);
     if (!one.why) addLater(one);
   });
-  const label = `${spoken(one)}, ${why ? `may not come next: ${why.textContent}` : "may come next"}`;
-  return option(made, label, one.t === chosen);
+  const said = [spoken(one), why ? `may not come next: ${why.textContent}` : "may come next", far?.textContent];
+  return option(made, said.filter(Boolean).join(", "), one.t === chosen);
 }
 
 // What comes of a thread; a click runs to there.

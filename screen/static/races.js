@@ -121,7 +121,8 @@ function drawn(block, at, isChosen) {
   made.setAttribute("aria-setsize", got.total);
   made.setAttribute("aria-posinset", at + 1);
   const sides = [one, other].map((access) => `${access.operation} at ${access.location} by ${access.thread}`);
-  const label = `${verdict}, ${one.variable}, ${sides.join(" and ")}, ${many(block.pairs, "pair")}`;
+  const end = block.ended ? `, replayed: ${block.ended.word}` : "";
+  const label = `${verdict}, ${one.variable}, ${sides.join(" and ")}, ${many(block.pairs, "pair")}${end}`;
   does(made, () => pick(block));
   return option(made, label, isChosen);
 }

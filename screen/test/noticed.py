@@ -267,3 +267,96 @@ async def test_names_as_long_as_names_may_be(program):
                 await page.until(f"{OPEN} === '{name}'")
         same(logged()[2:], [f"1 branch {name} 1 {name[:62]}.b", f"1 branch {name} 1 {name[:60]}.b.2"])
         is_clean(page, screen)
+
+
+LABELS = "[...document.querySelectorAll('{}')].map((one) => one.getAttribute('aria-label'))"
+
+
+async def test_a_screen_reader_says_what_is_drawn_beside(program):
+    """How far a thread is from the aim, how many events it has to come, and how a race was replayed."""
+    traces.write("trace", traces.COUNT)
+    traces.write("trace.confirmed", '{"events": [7, 12], "ended": "stands"}\n')
+    async with Screen(program, "trace", "log") as screen, Browser() as browser:
+        page = await browser.page(screen.link)
+        await page.until("document.querySelectorAll('.race').length === 1")
+        said = await page.run(LABELS.format(".race"))
+        assert said[0].endswith(", replayed: stands"), said
+        await page.click(".race")
+        await page.until(f"{OPEN} === 'Witness'")
+        await press(page, "e")
+        await page.until(f"{NEXT} === 3")
+        refused = "may not come next: not begun: {} T0 fork {} has to come first"
+        same(
+            await page.run(LABELS.format("#next-list .next")),
+            [
+                "event 0, T0 forks T1, count.c:17, may come next, 2 needed",
+                f"event 2, T1 writes value, count.c:5, {refused.format(0, 'T1')}, 5 to aim",
+                f"event 8, T2 takes lock m, count.c:11, {refused.format(1, 'T2')}, 4 to aim",
+            ],
+        )
+        more = "#next-list .more"
+        all_of_them = ["5 events of T0 to come", "6 events of T1 to come", "6 events of T2 to come"]
+        same(await page.run(LABELS.format(more)), all_of_them)
+        opened = f"[...document.querySelectorAll('{more}')].map((one) => one.ariaExpanded).join()"
+        same(await page.run(opened), "false,false,false")
+        await focus(page, "next-list")
+        await page.key("ArrowRight")
+        await page.until(f"{opened} === 'true,false,false'")
+        is_clean(page, screen)
+
+
+DID = "[...document.querySelectorAll('#feed .did')].map((e) => e.textContent.replace(/ +/g, ' ').trim()).join('; ')"
+
+
+async def test_a_group_of_many_threads(program):
+    """The log names some of its threads, and says how many more there are."""
+    traces.write("trace", FREE)
+    async with Screen(program, "trace", "log") as screen, Browser() as browser:
+        page = await browser.page(screen.link)
+        await new(page, 8)
+        await press(page, "1", "2", "3", "4")
+        await page.until(f"{DID} === 'A + 4 events T0 T1 T2 T3; made A'")
+        await press(page, "5", "6")
+        await page.until(f"{DID} === 'A + 6 events T0 T1 T2 T3 and 2 more; made A'")
+        is_clean(page, screen)
+
+
+async def test_news_begin_where_the_last_look_ended(program):
+    """What comes to a group of entries that were seen is news, and stands above the line."""
+    traces.write("trace", FREE)
+    await session(program, 2, "new A\nadd A 0\nadd A 1\n")
+    fresh = "[...document.querySelectorAll('.entry.fresh .at')].map((e) => e.textContent).join()"
+    lines = "[...document.querySelectorAll('#feed > *')].map((e) => e.className.split(' ')[0]).join()"
+    async with Screen(program, "trace", "log") as screen, Browser() as browser:
+        page = await browser.page(screen.link)
+        await page.until(f"{OPEN} === 'A' && {ROWS} === 2 && {NEXT} === 8 - 2")
+        await press(page, "s")
+        await page.until(f"{DID}.startsWith('A + 2 events') && {fresh} === ''")
+        await session(program, 2, "add A 2\nadd A 3\n")
+        await page.until(f"{fresh} === '3–4' && {lines} === 'entry,divide,entry,entry'")
+        same(await page.run(f"{DID}.split('; ')[0]"), "A + 2 events T2 T3")
+        await press(page, "s")
+        await page.until(f"{fresh} === '' && {lines} === 'entry,entry'")
+        is_clean(page, screen)
+
+
+async def test_what_was_taken_back_is_struck_out(program):
+    """At once, whoever took it back. It has no undo, and its title names the entry that took it back."""
+    traces.write("trace", FREE)
+    entry = "document.getElementById('entry-{}')"
+    is_dead = entry + ".classList.contains('dead')"
+    async with Screen(program, "trace", "log") as screen, Browser() as browser:
+        page = await browser.page(screen.link)
+        await new(page, 8)
+        await press(page, "1")
+        await session(program, 2, "new B\n")
+        await page.until("document.querySelectorAll('.entry').length === 3")
+        await press(page, "u")
+        await page.until(is_dead.format(1))
+        await session(program, 2, "undo\n")
+        await page.until(is_dead.format(2))
+        for number, by in ((1, 3), (2, 4)):
+            same((await page.run(entry.format(number) + ".title")).split("\n")[1], f"taken back by entry {by}")
+            same(await page.run(entry.format(number) + ".querySelector('.quiet')"), None)
+        same(await page.run(is_dead.format(0)), False)
+        is_clean(page, screen)
