@@ -62,6 +62,7 @@ function show(title, ...inner) {
   replace(box, el("h2", "", title), inner, close);
   box.setAttribute("aria-label", title);
   box.showModal();
+  box.scrollTop = 0; // the button that has the focus may be below what is in sight
 }
 
 export const showKeys = () => show("Keys", el("div", "keys", KEYS.map(group)));

@@ -360,3 +360,44 @@ async def test_what_was_taken_back_is_struck_out(program):
             same(await page.run(entry.format(number) + ".querySelector('.quiet')"), None)
         same(await page.run(is_dead.format(0)), False)
         is_clean(page, screen)
+
+
+async def test_keys_are_read_from_their_beginning(program):
+    """In a low window the list is scrolled, and its first lines are in sight at first."""
+    traces.write("trace", FREE)
+    async with Screen(program, "trace", "log") as screen, Browser() as browser:
+        page = await browser.page(screen.link, 720, 300)
+        await page.until(TITLE)
+        for _ in range(2):
+            await page.key("?")
+            await page.until("document.getElementById('help').open")
+            box = "(({ scrollHeight, clientHeight, scrollTop }) => [scrollHeight > clientHeight, scrollTop])"
+            same(await page.run(f"{box}(document.getElementById('help'))"), [True, 0])
+            await page.run("document.getElementById('help').scrollTop = 1e6")
+            await page.key("Escape")
+            await page.until("!document.getElementById('help').open")
+        is_clean(page, screen)
+
+
+# A run that could add more than one request may: this many more are to come.
+MORE = """Object.defineProperty(WebSocket.prototype, "onmessage", {
+  set(act) {
+    this.addEventListener("message", ({ data }) => {
+      const told = JSON.parse(data);
+      act.call(this, { data: JSON.stringify(told.added ? { ...told, more: 1234 } : told) });
+    });
+  },
+})"""
+
+
+async def test_a_run_that_is_not_over(program):
+    traces.write("trace", FREE)
+    async with Screen(program, "trace", "log") as screen, Browser() as browser:
+        page = await browser.page("about:blank")
+        await page.call("Page.addScriptToEvaluateOnNewDocument", source=MORE)
+        await page.open(screen.link)
+        await new(page, 8)
+        await press(page, "r")
+        said = await page.run(SAID)
+        assert said.startswith("added 1 event · 1,234 more to come: run again · entry 1"), said
+        is_clean(page, screen)
