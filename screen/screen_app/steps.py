@@ -148,7 +148,8 @@ async def undo(bench: Bench, entries: list[int]) -> Told:
     """Takes back these entries, newest first, under one lock; none named is the latest of this client."""
     answers = await bench.say(*[f"undo {entry}" for entry in entries] or ["undo"])
     failed = next((answer for answer in answers if ": undone" not in answer), None)
-    told: Told = {"answer": failed or answers[-1], "undone": sum(": undone" in answer for answer in answers)}
+    made = [entry_of(answer) for answer in answers if ": undone" in answer]
+    told: Told = {"answer": failed or answers[-1], "undone": len(made), "made": made}
     found = RESTS.match(failed or "")
     if found:
         told["rests"] = {"entry": bench.mirror.told(int(found[1]), 1)[0], "name": found[2]}

@@ -133,6 +133,22 @@ async def test_steps_back_that_are_typed_ahead(program):
         is_clean(page, screen)
 
 
+async def test_a_step_back_after_an_undo_of_many_entries(program):
+    """All that the page did since the schedule was drawn is its own, also what one key did in several entries."""
+    traces.write("trace", "".join(f"T0|w(a)|a:{at}\n" for at in range(260)) + "T1|w(b)|b:1\n")
+    async with Screen(program, "trace", "log") as screen, Browser() as browser:
+        page = await deaf(browser, screen, 0, 2)
+        await press(page, "2")
+        await shows(page, 1)
+        for key in ("1", "r", "u", "Backspace"):
+            await page.key(key)
+        await comes(lambda: logged()[-1] == "1 back A")
+        await shows(page, 1)
+        same([line[:6] for line in logged()[3:]], ["1 batc"] * 5 + ["1 undo"] * 5 + ["1 back"])
+        same(await page.run(ORDER), "260")
+        is_clean(page, screen)
+
+
 async def test_steps_back_of_an_event_on_others_that_are_not_shown(program):
     """An event came to a schedule that another one changed before: the page takes back that event, and no other."""
     traces.write("trace", FREE)
