@@ -37,6 +37,8 @@ const CLIENT: &[u8] =
 #[derive(Drop)]
 struct Lines {
     kept: Vec<u8>,
+    /// The answers that were written since the last whole one: a write may end within an answer.
+    answered: Vec<u8>,
     /// The number of the first of these lines, counted from 1.
     first: u64,
     /// Whether all these bytes could be kept.
@@ -64,6 +66,22 @@ impl Lines {
         self.is_whole = self.is_whole
             && bytes.len() <= room
             && self.kept.extend_from_slice(bytes).is_ok();
+    }
+
+    // Takes in answers that were written.
+    fn take_answers(&mut self, bytes: &[u8]) {
+        self.is_whole = self.is_whole && self.answered.extend_from_slice(bytes).is_ok();
+    }
+
+    // Takes the whole answers away, after the notes on them.
+    fn drop_told(&mut self, alloc: Global) {
+        let Some(end) = memrchr(b'\n', self.answered.as_slice()) else {
+            return;
+        };
+        match Vec::from_slice(alloc, from(self.answered.as_slice(), end.saturating_add(1))) {
+            Ok(rest) => self.answered = rest,
+            Err(_) => self.is_whole = false,
+        }
     }
 
     // The line with this number, if it is kept.
@@ -95,6 +113,7 @@ impl<'a> LineNotes<'a> {
             is_wanted: are_wanted(rt),
             lines: RefCell::new(Lines {
                 kept: Vec::new(rt.alloc()),
+                answered: Vec::new(rt.alloc()),
                 first: 1,
                 is_whole: true,
             }),
@@ -118,24 +137,26 @@ impl<'a> LineNotes<'a> {
         if !self.is_wanted {
             return;
         }
-        if let Ok(guard) = self.lines.try_borrow() {
+        if let Ok(mut guard) = self.lines.try_borrow_mut() {
+            let lines = &mut *guard;
+            lines.take_answers(answers);
             let mut out = Vec::new(self.rt.alloc());
-            if append_answers_notes(&mut out, &*guard, self.client, answers).is_ok() {
+            if append_answers_notes(&mut out, lines, self.client).is_ok() {
                 say(self.rt, &out);
             }
+            lines.drop_told(self.rt.alloc());
         }
     }
 }
 
-/// Appends the notes on these answers.
+/// Appends the notes on the whole answers that were written.
 fn append_answers_notes(
     out: &mut Vec<u8>,
     lines: &Lines,
     client: Option<u32>,
-    answers: &[u8],
 ) -> Result<(), OutOfMemory> {
-    let mut rest = answers;
-    'answers: for _ in 0..answers.len() {
+    let mut rest = lines.answered.as_slice();
+    'answers: for _ in 0..lines.answered.len() {
         let Some(answer) = first_line(rest, false) else {
             return Ok(());
         };
