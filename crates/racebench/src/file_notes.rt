@@ -50,6 +50,9 @@ fn unopened_words(error: &io::Error) -> &'static [u8] {
     match error.kind() {
         io::ErrorKind::NotFound => b" does not exist",
         io::ErrorKind::PermissionDenied => b" may not be read: permission denied",
+        io::ErrorKind::NotADirectory => {
+            b" cannot be opened: a part of its path is a file, not a folder"
+        }
         _ => b" cannot be opened",
     }
 }
@@ -75,16 +78,13 @@ fn unread_path_words(rt: &HostRuntime, path: &str) -> &'static [u8] {
     }
 }
 
-/// Appends the note on an input that was not read. If no argument names the input, there is no note.
+/// Appends the note on the input at this path, which was not read.
 fn append_unread_note(
     rt: &HostRuntime,
     out: &mut Vec<u8>,
     path: &str,
     why: ReadCause,
 ) -> Result<(), OutOfMemory> {
-    if path.is_empty() {
-        return Ok(());
-    }
     match why {
         ReadCause::TooLong => append_named(out, path, unread_words(why)),
         ReadCause::Device => append_named(out, path, unread_path_words(rt, path)),
@@ -180,7 +180,11 @@ pub(crate) fn append_file_notes(
             append_script_file_notes(rt, out, path, Some(*place), refusal)
         }
         BenchFault::Replay(ReplayFault::Read { input, why }) => {
-            append_unread_note(rt, out, path_of(paths, *input), *why)
+            match paths.get((*input as usize).saturating_sub(1)) {
+                Some(path) => append_unread_note(rt, out, path, *why),
+                // No argument names the input.
+                None => Ok(()),
+            }
         }
         BenchFault::Replay(ReplayFault::Write) => append_standard_note(rt, out),
         _ => Ok(()),

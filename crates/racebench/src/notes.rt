@@ -4,7 +4,7 @@ use crate::likeness::{Likeness, words_of};
 use crate::lines::{
     before_gap, behind_divider, behind_line, command_of, first_line, first_word, line_of,
 };
-use crate::quoted::{append_name, append_quote, append_shown};
+use crate::quoted::{append_name, append_path, append_quote, append_shown};
 use crate::trace_notes::{append_rule_notes, append_text_notes};
 use crate::write_notes::append_standard_note;
 use client_scripts::{ReadCause, ReplayFault, ScriptCause, ScriptRefusal};
@@ -60,7 +60,7 @@ pub(crate) fn usage_of(command: &[u8]) -> Option<&'static [u8]> {
 /// Appends a note on an input: its name, and these words.
 pub(crate) fn append_named(out: &mut Vec<u8>, name: &str, words: &[u8]) -> Result<(), OutOfMemory> {
     out.extend_from_slice(b"note: ")?;
-    append_name(out, name)?;
+    append_path(out, name)?;
     out.extend_from_slice(words)?;
     out.extend_from_slice(b"\n")?;
     Ok(())

@@ -28,6 +28,15 @@ pub(crate) fn append_name(out: &mut Vec<u8>, name: &str) -> Result<(), OutOfMemo
     Ok(())
 }
 
+/// Appends the path of a file for a note. An empty path gets a name.
+pub(crate) fn append_path(out: &mut Vec<u8>, path: &str) -> Result<(), OutOfMemory> {
+    if path.is_empty() {
+        out.extend_from_slice(b"the empty path")?;
+        return Ok(());
+    }
+    append_name(out, path)
+}
+
 /// Appends the decimal digits of a number.
 pub(crate) fn append_number(out: &mut Vec<u8>, number: u64) -> Result<(), OutOfMemory> {
     append_pieces(out, &[Piece::Number(number)])

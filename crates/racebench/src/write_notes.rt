@@ -1,7 +1,7 @@
 //! Notes on outputs that were not written: which output, and the likely cause.
 
 use crate::notes::{STANDARD_OUTPUT, append_named};
-use crate::quoted::append_name;
+use crate::quoted::append_path;
 use rapid_text::OutOfMemory;
 use std::fs::{File, Metadata, metadata};
 use std::io::{ErrorKind, Write};
@@ -81,6 +81,9 @@ fn unmade_cause(rt: &HostRuntime, path: &str) -> &'static [u8] {
 
 /// The likely cause why the log at this path was not written.
 fn log_cause(rt: &HostRuntime, path: &str) -> &'static [u8] {
+    if path.is_empty() {
+        return b"";
+    }
     match metadata(rt, path) {
         Ok(found) if found.is_file() => match File::options().write(true).open(rt, path) {
             Ok(_) => FULL,
@@ -101,7 +104,7 @@ pub(crate) fn append_write_note(
         return append_named(out, name, b" cannot be written");
     }
     out.extend_from_slice(b"note: ")?;
-    append_name(out, name)?;
+    append_path(out, name)?;
     out.extend_from_slice(b" cannot be written: ")?;
     out.extend_from_slice(cause)?;
     out.extend_from_slice(b"\n")?;
