@@ -59,6 +59,7 @@ fn help_of(alloc: Global, command: &str) -> Result<Option<String>, OutOfMemory> 
     let told = task_of(alloc, words.as_slice(), LIMITS);
     match told {
         Err(Told::Help(text)) => Ok(Some(text)),
+        Err(Told::OutOfMemory) => Err(OutOfMemory),
         _ => Ok(None),
     }
 }
