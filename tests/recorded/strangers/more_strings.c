@@ -7,10 +7,10 @@
 #include <stdlib.h>
 #include <string.h>
 #include <strings.h>
-static char a[32], b[32], c[32], d[32], e[32], f[32], g[32], h[32], i[32], j[32], k[32], l[32], m[32], o[32], q[32];
+static char a[32], b[32], c[32], d[32], e[32], f[32], g[32], h[32], i[32], j[32], k[32], l[32], m[32], o[32], q[32], r[32];
 static char *volatile copy;
-static volatile size_t n;
-static FILE *file;
+static __thread volatile size_t n;
+static FILE *file, *line;
 
 static void prints(char *to, const char *format, ...) {
     va_list words;
@@ -35,6 +35,7 @@ static void *writes(void *p) {
     m[0] = 'm';               /* RACE m */
     if (fread(o, 2, 2, file)) /* RACE o */
         q[2] = '\n';          /* RACE q */
+    n += fgets(r, 16, line) != NULL; /* RACE r */
     e[5] = f[4] = g[9] = h[5] = i[8] = j[8] = k[12] = m[5] = q[5] = 'z';
     return NULL;
 }
@@ -59,18 +60,19 @@ static void *reads(void *p) {
     fprintf(stderr, "%.3s\n", m);   /* RACE m */
     n += o[3];                      /* RACE o */
     fwrite(q, 1, 3, stderr);        /* RACE q */
-    n += l[5] + o[4];
+    n += r[6];                      /* RACE r */
+    n += l[5] + o[4] + r[7];
     return NULL;
 }
 
 int main(void) {
     pthread_t t[2];
-    file = fopen("/dev/zero", "r");
+    file = fopen("/dev/zero", "r"), line = fmemopen((void *)"words\n", 6, "r");
     memset(e, 'w', 30), memset(f, 'f', 30), memset(h, 'h', 30), memset(i, 'i', 30), memset(k, 'k', 30);
     strcpy(g, "xyzzy"), strcpy(j, "wwwwy"), strcpy(m, "mmmmmmmm"), e[2] = 'x', strcpy(q, "qq\n");
     pthread_create(&t[0], NULL, writes, "hhhh");
     pthread_create(&t[1], NULL, reads, "hhhhhhx");
-    for (int r = 0; r < 2; r++) pthread_join(t[r], NULL);
+    for (int x = 0; x < 2; x++) pthread_join(t[x], NULL);
     puts("done");
     return 0;
 }
