@@ -41,7 +41,7 @@ def decoded(given, raw):
         "written": written,
         "left_out": left_out,
         "too_many_threads": too_many_threads,
-        "cut_short": bool(recorded.cut_short),
+        "cut_short": recorded.cut_short,
         "no_sections": recorded.no_sections,
         "not_chosen": recorded.not_chosen,
         "stronger": recorded.relaxed.stronger,

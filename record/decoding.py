@@ -30,8 +30,10 @@ MOST_EVENTS = 1_048_576
 MOST_THREADS = 256
 # With so many events at most, a trace has any number of events and threads.
 NO_LIMIT = (1 << 64) - 1
-# An access of more parts than this gives its first ones only; how often is said.
-MOST_PARTS = 64
+# An access of more parts than this may give its first ones only, if all accesses have more parts beyond than there is
+# room for: then it gives so many of them as MORE_PARTS says, the most that there is room for. decoder/parts.hpp has the
+# same.
+MOST_PARTS, MORE_PARTS, ROOM_BEYOND = 64, (65536, 4096, 512), 131072
 
 
 class Objects:
@@ -85,7 +87,7 @@ class Trace:
         self.head = raw_file.Head(raw)
         self.modules = places.Modules(self.head.modules, self.head.calls)
         self.objects = Objects(self.modules)
-        self.cut_short = 0
+        self.cut_short, self.most_parts = 0, MOST_PARTS
         self.locations = {}
         self.find_objects()
         self.find_parts()
@@ -145,10 +147,20 @@ class Trace:
             if shared.has(thing):
                 cuts.setdefault(thing, set()).update((place, place + size))
         self.cuts = {thing: sorted(ends) for thing, ends in cuts.items()}
+        self.choose_most_parts()
         self.kept = Shared()
         for _, thing, place, size, thread, kind in self.accesses():
             for part in self.parts(thing, place, size):
                 self.kept.see((thing, part), thread, kind)
+
+    def choose_most_parts(self):
+        """Of how many parts an access gives each: the most that there is room for."""
+        beyond = dict.fromkeys(MORE_PARTS, 0)
+        for _, thing, place, size, _, _ in self.accesses():
+            first, last = self.span(thing, place, size)
+            for most in MORE_PARTS if last - first > MOST_PARTS else ():
+                beyond[most] += min(last - first, most) - MOST_PARTS
+        self.most_parts = next((most for most in MORE_PARTS if beyond[most] <= ROOM_BEYOND), MOST_PARTS)
 
     def choose(self):
         """Of the parts that are kept those that the files of `only` access; the others are left out whole, and
@@ -169,14 +181,16 @@ class Trace:
     def is_written(self, part):
         return self.kept.has(part) and (not self.only or part in self.chosen)
 
+    def span(self, thing, place, size):
+        """The first part of an access, and the one behind its last."""
+        ends = self.cuts.get(thing, ())
+        return bisect.bisect_left(ends, place), bisect.bisect_left(ends, place + size)
+
     def parts(self, thing, place, size):
-        ends = self.cuts.get(thing)
-        if not ends:
-            return []
-        first, last = bisect.bisect_left(ends, place), bisect.bisect_left(ends, place + size)
-        if last - first > MOST_PARTS:
-            self.cut_short += 1
-        return ends[first : min(last, first + MOST_PARTS)]
+        first, last = self.span(thing, place, size)
+        if last - first > self.most_parts:
+            self.cut_short = self.most_parts
+        return self.cuts.get(thing, ())[first : min(last, first + self.most_parts)]
 
     def find_locks(self):
         self.locks = {}

@@ -11,7 +11,6 @@ import running
 
 MOST_EVENTS = 1_048_576
 MOST_THREADS = 256
-MOST_PARTS = 64
 MOST_FRAMES = 8
 # With --stream a trace is as long as it comes.
 NO_LIMIT = (1 << 64) - 1
@@ -122,7 +121,7 @@ def tell_left_out(given, head, facts):
             % (facts["not_chosen"], ", ".join(given.only))
         )
     if facts["cut_short"]:
-        say("some accesses have more than %d parts, and the rest of these was left out" % MOST_PARTS)
+        say("some accesses have more than %d parts, and the rest of these was left out" % facts["cut_short"])
 
 
 def tell(given, head, facts, libraries):

@@ -43,6 +43,35 @@ def judge_counts(c):
     judge_turns()
 
 
+# One thread goes over a block at once, and another one over each of its bytes.
+WIDE = """#include <pthread.h>
+#include <stdio.h>
+#include <string.h>
+static char block[700];
+static volatile int x;
+static void *work(void *p) { memset(block, 1, sizeof block); return p; }
+int main(void) {
+    pthread_t t;
+    pthread_create(&t, 0, work, 0);
+    for (int k = 0; k < 700; k++) x += block[k];
+    return pthread_join(t, 0);
+}
+"""
+
+
+def judge_wide(c):
+    """An access of many parts gives all of them if there is room for them, by both decoders."""
+    with open("wide.c", "w", encoding="ascii") as source:
+        source.write(WIDE)
+    ran([os.path.join(RECORD, "cc"), "-O1", "wide.c", "-o", "wide"], env=dict(os.environ, RECORD_CC=c))
+    for decoder in ("", "python"):
+        environment = dict(os.environ, RECORD_DECODER=decoder)
+        trace = ran([os.path.join(RECORD, "run"), "./wide"], env=environment)
+        names = set(re.findall(r"^T1\|w\((block[^)]*)\)", trace, re.MULTILINE))
+        if len(names) != 700 or "block+699" not in names:
+            raise Wrong(f"of 700 parts of an access {len(names)} are there, with the decoder {decoder or 'in C++'}")
+
+
 def judge_turns():
     """With --yield 1 turns are short, and with a large one long; nothing else is said of either run."""
     turns = []
@@ -57,4 +86,4 @@ def judge_turns():
 
 
 def cases(c):
-    return [(f"what is counted of a run, {c}", judge_counts, (c,))]
+    return [(f"what is counted of a run, {c}", judge_counts, (c,)), (f"an access of many parts, {c}", judge_wide, (c,))]

@@ -1,6 +1,7 @@
 // Which things two threads access, one of them writing, and in which parts.
 #pragma once
 #include <algorithm>
+#include <array>
 #include <unordered_map>
 #include <vector>
 #include "objects.hpp"
@@ -51,15 +52,16 @@ private:
     size_t settled = 0;
 };
 
-// An access of more parts than this gives its first ones only; how often is said.
-constexpr size_t MOST_PARTS = 64;
+// An access of more parts than this may give its first ones only, if all accesses have more parts beyond than there is
+// room for: then it gives so many of them as MORE_PARTS says, the most that there is room for. decoding.py has the same.
+constexpr size_t MOST_PARTS = 64, ROOM_BEYOND = 131072;
+constexpr std::array<size_t, 3> MORE_PARTS = {65536, 4096, 512};
 
 // What was found of an access: its first part, the one behind its last, and the one behind the last that is written.
 struct Span {
     Thing thing = objects::NOTHING;
     u64 place = 0, size = 0;
-    size_t from = 0, to = 0;
-    size_t end() const { return std::min(to, from + MOST_PARTS); }
+    size_t from = 0, to = 0, end = 0;
 };
 
 // The spans of accesses that come again and again.

@@ -98,20 +98,42 @@ parts::Span Trace::span_of(const Resolved &of) {
     parts::Span &known = spans.place_of(of.thing, of.place);
     if (!parts::Spans::is_of(known, of.thing, of.place, of.size)) {
         auto [from, to] = cuts[cuts_of[of.thing]].between(of.place, of.place + of.size);
-        known = {of.thing, of.place, of.size, from, to};
+        known = {of.thing, of.place, of.size, from, to, std::min(to, from + most_parts)};
     }
     return known;
 }
 
-// Kept are the parts that two threads access, one of them writing.
-void Trace::find_kept() {
+// An access gives as many parts as there is room for: whether these are more than it gave so far.
+bool Trace::gives_more_parts() {
+    size_t k = 0;
+    while (k < beyond.size() && beyond[k] > parts::ROOM_BEYOND) k++;
+    if (k == beyond.size() || !beyond[k]) return false;
+    most_parts = parts::MORE_PARTS[k];
+    return true;
+}
+
+void Trace::see_parts() {
     each([this](size_t, const record &one, const Resolved &of) {
         if (!of.there() || !is_access(one)) return;
         const parts::Cuts &ends = cuts[cuts_of[of.thing]];
         parts::Span span = span_of(of);
-        if (span.end() < span.to) counts.cut_short = true;
-        for (size_t part = span.from; part < span.end(); part++) kept[ends.first + part].see(one.thread, is_write(one));
+        if (span.end < span.to) {
+            counts.cut_short = most_parts;
+            for (size_t k = 0; k < beyond.size(); k++)
+                beyond[k] += std::min(span.to - span.from, parts::MORE_PARTS[k]) - parts::MOST_PARTS;
+        }
+        for (size_t part = span.from; part < span.end; part++) kept[ends.first + part].see(one.thread, is_write(one));
     });
+}
+
+// Kept are the parts that two threads access, one of them writing.
+void Trace::find_kept() {
+    see_parts();
+    if (!gives_more_parts()) return;
+    std::fill(kept.begin(), kept.end(), parts::Seen{});
+    counts.cut_short = 0;
+    spans.forget();
+    see_parts();
 }
 
 void Trace::find_relaxed() {
@@ -120,7 +142,7 @@ void Trace::find_relaxed() {
         if (!of.there() || !is_access(one) || !cuts_of[of.thing]) return;
         const parts::Cuts &ends = cuts[cuts_of[of.thing]];
         parts::Span span = span_of(of);
-        for (size_t part = span.from; part < span.end(); part++) {
+        for (size_t part = span.from; part < span.end; part++) {
             relaxed.see_part(number, one.thread, is_atomic(one.kind), ends.first + part);
             if (is_atomic(one.kind)) relaxed.see_atomic(number, one, ends.first + part);
         }
@@ -147,7 +169,7 @@ void Trace::choose() {
         if (!of.there() || !is_access(one) || !cuts_of[of.thing] || !is_chosen(one)) return;
         const parts::Cuts &ends = cuts[cuts_of[of.thing]];
         parts::Span span = span_of(of);
-        for (size_t part = span.from; part < span.end(); part++) kept[ends.first + part].chosen = true;
+        for (size_t part = span.from; part < span.end; part++) kept[ends.first + part].chosen = true;
     });
     for (parts::Seen &part : kept) {
         if (!part.shared() || part.chosen) continue;

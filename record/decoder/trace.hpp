@@ -61,8 +61,9 @@ struct LockSeen {
 };
 
 struct Counts {
-    u64 before = 0, written = 0, left_out = 0, no_sections = 0, not_chosen = 0, stronger = 0;
-    bool too_many_threads = false, cut_short = false;
+    // `cut_short` is how many parts an access has at most, if one has more.
+    u64 before = 0, written = 0, left_out = 0, cut_short = 0, no_sections = 0, not_chosen = 0, stronger = 0;
+    bool too_many_threads = false;
 };
 
 // Whether a record takes a lock or semaphore, and whether it lets it go.
@@ -105,6 +106,8 @@ private:
     void find_users();
     void find_shared();
     void find_cuts();
+    bool gives_more_parts();
+    void see_parts();
     void find_kept();
     void choose();
     void find_relaxed();
@@ -135,6 +138,9 @@ private:
     // The cuts of a thing, by their number; 0 is that of none.
     parts::PerThing<u32> cuts_of;
     std::vector<parts::Cuts> cuts;
+    // How many parts an access gives, and how many more all would give by each number of MORE_PARTS.
+    size_t most_parts = parts::MOST_PARTS;
+    std::array<size_t, parts::MORE_PARTS.size()> beyond = {};
     std::vector<parts::Seen> kept;
     parts::Spans spans;
     std::unordered_map<Lock, LockSeen, LockHash> locks;

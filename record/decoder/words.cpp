@@ -65,7 +65,7 @@ void Trace::find_accesses(const record &one, size_t number, const Resolved &of) 
     const parts::Cuts &ends = cuts[cuts_of[of.thing]];
     parts::Span span = span_of(of);
     written_parts.clear();
-    for (size_t part = span.from; part < span.end(); part++) {
+    for (size_t part = span.from; part < span.end; part++) {
         if (kept[ends.first + part].shared()) written_parts.push_back(ends.first + part);
     }
     bool atomic = is_atomic(one.kind), reads = one.kind == READ || one.kind == ATOMIC_READ || one.kind == ATOMIC_UPDATE;

@@ -11,7 +11,7 @@
 static pthread_mutex_t lock = PTHREAD_MUTEX_INITIALIZER;
 static sem_t rang;
 static atomic_int count;
-static char block[100];
+static char block[5000];
 static volatile int x;
 static int ends[2];
 
@@ -28,7 +28,7 @@ static void *work(void *p) {
     x++;
     if (!strcmp(word, "sections")) pthread_mutex_unlock(&lock);
     if (!strcmp(word, "order")) for (int k = 0; k < 3; k++) atomic_fetch_add_explicit(&count, 1, memory_order_release);
-    if (!strcmp(word, "parts")) memset(block, 1, sizeof block);
+    if (!strcmp(word, "parts")) for (int k = 0; k < 300; k++) memset(block, 1, sizeof block);
     if (!strcmp(word, "turns")) for (int k = 0; k < 300; k++) x++;
     if (!strcmp(word, "force") && syscall(SYS_write, ends[1], "b", 1) == 1) x++;
     return p;
@@ -36,7 +36,7 @@ static void *work(void *p) {
 
 static void beside(const char *word) {
     if (!strcmp(word, "order")) for (int k = 0; k < 3; k++) atomic_fetch_add_explicit(&count, 1, memory_order_release);
-    if (!strcmp(word, "parts")) for (int k = 0; k < 100; k++) x += block[k];
+    if (!strcmp(word, "parts")) for (int k = 0; k < 5000; k++) x += block[k];
     if (!strcmp(word, "turns")) for (int k = 0; k < 300; k++) x++;
     if (!strcmp(word, "force")) waits_for_byte();
     if (!strcmp(word, "strangers")) {
