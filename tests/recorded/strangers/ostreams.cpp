@@ -9,6 +9,9 @@
 static std::ostringstream numbers, words, looked_at, guarded;
 static std::ofstream file("/dev/null");
 static std::mutex m;
+// The library reads this one by a function of std::string, which has hooks: the place is the program's.
+static std::ostringstream given;
+static std::string to_give = "a text that is longer than sixteen bytes";
 static char text[] = "text that is written\n";
 static volatile size_t seen;
 
@@ -18,6 +21,7 @@ static void writes() {
     text[3] = 't'; // RACE text
     looked_at << 2.5; // RACE looked
     file << 'x' << 7L; // RACE file
+    given.str(to_give); // RACE given
     std::lock_guard<std::mutex> l(m);
     guarded << "one " << 2u << true << std::endl;
     std::cout << "one\n";
@@ -29,6 +33,7 @@ static void reads() {
     std::cout << text; // RACE text
     seen = looked_at.str().size(); // RACE looked
     file.write("abc", 3); // RACE file
+    to_give[20] = 'r'; // RACE given
     std::lock_guard<std::mutex> l(m);
     guarded << 4.0f << (const void *)nullptr;
     guarded.put('c');
