@@ -205,6 +205,8 @@ def cases_of(racebench, pairs):
             cases += recorded_options.cases(racebench, c) + recorded_runs.cases(c) + recorded_follow.cases(racebench)
             cases += recorded_chance.cases(racebench) + recorded_ci.cases(racebench) + recorded_counts.cases(c)
             cases += recorded_strangers.cases(racebench, c, cxx)
+        else:
+            cases += recorded_strangers.more_cases(racebench, c, cxx)
         if cxx:
             cases.append((f"regions of OpenMP, {c}", recorded_strangers.judge_regions, (c, cxx)))
         for source, words, races in PROGRAMS:

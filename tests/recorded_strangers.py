@@ -40,6 +40,8 @@ COMPILED = {
 }
 # Those with OpenMP, of which the recorder knows the one of GCC.
 OPENMP = ("shared_tasks.cpp", "task_kinds.cpp", "doacross.c", "task_events.c")
+# Those that are judged with each compiler.
+EACH_COMPILER = ("sizes.c", "conversions.c", "cut_texts.c", "lists.cpp", "ostreams.cpp", "exceptions.cpp")
 CALLED = {"exits.c": ("exit", "quick", "under", "abort", "crash", "kill")}
 # Those whose locks are let go by the threads that took them.
 EVEN = ("more_waits.c", "clocks.c", "preferred.c", "shared_mutex.cpp", "timed_locks.cpp", "writers.c", "writes_twice.c")
@@ -426,6 +428,12 @@ int main(void) {
     return pthread_join(t, 0);
 }
 """
+
+
+def more_cases(racebench, c, cxx):
+    """Those that each compiler judges: the hooks are its own."""
+    names = [name for name in EACH_COMPILER if cxx or name.endswith(".c")]
+    return [(f"strangers/{name}, {c}", judge_stranger, (racebench, name, c, cxx)) for name in names]
 
 
 def cases(racebench, c, cxx):
