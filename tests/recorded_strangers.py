@@ -249,8 +249,22 @@ def judge_own_names(c):
     words = ["first.c", "second.o", "./lib.so", "-oprogram"]
     status, _, told = ran([cc, "-w", "-fno-builtin", *words], env=environment)
     _, trace, said = ran([os.path.join(RECORD, "run"), "./program"])
-    if status or not said.startswith("47 3 9 texts\n") or "(memmem+4)" not in trace or "ended with status 0" not in said:
+    named = "(memmem+4)" in trace and "w(threads)" in trace and "w(ends+4)" in trace
+    if status or not said.startswith("47 3 9 texts\n") or not named or "ended with status 0" not in said:
         raise Wrong(f"the program's own names are not its own: {told}{said}{trace}")
+
+
+def judge_memory_names(c):
+    """A place in a thread's stack has the name of the stack, and one in mapped memory that grew where it is that of the
+    memory."""
+    with open("source.c", "w", encoding="ascii") as source:
+        source.write(MEMORY_NAMES)
+    ran([os.path.join(RECORD, "cc"), "-O0", "source.c", "-o", "program"], env=dict(os.environ, RECORD_CC=c))
+    _, trace, told = ran([os.path.join(RECORD, "run"), "./program"])
+    names = {re.sub(r"\+\d{6,}$", "+N", name) for name in re.findall(r"\|w\((.*)\)\|", trace)}
+    wanted = {"stack:T1+N", "stack:T0+N", "heap:source.c:20#1+5000", "sync:posted", "grown", "of_thread"}
+    if names != wanted:
+        raise Wrong(f"the names are {sorted(names)}, and not {sorted(wanted)}: {told}")
 
 
 def judge_regions(c, cxx):
@@ -348,16 +362,47 @@ int main(void) {
 }
 """
 
+# Threads share a place in the stack of each, and one in memory that grew.
+MEMORY_NAMES = """#define _GNU_SOURCE
+#include <pthread.h>
+#include <semaphore.h>
+#include <stddef.h>
+#include <sys/mman.h>
+static int *volatile of_thread;
+static char *grown;
+static sem_t posted;
+static void *work(void *p) {
+    int mine = 1;
+    of_thread = &mine;
+    sem_post(&posted);
+    ++*(int *)p, ++mine, ++grown[5000];
+    return p;
+}
+int main(void) {
+    pthread_t t;
+    int mine = 2;
+    sem_init(&posted, 0, 0);
+    grown = mmap(NULL, 3 * 4096, PROT_READ | PROT_WRITE, MAP_PRIVATE | MAP_ANONYMOUS, -1, 0);
+    munmap(grown + 4096, 2 * 4096);
+    if (mremap(grown, 4096, 2 * 4096, 0) != grown) return 1;
+    pthread_create(&t, 0, work, &mine);
+    sem_wait(&posted);
+    ++*of_thread, ++mine, ++grown[5000];
+    return pthread_join(t, 0);
+}
+"""
+
 # Names of the C library that are the program's own.
 OWN_NAMES = """#include <pthread.h>
 extern int printf(const char *, ...), strsep(int), strtok(void);
 extern const char *stpcpy;
 extern struct { int a, b; } memmem;
-static void *work(void *p) { memmem.b++; return p; }
+static int threads, ends[2];
+static void *work(void *p) { memmem.b++, threads++, ends[1]++; return p; }
 int main(void) {
     pthread_t t;
     pthread_create(&t, 0, work, 0);
-    memmem.b++;
+    memmem.b++, threads++, ends[1]++;
     pthread_join(t, 0);
     printf("%d %d %d %s\\n", strsep(5), memmem.b, strtok(), stpcpy);
     return 0;
@@ -443,6 +488,7 @@ def cases(racebench, c, cxx):
     found += [(f"threads in waves, {c}", judge_waves)]
     found += [(f"few open files, {c}", judge_few_files), (f"a header for later, {c}", judge_header)]
     found += [(f"descriptors of the recorder, {c}", judge_descriptors), (f"names of its own, {c}", judge_own_names)]
+    found += [(f"names of memory, {c}", judge_memory_names)]
     strangers = [(f"strangers/{name}, {c}", judge_stranger, (racebench, name, c, cxx)) for name in names]
     strangers.append((f"what is wrong with strangers, {c}", judge_defects, (racebench, c)))
     return strangers + [(name, judge, (c,)) for name, judge in found]
