@@ -1,4 +1,4 @@
-// The pair that stands side by side: both accesses may come next.
+// The pair that stands side by side: both accesses are next in their threads.
 import { $, el, fill, button, many } from "./make.js";
 import { later } from "./queue.js";
 import { state, tag, operation, place, reason } from "./words.js";
@@ -43,7 +43,7 @@ export function showPair(told) {
   }
   const pair = best(told);
   const isAim = pair.join() === state.aim?.join();
-  const title = told.witness ? "Both may come next" : isAim ? "Aim: side by side" : "Side by side";
+  const title = told.witness ? "Both are next" : isAim ? "Aim: side by side" : "Side by side";
   fill(box, el("span", "pair-title", title),
     el("span", "accesses", side(told, pair, pair[0]), side(told, pair, pair[1])),
     el("span", "do", pairs.length > 1 ? more(told) : null,

@@ -267,7 +267,7 @@ async def test_a_witness_without_its_aim(program):
         page = await browser.page(screen.link)
         await page.until(f"{RACES} === 2")
         await page.click(".race")
-        await page.until(f"{OPEN} === 'Witness' && {pair} === 'Both may come next'")
+        await page.until(f"{OPEN} === 'Witness' && {pair} === 'Both are next'")
         same(await page.run(BUTTONS), "Work on it w,Start empty e,Why x")
         await page.click("#bar .of-aim button")  # drop the aim
         await page.until(f"{AIM} === '' && {BUTTONS} === 'Work on it w'")
@@ -275,7 +275,7 @@ async def test_a_witness_without_its_aim(program):
             await page.run(f"{SAID} && document.getElementById('said').replaceChildren()")
             await press(page, key)
             same(await page.run(SAID), "open a race first: it is the aim")
-        same(await page.run(pair), "Both may come next")
+        same(await page.run(pair), "Both are next")
         await page.key("w")
         await page.until(f"{OPEN} === 'r0-5' && {LENGTH} === '0 events'")
         is_clean(page, screen)

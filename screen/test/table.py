@@ -57,7 +57,7 @@ async def test_races_filter_kinds_and_a_witness(program):
             await page.click(".chip", chip)
         await page.until("document.querySelectorAll('.race').length === 3")
         await page.click(".race")
-        await page.until("document.querySelector('.pair-title')?.textContent === 'Both may come next'")
+        await page.until("document.querySelector('.pair-title')?.textContent === 'Both are next'")
         same(logged(), [])  # looking at pairs leaves nothing in the log
         is_clean(page, screen)
 
