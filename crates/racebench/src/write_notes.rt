@@ -65,31 +65,41 @@ fn standard_cause(rt: &HostRuntime) -> &'static [u8] {
     }
 }
 
-/// The likely cause why the log at this path was not made: makes a file in its folder once more, and removes it.
-fn unmade_cause(rt: &HostRuntime, path: &str) -> &'static [u8] {
-    let Ok(made) = format!(in rt.alloc(); "{path}.new") else {
-        return b"";
-    };
-    match File::create_new(rt, made.as_str()) {
+/// The likely cause why the log at this path was not made.
+fn unmade_cause(rt: &HostRuntime, path: &str) -> Result<&'static [u8], OutOfMemory> {
+    match format!(in rt.alloc(); "{path}.new") {
+        Ok(made) => Ok(cause_by_making(rt, made.as_str())),
+        Err(_) => Err(OutOfMemory),
+    }
+}
+
+/// The cause why no file could be made in this file's folder: makes this file, and removes it.
+fn cause_by_making(rt: &HostRuntime, made: &str) -> &'static [u8] {
+    match File::create_new(rt, made) {
         Ok(_) => {
-            let _ = fs::remove_file(rt, made.as_str());
+            let _ = fs::remove_file(rt, made);
             b"its folder may have no hard links"
         }
         Err(error) => cause_of(&error),
     }
 }
 
+/// The cause why the plain file at this path was not written.
+fn cause_by_opening(rt: &HostRuntime, path: &str) -> &'static [u8] {
+    match File::options().write(true).open(rt, path) {
+        Ok(_) => FULL,
+        Err(error) => cause_of(&error),
+    }
+}
+
 /// The likely cause why the log at this path was not written.
-fn log_cause(rt: &HostRuntime, path: &str) -> &'static [u8] {
+fn log_cause(rt: &HostRuntime, path: &str) -> Result<&'static [u8], OutOfMemory> {
     if path.is_empty() {
-        return b"";
+        return Ok(b"");
     }
     match metadata(rt, path) {
-        Ok(found) if found.is_file() => match File::options().write(true).open(rt, path) {
-            Ok(_) => FULL,
-            Err(error) => cause_of(&error),
-        },
-        Ok(_) => b"",
+        Ok(found) if found.is_file() => Ok(cause_by_opening(rt, path)),
+        Ok(_) => Ok(b""),
         Err(_) => unmade_cause(rt, path),
     }
 }
@@ -122,5 +132,5 @@ pub(crate) fn append_log_write_note(
     out: &mut Vec<u8>,
     path: &str,
 ) -> Result<(), OutOfMemory> {
-    append_write_note(out, path, log_cause(rt, path))
+    append_write_note(out, path, log_cause(rt, path)?)
 }
