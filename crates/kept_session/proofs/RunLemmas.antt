@@ -14,13 +14,13 @@ use Rattle.client_scripts.specs.Replay.{IsUnreadable}
 use Rattle.client_scripts.specs.declared.fault.ReadCause.{ReadCause}
 use Rattle.client_scripts.specs.declared.fault.ReadCause.TheVariants.{TooLong, Device as DeviceFailed}
 use Rattle.client_scripts.specs.declared.fault.ReplayFault.TheVariants.{Read, Write, OutOfMemory as NoMemory}
-use Rattle.kept_log.specs.Log.{LosesNone, head_of, lines_of, lines_behind}
+use Rattle.kept_log.specs.Log.{IsAsFound, LosesNone, head_of, lines_of, lines_behind}
 use Rattle.kept_log.specs.Lines.{IsLine}
 use Rattle.kept_log.specs.declared.device.Device.{Ghosts}
 use Rattle.kept_log.specs.declared.log.KeptLog.{KeptLog}
 use Rattle.kept_session.specs.Faults.{IsTurnFault}
 use Rattle.kept_session.specs.Runs.{IsLogTurn, AreTurns, no_turn, one_more, IsRun, IsFinished, IsUnanswered, IsUnwritten, IsHalted}
-use Rattle.kept_session.specs.Sessions.{IsTurn, log_of, number_after, number_behind}
+use Rattle.kept_session.specs.Sessions.{IsAllOrNone, IsTurn, log_of, number_after, number_behind}
 use Rattle.kept_session.specs.Steps.{IsKeepFault, IsTakenIn, IsUnderway}
 use Rattle.kept_session.specs.declared.fault.SessionFault.{SessionFault}
 use Rattle.kept_session.specs.declared.fault.SessionFault.TheVariants.{Replay}
@@ -128,16 +128,33 @@ module _ {D : Type 0} (disk : Ghosts D) (T : Recording) (client : Option ℕ) wh
     split = split-more bytes more first.asked begun first.split ∙ ap (λ (ls : List (List ℕ)). first.asked ++ ls) second.split ∙ sym (append_assoc first.asked second.asked left);
   }
 
+  -- the piece of a turn that was not answered
+  pub unanswered_whole : (n : ℕ) (piece bytes : List ℕ) (old new : KeptLog D) → piece ≡ bytes
+      → IsAsFound disk old new ⊎ IsAllOrNone disk T client n (slice_split is_line_feed piece) old new → IsAsFound disk old new ⊎ IsAllOrNone disk T client n (slice_split is_line_feed bytes) old new
+  unanswered_whole n piece bytes old new is whole = subst (λ b. IsAsFound disk old new ⊎ IsAllOrNone disk T client n (slice_split is_line_feed b) old new) is whole
+
   -- a turn that was not answered
   pub unanswered : (n : ℕ) (old new : KeptLog D) (bytes : List ℕ) (failed : Bool) (taken : Option (List ℕ)) (fault : SessionFault)
-      → failed ≡ false → LosesNone disk old new → IsTurnFault T (lines_of disk old) (lines_of disk new) (disk.found old.device) (disk.found new.device) fault
+      → failed ≡ false → LosesNone disk old new → IsAsFound disk old new ⊎ IsAllOrNone disk T client n (slice_split is_line_feed bytes) old new → (fault ≢ Replay Write → IsAsFound disk old new)
+      → IsTurnFault T (lines_of disk old) (lines_of disk new) (disk.found old.device) (disk.found new.device) fault
       → ((why : ReadCause) → fault ≢ Replay (Read 3 why)) → IsHalted disk T client n old new bytes failed taken taken fault
-  unanswered n old new bytes failed taken fault working none_lost told other = record {
+  unfolding no_run
+  unanswered n old new bytes failed taken fault working none_lost whole unchanged told other = record {
     log = old;
     text = [];
     left = slice_split is_line_feed bytes;
     run = no_run n old bytes;
-    behind = inl (record { working = working; written = Appends-nothing taken; none_lost = none_lost; told = inl told });
+    behind = inl (record {
+      more = slice_split is_line_feed bytes;
+      beyond = [];
+      next = sym (append-nil (slice_split is_line_feed bytes));
+      working = working;
+      written = Appends-nothing taken;
+      none_lost = none_lost;
+      whole = whole;
+      unchanged = unchanged;
+      told = inl told;
+    });
     unread = λ why is. absurd (other why is);
   }
 
@@ -177,10 +194,24 @@ module _ {D : Type 0} (disk : Ghosts D) (T : Recording) (client : Option ℕ) wh
     text = h.text;
     left = h.left ++ slice_split is_line_feed rest;
     run = run-feed n old h.log front rest bytes h.left h.text h.run is;
-    behind = ⊎_elim inl (λ w. inr (longer w)) h.behind;
+    behind = ⊎_elim (λ u. inl (later u)) (λ w. inr (longer w)) h.behind;
     unread = λ why is. absurd (other why is);
   }
     where
+      later : IsUnanswered disk T client (number_behind n h.run.asked) h.log new h.text h.left failed before now fault
+          → IsUnanswered disk T client (number_behind n h.run.asked) h.log new h.text (h.left ++ slice_split is_line_feed rest) failed before now fault
+      later u = record {
+        more = u.more;
+        beyond = u.beyond ++ slice_split is_line_feed rest;
+        next = ap (λ (ls : List (List ℕ)). ls ++ slice_split is_line_feed rest) u.next ∙ append_assoc u.more u.beyond (slice_split is_line_feed rest);
+        working = u.working;
+        written = u.written;
+        none_lost = u.none_lost;
+        whole = u.whole;
+        unchanged = u.unchanged;
+        told = u.told;
+      }
+
       longer : IsUnwritten disk T client (number_behind n h.run.asked) h.log new h.text h.left failed before now fault
           → IsUnwritten disk T client (number_behind n h.run.asked) h.log new h.text (h.left ++ slice_split is_line_feed rest) failed before now fault
       longer w = record {
@@ -210,14 +241,25 @@ module _ {D : Type 0} (disk : Ghosts D) (T : Recording) (client : Option ℕ) wh
     unread = λ why is. let left = h.unread why is in (left.0, left.1, unreadable_more (begun ++ more) (bytes ++ more) why longer left.2);
   }
     where
-      told : IsUnanswered disk T client h.log new h.text failed mean now fault → IsUnanswered disk T client h.log new (t ++ h.text) failed before now fault
-      told u = record { working = u.working; written = Appends-then before mean now t h.text wrote u.written; none_lost = u.none_lost; told = u.told }
-
       longer : length (begun ++ more) ≤ length (bytes ++ more)
       longer = omega (arith, last_short bytes first.asked begun first.split, length-append begun more, length-append bytes more)
 
       numbers : number_behind k h.run.asked ≡ number_behind n (first.asked ++ h.run.asked)
       numbers = ap (λ j. number_behind j h.run.asked) next ∙ sym (number_behind-append n first.asked h.run.asked)
+
+      told : IsUnanswered disk T client (number_behind k h.run.asked) h.log new h.text h.left failed mean now fault
+          → IsUnanswered disk T client (number_behind n (first.asked ++ h.run.asked)) h.log new (t ++ h.text) h.left failed before now fault
+      told u = record {
+        more = u.more;
+        beyond = u.beyond;
+        next = u.next;
+        working = u.working;
+        written = Appends-then before mean now t h.text wrote u.written;
+        none_lost = u.none_lost;
+        whole = ⊎_elim inl (λ (all : IsAllOrNone disk T client (number_behind k h.run.asked) u.more h.log new). inr (subst (λ j. IsAllOrNone disk T client j u.more h.log new) numbers all)) u.whole;
+        unchanged = u.unchanged;
+        told = u.told;
+      }
 
       written : IsUnwritten disk T client (number_behind k h.run.asked) h.log new h.text h.left failed mean now fault
           → IsUnwritten disk T client (number_behind n (first.asked ++ h.run.asked)) h.log new (t ++ h.text) h.left failed before now fault
@@ -268,7 +310,17 @@ module _ {D : Type 0} (disk : Ghosts D) (T : Recording) (client : Option ℕ) wh
     text = h.text;
     left = begun ∷ [];
     run = h.run;
-    behind = inl (record { working = working; written = h.written; none_lost = inl (inl refl); told = input_told T (lines_of disk new) (lines_of disk new) (disk.found new.device) (disk.found new.device) bytes fault is });
+    behind = inl (record {
+      more = [];
+      beyond = begun ∷ [];
+      next = refl;
+      working = working;
+      written = h.written;
+      none_lost = inl (inl refl);
+      whole = inl (inl (inl refl));
+      unchanged = λ _. inl (inl refl);
+      told = input_told T (lines_of disk new) (lines_of disk new) (disk.found new.device) (disk.found new.device) bytes fault is;
+    });
     unread = λ why unread. (begun, refl, input_unread bytes fault is why unread);
   }
 

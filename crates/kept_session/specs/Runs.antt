@@ -1,6 +1,6 @@
 -- What a session does with its input, turn after turn, until the input ends or there is a fault. All notions here are
 -- this project's own. `T` is the trace.
-use Rattle.std.specs.Prelude.{◌≡◌, ◌⊎◌, ℕ, ◌<◌, Bool, true, false, List, [], ◌∷◌, ◌++◌, Option, Some, length, take}
+use Rattle.std.specs.Prelude.{◌≡◌, ◌≢◌, ◌⊎◌, ℕ, ◌<◌, Bool, true, false, List, [], ◌∷◌, ◌++◌, Option, Some, length, take}
 use Rattle.std.specs.List.{slice_split}
 use Rattle.std.specs.Io.KnownBytes.{Appends, Consumes}
 use Rattle.rapid_text.specs.Recording.{Recording}
@@ -11,11 +11,11 @@ use Rattle.client_scripts.specs.declared.sink.Sink.{Ghosts as Sinks}
 use Rattle.client_scripts.specs.declared.source.Source.{Ghosts as Sources}
 use Rattle.inverse_log.specs.Log.{Benched}
 use Rattle.client_scripts.specs.declared.fault.ReplayFault.TheVariants.{Read, Write}
-use Rattle.kept_log.specs.Log.{LosesNone, head_of, lines_of, lines_behind}
+use Rattle.kept_log.specs.Log.{IsAsFound, LosesNone, head_of, lines_of, lines_behind}
 use Rattle.kept_log.specs.declared.device.Device.{Ghosts}
 use Rattle.kept_log.specs.declared.log.KeptLog.{KeptLog}
 use Rattle.kept_session.specs.Faults.{IsTurnFault}
-use Rattle.kept_session.specs.Sessions.{IsTurn, log_of, number_behind}
+use Rattle.kept_session.specs.Sessions.{IsAllOrNone, IsTurn, log_of, number_behind}
 use Rattle.kept_session.specs.declared.fault.SessionFault.{SessionFault}
 use Rattle.kept_session.specs.declared.fault.SessionFault.TheVariants.{Replay}
 
@@ -49,12 +49,18 @@ module _ {D : Type 0} (disk : Ghosts D) (T : Recording) (client : Option ℕ) wh
     pub whole : (left ≡ []) ⊎ (left ≡ [] ∷ [])
     pub written : Appends taken_old taken_new text
 
-  -- A fault after turns that left `log`. Their answers, `text`, were written, and nothing else was. If the fault
-  -- ended a turn, that turn lost no line.
-  pub record IsUnanswered (log new : KeptLog D) (text : List ℕ) (failed : Bool) (taken_old taken_new : Option (List ℕ)) (fault : SessionFault) : Type 0 where
+  -- A fault after turns that left `log`. Their answers, `text`, were written, and nothing else was. The fault may have
+  -- ended a turn for the first of the lines left. That turn lost no line, and the file has the lines of all its calls
+  -- or of none. It has none of them unless a write failed.
+  pub record IsUnanswered (number : ℕ) (log new : KeptLog D) (text : List ℕ) (left : List (List ℕ)) (failed : Bool) (taken_old taken_new : Option (List ℕ)) (fault : SessionFault) : Type 0 where
+    pub more : List (List ℕ)
+    pub beyond : List (List ℕ)
+    pub next : left ≡ more ++ beyond
     pub working : failed ≡ false
     pub written : Appends taken_old taken_new text
     pub none_lost : LosesNone disk log new
+    pub whole : IsAsFound disk log new ⊎ IsAllOrNone disk T client number more log new
+    pub unchanged : fault ≢ Replay Write → IsAsFound disk log new
     pub told : IsTurnFault T (lines_of disk log) (lines_of disk new) (disk.found log.device) (disk.found new.device) fault
         ⊎ ((why : ReadCause) × (fault ≡ Replay (Read 3 why)))
 
@@ -79,7 +85,7 @@ module _ {D : Type 0} (disk : Ghosts D) (T : Recording) (client : Option ℕ) wh
     pub text : List ℕ
     pub left : List (List ℕ)
     pub run : IsRun number old log bytes left text
-    pub behind : IsUnanswered log new text failed taken_old taken_new fault
+    pub behind : IsUnanswered (number_behind number run.asked) log new text left failed taken_old taken_new fault
         ⊎ IsUnwritten (number_behind number run.asked) log new text left failed taken_old taken_new fault
     pub unread : (why : ReadCause) → fault ≡ Replay (Read 3 why) → (line : List ℕ) × (left ≡ line ∷ []) × IsUnreadable bytes why
 

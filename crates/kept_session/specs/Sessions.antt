@@ -162,9 +162,15 @@ pub record IsTaken {D : Type 0} (disk : Ghosts D)
 abbrev pub KeepsLines : List ℕ → List ℕ → List ℕ → Type 0
 KeepsLines head file c = BeginsWith head (lines_behind (length head) file) c
 
--- there is no line after the head, whatever head that is
+-- the file was empty, and there is no line after the head, whatever head that is
 abbrev pub HasNoLines : List ℕ → List ℕ → List ℕ → Type 0
-HasNoLines head file c = lines_behind (length head) c ≡ []
+HasNoLines head file c = (file ≡ []) × (lines_behind (length head) c ≡ [])
+
+-- The lock was not taken. Or it was taken once, and a file that was not empty then is as it was.
+abbrev pub IsLeftAlone : {D : Type 0} → Ghosts D → D → D → Type 0
+IsLeftAlone disk old new =
+    (disk.found new ≡ disk.found old)
+    ⊎ ((file : List ℕ) × (disk.found new ≡ Some file ∷ disk.found old) × (file ≢ [] → disk.seen new ≡ file))
 
 -- The lock was taken once, and `file` is what the file had then. It begins with the head, and its lines are those of
 -- the log.

@@ -7,7 +7,7 @@ ghost use Rattle.kept_log.specs.Log.{StandsFor, at_rest, head_of, lines_of, line
 ghost use Rattle.client_scripts.specs.declared.fault.ReplayFault.{ReplayFault};
 ghost use Rattle.kept_session.specs.declared.fault.SessionFault.TheVariants.{Replay, OtherTrace};
 ghost use Rattle.kept_session.specs.Faults.{IsFileFault, IsHeadFault, IsMakeFault, IsOpenFault};
-ghost use Rattle.kept_session.specs.Sessions.{IsAtWork, IsHandedBack, IsUntaken, IsTaken, BeforeLock, HasNoLines};
+ghost use Rattle.kept_session.specs.Sessions.{IsAtWork, IsHandedBack, IsLeftAlone, IsUntaken, IsTaken, BeforeLock, HasNoLines};
 ghost use Rattle.kept_session.specs.Views.{IsFree};
 
 use crate::catching::make_all;
@@ -43,12 +43,14 @@ pub fn make_log<D: Device>(alloc: Global, device: &mut D, head: &[u8]) -> Result
     ensures made { OnOk result (D.seen device.new ≡ at_rest head.now []) }
     ensures durable { OnOk result (Only (D.seen device.new) (D.may_leave device.new)) }
 
-    // A file that is not empty is left as it is.
+    // A file that is not empty is left as it is, also after a fault.
     ensures sound { OnOk result (D.faults device.new ≡ D.faults device.old) }
     ensures empty { OnOk result (D.found device.new ≡ Some [] ∷ D.found device.old) }
     ensures refused { IsErrOf result OtherTrace → (D.seen device.new ≢ []) × (D.found device.new ≡ Some (D.seen device.new) ∷ D.found device.old) }
+    ensures left_alone { IfErr result (λ fault. IsLeftAlone D.Device device.old device.new) }
 
-    // A crash at any moment leaves what a crash might have left when the lock was taken, or a file without lines.
+    // A crash at any moment leaves what a crash might have left when the lock was taken. If the file was empty then,
+    // it may also leave a file without lines.
     ensures any_moment { IsUntaken D.Device device.old device.new
         ⊎ IsTaken D.Device (HasNoLines head.now) device.old device.new }
     ensures fault { IfErr result IsMakeFault }

@@ -1,6 +1,6 @@
 //! Answers an input line by line, as it comes.
 ghost use Rattle.std.specs.Io.KnownBytes.{IsAtEnd};
-ghost use Rattle.std.specs.Prelude.{◌≡◌, ◌≢◌, ◌<◌, [], ◌∷◌, ◌++◌, false, true, length, None, IfSome, IfErr, OnOk};
+ghost use Rattle.std.specs.Prelude.{◌≡◌, ◌≢◌, ◌<◌, [], ◌∷◌, ◌++◌, false, true, length, None, Err, IfSome, IfErr, OnOk};
 ghost use Rattle.client_scripts.specs.declared.fault.ReadCause.{ReadCause};
 ghost use Rattle.client_scripts.specs.declared.fault.ReadCause.TheVariants.{Device as DeviceFailed};
 ghost use Rattle.client_scripts.specs.declared.fault.ReplayFault.TheVariants.{Read};
@@ -138,6 +138,7 @@ fn run_pieces<D: Device + Drop, S: Source, K: Sink>(
     ensures end { OnOk result (IsAtEnd (S.rest reader.new)) }
     ensures read { OnOk result (S.has_failed reader.new ≡ S.has_failed reader.old) }
     ensures device { IfErr result (λ fault. fault ≡ Replay (Read 3 DeviceFailed) → S.has_failed reader.new ≡ true) }
+    ensures read_failed { S.has_failed reader.old ≡ false → S.has_failed reader.new ≡ true → result ≡ Err (Replay (Read 3 DeviceFailed)) }
     ensures answered { OnOk result (IsWholeRun D.Device S.Source K.Sink session.old.bench client session.old.log session.new.log
         reader.old reader.new writer.old writer.new) }
     ensures halted { IfErr result (IsHaltedRun D.Device S.Source K.Sink session.old.bench client session.old.log session.new.log
@@ -189,8 +190,9 @@ pub fn run_session<D: Device + Drop, S: Source, K: Sink>(
     ensures end { OnOk result (IsAtEnd (S.rest reader.new)) }
     ensures read { OnOk result (S.has_failed reader.new ≡ S.has_failed reader.old) }
 
-    // It reports a failed read only if a read failed.
+    // It reports a failed read exactly if a read failed, if none had failed before.
     ensures device { IfErr result (λ fault. fault ≡ Replay (Read 3 DeviceFailed) → S.has_failed reader.new ≡ true) }
+    ensures read_failed { S.has_failed reader.old ≡ false → S.has_failed reader.new ≡ true → result ≡ Err (Replay (Read 3 DeviceFailed)) }
 
     // It answers each line that it read once and in order, in turns. It writes the answers in order, and nothing
     // else.
