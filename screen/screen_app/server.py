@@ -159,14 +159,14 @@ class Server:
 
     async def _outcome(self, text: str, outlet: Outlet) -> tuple[Any, Told]:
         """The number of a request, and its answer."""
-        number = None
+        number, known = None, len(self.bench.mirror.entries)
         self.used_until = asyncio.get_running_loop().time() + USED
         try:
             request = json.loads(text)
             number = request.get("id")
             return number, await self.requests.answer(request, outlet)
         except Gone as why:
-            return number, {"gone": clean(str(why))}
+            return number, {"gone": clean(str(why)), "made": self._made_since(known)}
         except Mistake as why:
             return number, {"mistake": clean(str(why))}
         except BAD as why:
@@ -175,6 +175,12 @@ class Server:
         except Exception as why:  # no request leads to this
             traceback.print_exc()
             return number, {"mistake": clean(f"the screen failed: {why!r}")}
+
+    def _made_since(self, first: int) -> list[int]:
+        """The entries of this analyst from one on: what a step made whose answer is lost."""
+        mirror = self.bench.mirror
+        mirror.sync()
+        return [entry.number for entry in mirror.entries[first:] if entry.client == self.bench.client]
 
     def push(self, what: str, told: Told) -> None:
         for outlet in self.outlets:

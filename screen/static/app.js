@@ -82,7 +82,7 @@ async function begin() {
   views.bar();
   if (views.looked() !== looked) return; // something was opened meanwhile
   const [row, kept] = [latest(), history.state];
-  if (state.view) views.open(state.view, { end: false, isAsItWas: true });
+  if (state.view) views.open(state.view, { end: false, isAsItWas: true, isSame: true });
   else if (kept?.pair || state.rows.has(kept?.schedule)) views.restore(kept);
   else if (row) views.open({ schedule: row.name });
   else {

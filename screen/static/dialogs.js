@@ -14,7 +14,10 @@ export function asked(label, value, note = "") {
     $("ask-no").onclick = () => dialog.close();
     // What is typed next comes after what the name is for, so that begins at once.
     dialog.querySelector("form").onsubmit = () => done(field.value.trim() || null);
-    dialog.onclose = () => done(null);
+    // If it is open again by then, this is the end of the question before.
+    dialog.onclose = () => {
+      if (!dialog.open) done(null);
+    };
     dialog.showModal();
     field.select();
   });

@@ -77,9 +77,11 @@ function scrollTo(to) {
   seen = top();
 }
 
-// Nothing is drawn until the next answer. The end is what that shows, or where it stood.
-export function reset({ end = false } = {}) {
-  win = cursor = on = stop = null;
+// Nothing is drawn until the next answer. The end is what that shows, or where it stood. If it is the same schedule
+// again, the cursor stays.
+export function reset({ end = false, isSame = false } = {}) {
+  win = stop = null;
+  if (!isSame) cursor = on = null;
   if (end) want(END);
   taken = ++asked; // no answer to what was asked before is drawn
   latest = null;

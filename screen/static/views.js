@@ -60,13 +60,13 @@ const rememberView = (view) =>
   remember(view.schedule ? { schedule: view.schedule, aim: state.aim } : { pair: view.witness });
 
 // A schedule that is opened as it was before has the aim that it had, or none.
-export async function open(view, { end = true, isAsItWas = false } = {}) {
+export async function open(view, { end = true, isAsItWas = false, isSame = false } = {}) {
   looks++;
   none = sought = null;
   state.view = view;
   rememberView(view);
   hideNote();
-  sheet.reset({ end });
+  sheet.reset({ end, isSame });
   bar();
   reveal("centre");
   if (view.schedule) await openSchedule(view, isAsItWas);

@@ -149,6 +149,26 @@ async def test_a_step_back_after_an_undo_of_many_entries(program):
         is_clean(page, screen)
 
 
+async def test_a_step_back_after_a_step_whose_answer_is_lost(program):
+    """The session ends in a step. What the log has of that is the page's own."""
+    traces.write("trace", FREE)
+    path = between(program, back_A="add A 6")
+    with open(path, encoding="ascii") as file:
+        text = file.read()
+    traces.write("between", text.replace("--client 2 > /dev/null", "--client 1 > /dev/null; exit 1"))
+    async with Screen(path, "trace", "log") as screen, Browser() as browser:
+        page = await deaf(browser, screen, 2)
+        await page.run("hold()")
+        await press(page, "Backspace")
+        assert "the program ended" in await page.run(SAID), await page.run(SAID)
+        same(logged()[3:], ["1 add A 6"])  # as if the session had made it
+        await press(page, "Backspace")
+        same(logged()[4:], ["1 back A"])
+        await page.run("letGo()")
+        await shows(page, 2)
+        is_clean(page, screen)
+
+
 async def test_steps_back_of_an_event_on_others_that_are_not_shown(program):
     """An event came to a schedule that another one changed before: the page takes back that event, and no other."""
     traces.write("trace", FREE)
@@ -200,11 +220,11 @@ async def test_a_move_is_for_the_events_that_are_shown(program):
         await shows(page, 5)
         same(logged()[5:], ["2 add A 4", "2 swap A 1"])
         await page.run("hold()")
-        await session(program, 2, "add A 5\nswap A 3\n")  # beside it
-        await press_alt(page, "ArrowDown")
-        await comes(lambda: logged()[9:] == ["1 swap A 1"])
+        await session(program, 2, "add A 5\nswap A 0\n")  # beside it
+        await press_alt(page, "ArrowDown")  # the cursor went with its event
+        await comes(lambda: logged()[9:] == ["1 swap A 2"])
         await page.run("letGo()")
-        await page.until(f"{ORDER} === '0 1 2 4 3 5'")
+        await page.until(f"{ORDER} === '2 0 3 1 4 5'")
         is_clean(page, screen)
 
 

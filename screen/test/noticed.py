@@ -2,9 +2,11 @@
 
 import traces
 from browser import ALT, Browser
+from hands import AT_ONCE
 from judged import same
 from live import session
 from meanwhile import DEAF, FREE, deaf, shows
+from sight import HOLD
 from stage import LENGTH, NEXT, ORDER, ROWS, SAID, TITLE, Screen, focus, is_clean, logged, new, press
 from table import SEVERAL
 
@@ -135,6 +137,27 @@ async def test_the_cursor_stays_on_its_event(program):
         same(await page.run(CURSOR), "3")
         await page.key("ArrowUp")
         await page.until(f"{CURSOR} === '2'")
+        is_clean(page, screen)
+
+
+async def test_the_cursor_stays_if_the_connection_comes_back(program):
+    traces.write("trace", FREE)
+    async with Screen(program, "trace", "log") as screen, Browser() as browser:
+        page = await deaf(browser, screen, 4, script=HOLD)
+        await focus(page, "stage")
+        for key in ("End", "ArrowUp", "ArrowUp"):
+            await page.key(key)
+        await page.until(f"{CURSOR} === '1'")
+        before = await page.run("window.socket.close(); window.views")
+        await page.until(f"window.views > {before} && owed === 0")
+        await shows(page, 4)
+        same(await page.run(CURSOR), "1")
+        await page.key("ArrowUp", ALT)
+        await page.until(f"{ORDER} === '1 0 2 3' && {CURSOR} === '0'")
+        await new(page, 8, "B")
+        await page.key("[")
+        await shows(page, 4)
+        same(await page.run(CURSOR), None)
         is_clean(page, screen)
 
 
@@ -376,6 +399,23 @@ async def test_keys_are_read_from_their_beginning(program):
             await page.run("document.getElementById('help').scrollTop = 1e6")
             await page.key("Escape")
             await page.until("!document.getElementById('help').open")
+        is_clean(page, screen)
+
+
+async def test_a_question_soon_after_another(program):
+    """The browser says that the first one ended when the second one is there already. That is not its end."""
+    traces.write("trace", FREE)
+    again = "document.getElementById('ask').close(); " + AT_ONCE.format(["n"])
+    async with Screen(program, "trace", "log") as screen, Browser() as browser:
+        page = await browser.page(screen.link)
+        await new(page, 8)
+        await page.key("n")
+        await page.until("document.getElementById('ask').open")
+        await page.run(f"{again} new Promise((done) => setTimeout(done, 100))")
+        same(await page.run("document.getElementById('ask').open"), True)
+        await page.key("Enter")
+        await page.until(f"{OPEN} === 'A.2'")
+        same(logged(), ["1 new A", "1 new A.2"])
         is_clean(page, screen)
 
 
