@@ -130,6 +130,18 @@ def judge_quick(program):
             raise Wrong(f"{words} shows {run.sent!r}, and writes {err!r} where no terminal is")
 
 
+def judge_windows(program):
+    """With `--windows` a terminal is told of each window at once, as a pipe is with `--progress`."""
+    running.write("quick", "T1|w(x)|1\nT2|w(x)|2\nT1|w(y)|3\nT2|w(y)|4\n")
+    words = ["triage", "quick", "--windows=2"]
+    status, out, err = running.ended(program, [*words, "--progress"])
+    run = Shown(program, words, "out")
+    judge_status(words, run.status, status)
+    judge_output(words, out)
+    if len(err.splitlines()) != 3 or run.sent != err.decode("ascii"):
+        raise Wrong(f"{words} shows {run.sent!r}, and writes {err!r} with --progress")
+
+
 def judge_asked(program, events, pairs, wanted):
     """With `--progress` a pipe is sent lines of rising numbers, and standard output is as without it."""
     status, out, err = running.ended(program, ["triage", "trace", "--progress"])
@@ -197,6 +209,7 @@ def judge_lines(program, run, events, pairs):
 
 def judged(run):
     judge_quick(run.program)
+    judge_windows(run.program)
     run.tally["lines"], pairs = judge_long(run.program)
     return f"progress: {run.tally['lines']} lines told of {pairs} pairs of places in three runs, each was wiped out, and nothing came where no terminal is"
 

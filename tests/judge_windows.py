@@ -16,6 +16,7 @@ also if something that has to be seen was never met.
 import json
 import os
 import random
+import re
 import resource
 import shutil
 import signal
@@ -263,10 +264,21 @@ class Judge:
             raise Wrong(f"{words} --fail ends otherwise, with {'a race' if races else 'no race'}")
         self.seen["failed"] += races
         if chance.random() < 0.3:
-            status, out, err = running.ended(self.program, [*words, "--progress"])
-            if (status, out) != (0, wanted) or any(line.split()[::2] != [b"windows", b"events"] for line in err.splitlines()):
-                raise Wrong(f"{words} --progress ends with {status}, {err!r}, or prints something else")
-            self.seen["progress"] += bool(err)
+            self.judge_progress(words, wanted)
+
+    def judge_progress(self, words, wanted):
+        """`--progress` counts each window, and how many events come before the next one; at the end all."""
+        status, out, err = running.ended(self.program, [*words, "--progress"])
+        told = [re.fullmatch(rb"windows (\d+) events (\d+)", line) for line in err.splitlines()]
+        if (status, out) != (0, wanted) or not all(told):
+            raise Wrong(f"{words} --progress ends with {status}, {err!r}, or prints something else")
+        windows, events = ([int(line[at]) for line in told] for at in (1, 2))
+        counts = {line.split()[0]: int(line.split()[1]) for line in wanted.splitlines()[:4]}
+        if windows != list(range(1, counts[b"windows"] + 1)) or events[-1:] != [counts[b"events"]] * bool(windows):
+            raise Wrong(f"{words} --progress tells of {err!r} beside\n{wanted.decode()}")
+        if any(later <= one for one, later in zip(events, events[1:])):
+            raise Wrong(f"{words} --progress tells of no more events behind a window: {err!r}")
+        self.seen["progress"] += bool(err)
 
     def rows(self, objects):
         """The rows of each part, by the first event of its window."""
