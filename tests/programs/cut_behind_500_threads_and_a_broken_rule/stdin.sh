@@ -1,0 +1,2 @@
+# Event 1300 breaks a rule.
+for i in $(seq 600); do echo "main|fork(T$i)|1"; echo "T$i|w(x)|2"; echo "main|join(T$i)|3"; done | sed "1300a main|rel(l)|4"
