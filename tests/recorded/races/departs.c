@@ -1,5 +1,5 @@
-/* How often the lock is taken hangs on the address of a block, and the block's address on a block before it, of a size
- * that the environment says: a run with another size has to depart from a schedule of this one. */
+/* How often the lock is taken hangs on the address of a block, and that address on a block before it, which is larger if
+ * the environment has SIZE_BEFORE: a run with the larger one has to depart from a schedule of this one. */
 #include <pthread.h>
 #include <stdint.h>
 #include <stdlib.h>
@@ -12,8 +12,8 @@ static void *work(void *none) {
     return none;
 }
 int main(void) {
-    pthread_t a, b; const char *size = getenv("SIZE_BEFORE");
-    char *before = malloc(size ? (size_t)atoi(size) : 24);
+    pthread_t a, b;
+    char *before = malloc(getenv("SIZE_BEFORE") ? 72 : 24);
     place = (uintptr_t)malloc(100);
     pthread_create(&a, NULL, work, NULL); pthread_create(&b, NULL, work, NULL);
     pthread_join(a, NULL); pthread_join(b, NULL);
