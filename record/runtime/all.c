@@ -27,6 +27,8 @@
 #include "sockets.c"
 #include "world.c"
 #include "clocks.c"
+#include "wide.c"
+#include "fills.c"
 #undef syscall
 #include "futex.c"
 #define syscall raw_syscall

@@ -1,0 +1,60 @@
+/* Calls that fill memory of the program. What they wrote is known afterwards. By the linker's --wrap. */
+#include <arpa/inet.h>
+
+/* `size` is how many bytes the call wrote at `at`; `answer` is what it gave back. */
+#define FILLS(type, name, given, passed_on, before, at, size) \
+    extern type __real_##name given; \
+    type __wrap_##name given { \
+        before; \
+        comes_to_call(); \
+        type answer = __real_##name passed_on; \
+        wrote((at), (size), PC); \
+        return answer; \
+    }
+static size_t address_size(int family) { return family == AF_INET ? 4 : 16; }
+#define TEXT_AT(at) ((at) ? __real_strlen((const char *)(at)) + 1 : 0)
+FILLS(char *, getcwd, (char *to, size_t n), (to, n), , answer, TEXT_AT(answer))
+FILLS(ssize_t, readlink, (const char *p, char *to, size_t n), (p, to, n), READS(p, TEXT_AT(p)), to,
+      answer > 0 ? (u64)answer : 0)
+FILLS(char *, realpath, (const char *p, char *to), (p, to), READS(p, TEXT_AT(p)), answer, TEXT_AT(answer))
+FILLS(int, gethostname, (char *to, size_t n), (to, n), , to, answer ? 0 : TEXT_AT(to))
+FILLS(char *, strerror_r, (int e, char *to, size_t n), (e, to, n), , to, answer == to ? TEXT_AT(to) : 0)
+FILLS(int, __xpg_strerror_r, (int e, char *to, size_t n), (e, to, n), , to, answer ? 0 : TEXT_AT(to))
+FILLS(const char *, inet_ntop, (int f, const void *a, char *to, socklen_t n), (f, a, to, n), READS(a, address_size(f)),
+      to, TEXT_AT(answer))
+FILLS(int, inet_pton, (int f, const char *s, void *to), (f, s, to), READS(s, TEXT_AT(s)), to,
+      answer == 1 ? address_size(f) : 0)
+FILLS(int, sem_getvalue, (sem_t * s, int *to), (s, to), , to, answer ? 0 : sizeof *to)
+
+/* ---- numbers of chance whose state is the caller's ---- */
+
+#define DRAWS_FROM(type, name, state, bytes) \
+    extern type __real_##name(state); \
+    type __wrap_##name(state s) { \
+        READS(s, bytes), WRITES(s, bytes); \
+        return __real_##name(s); \
+    }
+DRAWS_FROM(int, rand_r, unsigned *, sizeof(unsigned))
+DRAWS_FROM(double, erand48, unsigned short *, 6)
+DRAWS_FROM(long, nrand48, unsigned short *, 6)
+DRAWS_FROM(long, jrand48, unsigned short *, 6)
+
+/* ---- the environment, which all threads share: what is set is a write of where it lies ---- */
+
+#define READS_ENVIRON READS(&environ, sizeof environ)
+#define WRITES_ENVIRON WRITES(&environ, sizeof environ)
+#define CHANGES_ENVIRON(name, given, passed_on) \
+    extern int __real_##name given; \
+    int __wrap_##name given { \
+        WRITES_ENVIRON; \
+        return __real_##name passed_on; \
+    }
+extern char *__real_getenv(const char *);
+char *__wrap_getenv(const char *name) {
+    READS_ENVIRON;
+    return __real_getenv(name);
+}
+CHANGES_ENVIRON(setenv, (const char *name, const char *value, int over), (name, value, over))
+CHANGES_ENVIRON(unsetenv, (const char *name), (name))
+CHANGES_ENVIRON(putenv, (char *text), (text))
+CHANGES_ENVIRON(clearenv, (void), ())

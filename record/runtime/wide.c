@@ -1,0 +1,88 @@
+/* Functions of wide characters, by the linker's --wrap. `n` counts letters. */
+#include <wchar.h>
+
+extern size_t __real_wcslen(const wchar_t *), __real_wcsnlen(const wchar_t *, size_t);
+extern int __real_wcscmp(const wchar_t *, const wchar_t *), __real_wcsncmp(const wchar_t *, const wchar_t *, size_t);
+extern int __real_wmemcmp(const wchar_t *, const wchar_t *, size_t);
+extern wchar_t *__real_wmemchr(const wchar_t *, wchar_t, size_t), *__real_wcschr(const wchar_t *, wchar_t);
+extern wchar_t *__real_wcscpy(wchar_t *, const wchar_t *), *__real_wcsncpy(wchar_t *, const wchar_t *, size_t);
+extern wchar_t *__real_wcscat(wchar_t *, const wchar_t *);
+extern wchar_t *__real_wmemcpy(wchar_t *, const wchar_t *, size_t),
+    *__real_wmemmove(wchar_t *, const wchar_t *, size_t);
+extern wchar_t *__real_wmemset(wchar_t *, wchar_t, size_t);
+
+#define LETTERS_OF(n) ((n) * sizeof(wchar_t))
+#define READS_WIDE(s) READS(s, LETTERS_OF(__real_wcslen(s) + 1))
+
+/* How many bytes a comparison goes over. */
+static size_t compared_wide(const wchar_t *a, const wchar_t *b, size_t most) {
+    size_t n = 0;
+    while (n < most && a[n] && a[n] == b[n]) n++;
+    return LETTERS_OF(n < most ? n + 1 : most);
+}
+
+size_t __wrap_wcslen(const wchar_t *s) {
+    READS_WIDE(s);
+    return __real_wcslen(s);
+}
+
+size_t __wrap_wcsnlen(const wchar_t *s, size_t most) {
+    size_t n = __real_wcsnlen(s, most);
+    READS(s, LETTERS_OF(n < most ? n + 1 : most));
+    return __real_wcsnlen(s, most);
+}
+
+#define COMPARES_WIDE(name, given, passed_on, most) \
+    int __wrap_##name given { \
+        READS(a, compared_wide(a, b, most)), READS(b, compared_wide(a, b, most)); \
+        return __real_##name passed_on; \
+    }
+COMPARES_WIDE(wcscmp, (const wchar_t *a, const wchar_t *b), (a, b), ~0ul)
+COMPARES_WIDE(wcsncmp, (const wchar_t *a, const wchar_t *b, size_t n), (a, b, n), n)
+
+int __wrap_wmemcmp(const wchar_t *a, const wchar_t *b, size_t n) {
+    READS(a, LETTERS_OF(n)), READS(b, LETTERS_OF(n));
+    return __real_wmemcmp(a, b, n);
+}
+
+wchar_t *__wrap_wmemchr(const wchar_t *s, wchar_t c, size_t n) {
+    READS(s, searched(s, __real_wmemchr(s, c, n), sizeof c, LETTERS_OF(n)));
+    return __real_wmemchr(s, c, n);
+}
+
+wchar_t *__wrap_wcschr(const wchar_t *s, wchar_t c) {
+    READS(s, searched(s, __real_wcschr(s, c), sizeof c, LETTERS_OF(__real_wcslen(s) + 1)));
+    return __real_wcschr(s, c);
+}
+
+wchar_t *__wrap_wcscpy(wchar_t *to, const wchar_t *from) {
+    if (!IDLE) copied(to, from, LETTERS_OF(__real_wcslen(from) + 1), PC);
+    return __real_wcscpy(to, from);
+}
+
+wchar_t *__wrap_wcsncpy(wchar_t *to, const wchar_t *from, size_t n) {
+    size_t there = __real_wcsnlen(from, n);
+    READS(from, LETTERS_OF(there < n ? there + 1 : n)), WRITES(to, LETTERS_OF(n));
+    return __real_wcsncpy(to, from, n);
+}
+
+wchar_t *__wrap_wcscat(wchar_t *to, const wchar_t *from) {
+    READS_WIDE(to);
+    if (!IDLE) copied(to + __real_wcslen(to), from, LETTERS_OF(__real_wcslen(from) + 1), PC);
+    return __real_wcscat(to, from);
+}
+
+wchar_t *__wrap_wmemcpy(wchar_t *to, const wchar_t *from, size_t n) {
+    copied(to, from, LETTERS_OF(n), PC);
+    return __real_wmemcpy(to, from, n);
+}
+
+wchar_t *__wrap_wmemmove(wchar_t *to, const wchar_t *from, size_t n) {
+    copied(to, from, LETTERS_OF(n), PC);
+    return __real_wmemmove(to, from, n);
+}
+
+wchar_t *__wrap_wmemset(wchar_t *to, wchar_t c, size_t n) {
+    WRITES(to, LETTERS_OF(n));
+    return __real_wmemset(to, c, n);
+}
