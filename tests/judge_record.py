@@ -44,6 +44,7 @@ PROGRAMS = [
     ("tests/recorded/each_kind.c", ["--yield", "1"], {"RACE"}),
     ("tests/recorded/each_kind.cpp", [], {"RACE"}),
     ("tests/recorded/barrier.c", [], set()),
+    ("tests/recorded/rounds.c", [], {"RACE"}),
     ("tests/recorded/relaxed.c", [], {"RACE"}),
     ("tests/recorded/read_lock.c", [], {"RACE"}),
     ("tests/recorded/between_writers.c", [], {"TRIAGED"}),

@@ -1,6 +1,6 @@
 /* Streams of C++ that are written to: code of the library of C++ does it, which has no hooks. It moves the place of the
- * next letter in the stream's buffer; the standard streams have no buffer of their own, and there nothing is told. By the
- * linker's --wrap. */
+ * next letter in the stream's buffer. The standard streams have no buffer of their own, and there nothing is told. By
+ * the linker's --wrap. */
 
 /* Where the classes of the library have the buffer of a stream, and the place of the next letter in a buffer. */
 #define BUFFER_IN_STREAM 232
@@ -18,7 +18,8 @@ static void **next_of_stream(void *stream) {
     void *__wrap_##name(void *stream given) { \
         reads; \
         void **next_one = IDLE ? NULL : next_of_stream(stream), *before = NULL; \
-        if (next_one) access_(READ, next_one, sizeof *next_one, PC), before = *next_one; \
+        if (next_one && *next_one) access_(READ, next_one, sizeof *next_one, PC); \
+        if (next_one) before = *next_one; \
         void *answer = IN_LIBRARY(__real_##name(stream passed_on)); \
         if (next_one) wrote(next_one, *next_one == before ? 0 : sizeof *next_one, PC); \
         return answer; \
