@@ -41,17 +41,15 @@ DRAWS_FROM(long, jrand48, unsigned short *, 6)
 
 /* ---- the environment, which all threads share: what is set is a write of where it lies ---- */
 
-#define READS_ENVIRON READS(&environ, sizeof environ)
-#define WRITES_ENVIRON WRITES(&environ, sizeof environ)
 #define CHANGES_ENVIRON(name, given, passed_on) \
     extern int __real_##name given; \
     int __wrap_##name given { \
-        WRITES_ENVIRON; \
+        if (has_threads) WRITES(&environ, sizeof environ); \
         return __real_##name passed_on; \
     }
 extern char *__real_getenv(const char *);
 char *__wrap_getenv(const char *name) {
-    READS_ENVIRON;
+    if (has_threads) READS(&environ, sizeof environ);
     return __real_getenv(name);
 }
 CHANGES_ENVIRON(setenv, (const char *name, const char *value, int over), (name, value, over))

@@ -12,7 +12,7 @@ static size_t looked_at(const char *s, const char *end) {
 /* Before a conversion that ends at `stop`, which is NULL where the base is none. */
 static void converts(const char *s, const char *stop, char **end, u64 pc) {
     if (!stop) return;
-    access_(READ, s, looked_at(s, stop), pc);
+    if (has_threads) access_(READ, s, looked_at(s, stop), pc);
     if (end) access_(WRITE, end, sizeof *end, pc);
 }
 
@@ -47,7 +47,7 @@ CONVERTS(long double, strtold, , )
     extern type __real_##name(const char *); \
     type __wrap_##name(const char *s) { \
         char *stop; \
-        if (!IDLE) __real_strtod(s, &stop), access_(READ, s, looked_at(s, stop), PC); \
+        if (!IDLE && has_threads) __real_strtod(s, &stop), access_(READ, s, looked_at(s, stop), PC); \
         return __real_##name(s); \
     }
 #define CONVERTS_WHOLE_ALONE(type, name) \
@@ -55,7 +55,8 @@ CONVERTS(long double, strtold, , )
     type __wrap_##name(const char *s) { \
         char *stop; \
         int error = errno; \
-        if (!IDLE) __real_strtol(s, &stop, 10), errno = error, access_(READ, s, looked_at(s, stop), PC); \
+        if (!IDLE && has_threads) \
+            __real_strtol(s, &stop, 10), errno = error, access_(READ, s, looked_at(s, stop), PC); \
         return __real_##name(s); \
     }
 CONVERTS_WHOLE_ALONE(int, atoi)

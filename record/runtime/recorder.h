@@ -62,6 +62,9 @@ static __thread u32 depth;
 static __thread u64 stack_start, stack_size;
 /* This thread may be cancelled wherever it is; while it is in the recorder it is not: it could have its lock. */
 static __thread u8 cancels_at_once, holds_cancel;
+/* The program has made a thread. What the environment and what is converted of it says is often looked at before, and
+ * such a read can't race: it is no hook, so that a run with another environment may be followed. */
+static volatile u8 has_threads;
 /* Where the program begins a region of OpenMP, while the library makes threads for it. */
 static __thread u64 making_team;
 /* The team of OpenMP in whose barrier this thread waits without a task. */

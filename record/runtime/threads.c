@@ -45,6 +45,7 @@ static void own_stack(void) {
 
 /* A thread that was not made by pthread_create has a number and no fork. */
 static void stranger(void) {
+    has_threads = 1;
     me = __atomic_fetch_add(&threads, 1, SC);
     if (me >= MOST_THREADS) return;
     kernel_ids[me] = (pid_t)syscall(SYS_gettid);
@@ -141,6 +142,7 @@ static int create(pthread_t *id, const pthread_attr_t *attributes, void *(*body)
     REAL_OF(pthread_create, "GLIBC_2.34", int, pthread_t *, const pthread_attr_t *, void *(*)(void *), void *);
     if (IDLE) return real(id, attributes, body, argument);
     if (making_team) pc = making_team;
+    has_threads = 1;
     watch();
     note_modules();
     maybe_give();
