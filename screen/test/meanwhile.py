@@ -1,13 +1,14 @@
 """Steps that go by positions while another changes the schedule: they are for the events that the page shows."""
 
 import os
+import random
 
 import traces
 from browser import ALT, Browser
 from judged import same
 from live import session
 from sight import FRAMES, HOLD
-from stage import LENGTH, ORDER, ROWS, SAID, Screen, Socket, comes, focus, is_clean, logged, new, press
+from stage import LENGTH, ORDER, ROWS, SAID, SAYINGS, Screen, Socket, comes, focus, is_clean, logged, new, press
 
 # Holds back all that tells the page of what others do, from `hold()` on until `letGo()`.
 DEAF = HOLD.replace('["view"]', '["view", "frontier"]').replace(
@@ -385,3 +386,112 @@ async def test_what_a_page_may_not_say_that_it_showed(program):
         same(logged(), ["1 new A", "1 add A 0"])
         told = await socket.call(do="back", name="A", shown={"n": 10**9, "own": [10**9]})
         same(logged()[2:], ["1 back A"])
+
+
+class Log:
+    """What the log leaves of schedule A, and what each entry did to it."""
+
+    def __init__(self):
+        self.events, self.popped = [], {}
+        self.lines = 0
+
+    def take(self, words):
+        number, self.lines = self.lines, self.lines + 1
+        if words[0] == "undo":
+            word, of = self.popped[int(words[1])]
+            words = ["back", "A"] if word == "add" else ["add", "A", of]
+        if words[0] == "back":
+            self.popped[number] = ("back", self.events.pop())
+        elif words[0] == "add":
+            self.popped[number] = ("add", None)
+            self.events.append(int(words[2]))
+        elif words[0] == "swap":
+            exchange(self.events, int(words[2]))
+
+
+def exchange(events, at):
+    events[at : at + 2] = reversed(events[at : at + 2])
+
+
+class Judge:
+    """Each step of the page is for the same events of what it showed, with its own steps since, and of the log."""
+
+    def __init__(self):
+        self.log, self.done = Log(), 0
+        self.judge([])
+
+    def judge(self, shown):
+        for line in logged()[self.log.lines :]:
+            client, *words = line.split()
+            if client == "1" and words[0] in ("back", "swap") and self.log.lines > 5:
+                self.step(shown, words)
+            elif client == "1" and words[0] == "add":
+                shown.append(int(words[2]))
+            self.log.take(words)
+
+    def step(self, shown, words):
+        at = int(words[2]) if words[0] == "swap" else -1
+        wanted, found = [events[at:][:2] for events in (shown, self.log.events)]
+        same(found, wanted)
+        self.done += 1
+        if words[0] == "swap":
+            exchange(shown, at)
+        else:
+            shown.pop()
+
+
+EVENTS = (
+    "[...document.querySelectorAll('#space .row')].sort((one, other) => one.dataset.p - other.dataset.p)"
+    ".map((row) => Number(row.querySelector('.event').textContent))"
+)
+IDLE = "import('/queue.js').then((queue) => !queue.isBusy())"
+KEYS = (["Backspace"], ["ArrowUp"], ["ArrowDown"], ["6", "Backspace"], ["Backspace", "Backspace"])
+
+
+def others(draw, events):
+    """What another one does to the schedule."""
+    free = [event for event in range(8) if event not in events]
+    add = f"add A {draw.choice(free)}\n" if free else "back A\n"
+    back = ["back A\n", "back A\nundo\n", f"swap A {draw.randrange(len(events) - 1)}\n"] if len(events) > 3 else []
+    return draw.choice([add, add + "undo\n", *back])
+
+
+async def presses(page, keys, is_held):
+    """Presses keys and waits for the first answer; gives what was shown before, and whether another was faster."""
+    said = await page.run(SAYINGS)
+    for number, key in enumerate(keys):
+        if key.startswith("Arrow"):
+            await page.key("ArrowUp")  # an event is chosen
+        await page.key(key, ALT if key.startswith("Arrow") else 0)
+        if number == 0:
+            shown = await page.run("window.atPress")
+    await page.until(f"{SAYINGS} !== {said!r}")
+    is_faster = "meanwhile" in await page.run(SAID)
+    if is_held:
+        await page.run("letGo()")
+    await page.until(IDLE)
+    return shown, is_faster
+
+
+async def test_steps_by_chance_while_another_works(program):
+    """Whether the page knows of what the other did or not, each of its steps is for the events that it showed."""
+    traces.write("trace", FREE)
+    draw, faster = random.Random(7), 0
+    async with Screen(program, "trace", "log") as screen, Browser() as browser:
+        page = await deaf(browser, screen, 5)
+        judge = Judge()
+        await page.run(f"addEventListener('keydown', () => {{ window.atPress = {EVENTS}; }}, true)")
+        await focus(page, "stage")
+        for _ in range(40):
+            is_held = draw.random() < 0.7
+            if is_held:
+                await page.run("hold()")
+            await session(program, 2, others(draw, judge.log.events))
+            keys = draw.choice(KEYS)
+            shown, is_faster = await presses(page, keys if is_held else keys[-1:], is_held)
+            faster += is_faster
+            judge.judge(shown)
+            await page.until(f"{EVENTS}.join() === {','.join(map(str, judge.log.events))!r}")
+            await shows(page, len(judge.log.events))
+        assert judge.done > 5 and faster > 5, (judge.done, faster)
+        is_clean(page, screen)
