@@ -68,6 +68,7 @@ REACHED = [
     "no line",
     "moved",
     "changed",
+    "bound",
 ]
 
 
@@ -325,6 +326,26 @@ def check_moved(judge):
         judge.equal(gone, ["gone.c\n\nx\n\np.c\n\nx\n"], "the fingerprint of lines that are not there")
 
 
+def check_bounds(judge):
+    """A fingerprint has a line of code whole up to 256 bytes; files up to 16,777,216 bytes are read, and 65,536 lines."""
+
+    def judged_as(lines, line):
+        made = judge.check([*lines, "T1|w(x)|p.c:1", "T2|r(x)|q.c:1"], [], "code")
+        judge.equal(made, [f"p.c\n\nx\n{line}\nq.c\n\nx\nint y;"], "the fingerprint at a bound")
+        judge.tally["bound"] += 1
+
+    for length in (255, 256, 257):
+        text = ("0123456789" * 26)[:length]
+        write_code({"p.c": ["  " + text], "q.c": ["int y;"]})
+        judged_as([], text[:256])
+    for size, line in ((16_777_216, "int x;"), (16_777_217, "")):
+        write_code({"p.c": ["int x;"]})
+        os.truncate("code/p.c", size)
+        judged_as([], line)
+    write_code({"p.c": ["int x;"], "o.c": ["int o;"] * 65_534})
+    judged_as([f"T1|w(o)|o.c:{at}" for at in range(1, 65_535)], "int x;")
+
+
 def check_filters(judge):
     judge.check(["T1|w(x)|a.c:1", "T2|w(x)|b.c:2", "T1|w(y)|a.c:3", "T2|w(y)|b.c:4"], ["--hide", "(y)"])
     judge.check(["T1|w(x)|a.c:1"], [])
@@ -336,7 +357,7 @@ def check_filters(judge):
 
 def judged(run):
     judge = Judge(run.program)
-    for part in (check_filters, check_hostile, check_moved, check_long, check_many):
+    for part in (check_filters, check_hostile, check_moved, check_bounds, check_long, check_many):
         with judging.about(part.__name__):
             part(judge)
     for seed in run.seeds():
