@@ -21,6 +21,7 @@ static void leave_calls(const struct __jmp_buf_tag *to) {
     u64 after = stack_after(to), here = (u64)__builtin_frame_address(0);
     if (IDLE || !calls || here - stack_start >= stack_size || after - stack_start >= stack_size) return;
     while (depth && (depth > CALLS || calls[depth - 1].stack + 2 * sizeof(u64) < after)) depth--;
+    if (depth <= library_call.depth) library_call.pc = 0;
 }
 
 #define JUMPS(name) \

@@ -2,6 +2,7 @@
 #include <pthread.h>
 #include <setjmp.h>
 #include <stdio.h>
+#include <stdlib.h>
 static __thread jmp_buf back;
 static int racy, sum;
 static pthread_mutex_t m = PTHREAD_MUTEX_INITIALIZER;
@@ -17,9 +18,16 @@ static void __attribute__((noinline)) once(int n) {
     if (!setjmp(back)) deep(n);
     sum++;
 }
+/* It leaves the library that calls it too. */
+static int leaves(const void *a, const void *b) {
+    if (a != b) longjmp(back, 1);
+    return 0;
+}
 static void __attribute__((noinline)) touch(void) { racy++; /* RACE */ }
 static void *work(void *p) {
     for (int k = 0; k < 50; k++) pthread_mutex_lock(&m), once(k), pthread_mutex_unlock(&m);
+    int numbers[] = {2, 1};
+    if (!setjmp(back)) qsort(numbers, 2, sizeof *numbers, leaves);
     touch();
     return p;
 }
