@@ -17,7 +17,7 @@ from judging import Wrong
 from recorded_strangers import judge_stranger, labels_of
 
 # The seeds of the programs that are always tried, how many races they have at least, and how many scenarios each has.
-FEW, LEAST_RACES, SCENARIOS = (4, 8, 10), 12, 6
+FEW, LEAST_RACES, SCENARIOS = (8, 15, 20), 11, 6
 
 HEAD = """#include <any>
 #include <array>
@@ -88,7 +88,7 @@ DATA = [
     ("int D;", "D++;", "seen = D;"),
     ("char D;", "D |= 4;", "seen = D;"),
     ("double D;", "D = 2.5;", "seen = D > 2;"),
-    ("long double D;", "D = 2.5;", "seen = D > 2;"),
+    ("float D;", "D = 2.5;", "seen = D > 2;"),
     ("__int128 D;", "D = 5;", "seen = (long)D;"),
     ("struct { int a : 3, b : 5; } D;", "D.a = 1;", "seen = D.b;"),
     ("Big D, oD;", "D = oD;", "seen = D.part[11];"),
@@ -186,6 +186,13 @@ LINKS = [
     ("Queue<std::exception_ptr> qL;", 'qL.put(std::make_exception_ptr(std::logic_error("one")));',
      "try { std::rethrow_exception(qL.take()); } catch (std::logic_error &e) { seen = e.what()[1]; }"),
 ]  # fmt: skip
+# What orders nothing, although the second thread waits for the first.
+NO_ORDER = [
+    ("std::atomic<int> aL;", "aL.store(1, ORDERrelaxed);", "while (!aL.load(ORDERrelaxed)) {}"),
+    ("std::atomic<int> aL;", "aL.fetch_add(1, ORDERrelaxed);", "while (!aL.load(ORDERacquire)) {}"),
+    ("std::atomic<int> aL;", "aL.store(1, ORDERrelease);", "while (!aL.load(ORDERrelaxed)) {}"),
+    ("std::atomic_flag aL = ATOMIC_FLAG_INIT;", "aL.test_and_set(ORDERrelaxed);", "while (!aL.test(ORDERacquire)) {}"),
+]  # fmt: skip
 # The next thread is made by the one before, or it makes that one and waits for its end.
 STARTS = [
     ("std::thread yN(NEXT);", "yN.join();"),
@@ -252,7 +259,8 @@ class Scenario:
         declared, self.write, self.read = chance.choice(DATA)
         self.lines, self.bodies, self.first = [self.named(declared)], [], []
         self.is_race = chance.random() < 0.5
-        chance.choice([self.chain, self.chain, self.chain, self.guarded, self.once])()
+        kinds = [self.chain, self.chain, self.chain, self.guarded, self.once]
+        chance.choice(kinds + [self.unordered] if self.is_race else kinds)()
 
     def named(self, code, link=0):
         """The code with the names of this scenario, and of a link of it."""
@@ -288,6 +296,14 @@ class Scenario:
             body.append(self.aside())
             joins = [line for line in body if line.startswith("JOIN ")]
             self.bodies.append([line for line in body if line not in joins] + [line[5:] for line in joins])
+
+    def unordered(self):
+        """The second thread waits for the first one, and nothing orders the two."""
+        declared, sends, receives = self.chance.choice(NO_ORDER)
+        self.declare(declared)
+        self.first = [0, 1]
+        self.bodies.append([self.aside(), self.access(True, True), self.named(sends), self.aside()])
+        self.bodies.append([self.aside(), self.named(receives), self.access(False, True), self.aside()])
 
     def link(self, link, bodies, races, makes):
         chance, kind = self.chance, self.chance.random()
