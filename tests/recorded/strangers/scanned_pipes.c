@@ -21,7 +21,7 @@ static void *asks(void *p) {
     FILE *to = questions[1];
     int number = 0;
     before_all = 1, fputs("all", to), fflush(NULL);
-    if (read(0, &number, 3) != 3) abort();
+    if (write(fileno(to), "g", 1) != 1 || read(0, &number, 1) != 1) abort();
     before_number = by_all, fprintf(to, "%d\n", 12), fflush(to);
     if (scanf("%d", &number) != 1 || number != 13) abort();
     before_words = by_number, fputs("two words\n", to), fflush(to);
@@ -37,7 +37,8 @@ static void *hears(void *p) {
     FILE *from = questions[0], *to = answers[1];
     char first[8], second[8];
     if (read(fileno(from), first, 3) != 3) abort();
-    by_all = before_all, fputs("all", to), fflush(NULL);
+    by_all = before_all;
+    if (read(fileno(from), first, 1) != 1 || write(fileno(to), "k", 1) != 1) abort();
     if (fscanf(from, "%d", &heard) != 1 || heard != 12) abort();
     by_number = before_number, fprintf(to, "%d\n", 13), fflush(to);
     if (fscanf(from, "%7s%7s%*c", first, second) != 2) abort();
