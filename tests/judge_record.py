@@ -45,6 +45,7 @@ PROGRAMS = [
     ("tests/recorded/each_kind.cpp", [], {"RACE"}),
     ("tests/recorded/barrier.c", [], set()),
     ("tests/recorded/rounds.c", [], {"RACE"}),
+    ("tests/recorded/semaphore_lock.c", [], {"TRIAGED"}),
     ("tests/recorded/relaxed.c", [], {"RACE"}),
     ("tests/recorded/read_lock.c", [], {"RACE"}),
     ("tests/recorded/between_writers.c", [], {"TRIAGED"}),
