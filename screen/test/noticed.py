@@ -441,3 +441,120 @@ async def test_a_run_that_is_not_over(program):
         said = await page.run(SAID)
         assert said.startswith("added 1 event · 1,234 more to come: run again · entry 1"), said
         is_clean(page, screen)
+
+
+async def test_news_that_come_after_they_were_seen(program):
+    """Who marks the log as seen is not told of that again by an answer that comes late."""
+    traces.write("trace", FREE)
+    async with Screen(program, "trace", "log") as screen, Browser() as browser:
+        page = await browser.page("about:blank")
+        await page.call("Page.addScriptToEvaluateOnNewDocument", source=HOLD.replace('["view"]', '["since"]'))
+        await page.open(screen.link)
+        await new(page, 8)
+        await page.run("hold()")
+        await session(program, 2, "new B\n")
+        await page.until("held.length === 1 && document.querySelectorAll('.entry.fresh').length === 1")
+        await press(page, "s")
+        await page.run("letGo()")
+        same(await page.run("document.getElementById('away').hidden"), True)
+        await session(program, 2, "new C\n")
+        await page.until("!document.getElementById('away').hidden")
+        same(await page.run("document.querySelectorAll('.away-line').length"), 1)
+        is_clean(page, screen)
+
+
+async def test_how_far_a_run_to_an_event_goes(program):
+    """What comes of a thread says how many events a click adds."""
+    traces.write("trace", "".join(f"T0|w(a)|a:{at}\n" for at in range(9)))
+    until = "[...document.querySelectorAll('.coming .until')].map((e) => e.textContent).join()"
+    async with Screen(program, "trace", "log") as screen, Browser() as browser:
+        page = await browser.page(screen.link)
+        await new(page, 1)
+        await page.key("ArrowRight")
+        await page.until(f"{until} === 'add,' + [2, 3, 4, 5, 6, 7, 8, 9].map((n) => `run to here (${{n}})`).join()")
+        await page.click(".coming", 2)
+        await page.until(f"{SAID}.startsWith('added 3 events') && {ROWS} === 3")
+        await page.until(f"{until} === 'add,' + [2, 3, 4, 5, 6].map((n) => `run to here (${{n}})`).join()")
+        await page.click(".coming")
+        await page.until(f"{SAID}.startsWith('added 1 event ') && {ROWS} === 4")
+        is_clean(page, screen)
+
+
+async def test_why_a_read_of_the_pair_may_not_come_next(program):
+    """It is said, unless what the read would miss is the other one of the pair."""
+    traces.write("trace", "T1|w(x)|a:1\nT1|w(x)|a:2\nT2|r(x)|b:1\n")
+    pair = "[...document.querySelectorAll('#pair .access > .num')].map((e) => e.textContent).join()"
+    but = "[...document.querySelectorAll('#pair .but')].map((e) => e.textContent).join()"
+    async with Screen(program, "trace", "log") as screen, Browser() as browser:
+        page = await browser.page(screen.link)
+        await new(page, 2)
+        await page.until(f"{pair} === '0,2' && {but} === 'but would miss the write by 1 T1 w x'")
+        await press(page, "1")
+        await page.until(f"{pair} === '1,2' && {but} === ''")
+        is_clean(page, screen)
+
+
+async def test_the_aim_of_a_proposal_that_is_adopted(program):
+    traces.write("trace", traces.COUNT)
+    await session(program, 2, "propose 7 12 0 2 3 4 5 6 1 8 9 10 11\n")
+    aim = "[...document.querySelectorAll('#bar .aim .short .num')].map((e) => e.textContent).join()"
+    async with Screen(program, "trace", "log") as screen, Browser() as browser:
+        page = await browser.page(screen.link)
+        await page.until("!!document.querySelector('.proposal button')")
+        await page.click(".proposal button")
+        await page.until("document.getElementById('ask').open")
+        await page.type("X")
+        await page.key("Enter")
+        await page.until(f"{OPEN} === 'X' && {LENGTH} === '11 events' && {aim} === '7,12'")
+        await page.until("document.querySelector('.pair-title')?.textContent === 'Aim: side by side'")
+        same(logged()[1:], ["1 new X", "1 adopt X 0"])
+        is_clean(page, screen)
+
+
+async def test_an_event_that_is_moved_over_a_long_block(program):
+    """It goes as far as one step may, and the next step goes on."""
+    traces.write("trace", "".join(f"T0|w(a)|a:{at}\n" for at in range(100)) + "T1|w(b)|b:1\n")
+    await session(program, 1, "new A\n" + "".join(f"add A {event}\n" for event in range(101)))
+    async with Screen(program, "trace", "log") as screen, Browser() as browser:
+        page = await browser.page(screen.link)
+        await page.until(f"{LENGTH} === '101 events' && !!document.querySelector('.row[data-p=\"100\"]')")
+        await page.drag("#space .row[data-p='100'] .lanes", 0, -300)
+        await page.until(f"{SAID}.startsWith('moved by 64') && {CURSOR} === '36'")
+        same(logged()[-1].count(" ; ") + 1, 64)
+        await page.drag("#space .row[data-p='36'] .lanes", 0, -300)
+        await page.until(f"{SAID}.startsWith('moved by 36') && {CURSOR} === '0'")
+        is_clean(page, screen)
+
+
+async def test_where_a_move_that_stays_says_so(program):
+    """Between the two rows that may not change places."""
+    traces.write("trace", "T1|w(a)|a:1\nT2|w(b)|b:1\nT3|w(c)|c:1\nT1|w(b)|a:2\n")
+    top = "parseFloat(document.querySelector('.stop')?.style.top)"
+    async with Screen(program, "trace", "log") as screen, Browser() as browser:
+        page = await browser.page(screen.link)
+        await new(page, 3)
+        await press(page, "1", "2", "3", "1")
+        await shows(page, 4)
+        await page.drag("#space .row[data-p='3'] .lanes", 0, -66)
+        await page.until(f"{ORDER} === '0 1 3 2' && {top} === 2 * 22")
+        await page.drag("#space .row[data-p='1'] .lanes", 0, 44)
+        await page.until(f"{ORDER} === '0 1 3 2' && {top} === 2 * 22 && {CURSOR} === '1'")
+        await page.drag("#space .row[data-p='0'] .lanes", 0, 66)
+        await page.until(f"{ORDER} === '1 0 3 2' && {top} === 2 * 22 && {CURSOR} === '1'")
+        is_clean(page, screen)
+
+
+async def test_who_reads_whom_of_the_cursor_again(program):
+    """The row under the mouse comes first, and the one of the cursor when the mouse is gone."""
+    traces.write("trace", "T0|w(x)|a:1\nT1|r(x)|b:1\nT2|w(y)|c:1\n")
+    reads = "[...document.querySelectorAll('.reads')].map((e) => e.textContent).join()"
+    async with Screen(program, "trace", "log") as screen, Browser() as browser:
+        page = await browser.page(screen.link)
+        await new(page, 3)
+        await press(page, "1", "2", "3")
+        await shows(page, 3)
+        await page.click("#space .row[data-p='1'] .info")
+        await page.hover("#space .row[data-p='0'] .info", 0, f"{reads} === 'is read at 1'")
+        await page.mouse("mouseMoved", 5, 5)
+        await page.until(f"{reads} === 'reads the write at 0'")
+        is_clean(page, screen)
