@@ -558,3 +558,26 @@ async def test_who_reads_whom_of_the_cursor_again(program):
         await page.mouse("mouseMoved", 5, 5)
         await page.until(f"{reads} === 'reads the write at 0'")
         is_clean(page, screen)
+
+
+async def test_enter_opens_a_block_and_closes_it(program):
+    """Also on an event in the midst of it, unless that reads a write: then it goes there."""
+    traces.write("trace", "".join(f"T0|{'r' if at == 7 else 'w'}(a)|a:{at}\n" for at in range(12)))
+    await session(program, 1, "new A\n" + "".join(f"add A {event}\n" for event in range(12)))
+    async with Screen(program, "trace", "log") as screen, Browser() as browser:
+        page = await browser.page(screen.link)
+        await page.until(f"{LENGTH} === '12 events' && {ROWS} === 7 && {NEXT} === 0")
+        await focus(page, "stage")
+        await page.key("Home")
+        await page.until("document.querySelector('.row.on')?.dataset.block === '6'")
+        await page.key("Enter")
+        await page.until(f"{ROWS} === 12 && {CURSOR} === '0'")
+        for key in ("ArrowDown", "ArrowDown", "Enter"):
+            await page.key(key)
+        await page.until(f"{ROWS} === 7 && document.querySelector('.row.on')?.dataset.block === '6'")
+        for key in ("ArrowDown", "ArrowDown"):
+            await page.key(key)
+        await page.until(f"{CURSOR} === '7'")
+        await page.key("Enter")
+        await page.until(f"{ROWS} === 7 && {CURSOR} === '6'")
+        is_clean(page, screen)
