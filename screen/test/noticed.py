@@ -581,3 +581,29 @@ async def test_enter_opens_a_block_and_closes_it(program):
         await page.key("Enter")
         await page.until(f"{ROWS} === 7 && {CURSOR} === '6'")
         is_clean(page, screen)
+
+
+async def test_each_of_nine_threads_has_a_lane(program):
+    """With one more, the last lane is that of all others."""
+    names = "[...document.querySelectorAll('#lanes-head .lane-name bdi')].map((e) => e.textContent).join()"
+    last = "[...document.querySelectorAll('#lanes-head .lane-name')].some((e) => e.textContent === 'others')"
+    traces.write("trace", "".join(f"T{thread}|w(a{thread})|a:1\n" for thread in range(10)))
+    await session(program, 1, "new A\n" + "".join(f"add A {event}\n" for event in range(9)))
+    async with Screen(program, "trace", "log") as screen, Browser() as browser:
+        page = await browser.page(screen.link)
+        await page.until(f"{ROWS} === 9 && {names} === 'T0,T1,T2,T3,T4,T5,T6,T7,T8' && !{last}")
+        await session(program, 2, "add A 9\n")
+        await page.until(f"{ROWS} === 10 && {names} === 'T0,T1,T2,T3,T4,T5,T6,T7' && {last}")
+        is_clean(page, screen)
+
+
+async def test_a_schedule_of_another_that_was_worked_on_last(program):
+    """It opens at the start, since this analyst changed it last."""
+    traces.write("trace", FREE)
+    await session(program, 2, "new A\n")
+    await session(program, 1, "new B\nadd A 0\n")
+    await session(program, 2, "new C\n")
+    async with Screen(program, "trace", "log") as screen, Browser() as browser:
+        page = await browser.page(screen.link)
+        await page.until(f"{OPEN} === 'A' && {ROWS} === 1")
+        is_clean(page, screen)
