@@ -31,6 +31,13 @@ RUNS = [
     (["info", "good"], "", ""),
     (["info", "shut"], "racebench: read failed\n", "note: shut may not be read: permission denied\n"),
     (["info", "in/good"], "racebench: read failed\n", "note: in/good may not be read: permission denied\n"),
+    # Standard input has nothing; what the file of that name has is not told.
+    (["explain", "-", "0", "1"], "racebench: no such pair\n", ""),
+    (
+        ["log", "-"],
+        "racebench: log file line 1\n",
+        "note: standard input is not what `racebench session` writes\n",
+    ),
 ]
 # What is run if an output cannot be written, which standard output it has, and the output and the cause that the note
 # names.
@@ -171,6 +178,7 @@ def make_files(program):
     running.write("bad", "T1|w(x)|1\nT1 w(x)\n")
     running.write("good", "T1|w(x)|1\n")
     running.write("shut", "T1|w(x)|1\n")
+    running.write("-", "T1|r(x)|1\nT2|r(x)|2\n")
     os.chmod("shut", 0)
     os.mkdir("in", 0o700 if os.geteuid() == 0 else 0)
     os.mkdir("held")

@@ -25,8 +25,11 @@ pub(crate) fn is_plain(rt: &HostRuntime, path: &str) -> bool {
 }
 
 /// The bytes of a file, which is read again. None if that fails, or if it is no plain file: another kind may block, or
-/// give other bytes.
+/// give other bytes. None of standard input, also if there is a file of that name.
 fn bytes_again(rt: &HostRuntime, path: &str) -> Option<Vec<u8>> {
+    if is_standard(path) {
+        return None;
+    }
     if !is_plain(rt, path) {
         return None;
     }

@@ -4,7 +4,7 @@ ghost use Rattle.std.specs.Prelude.{◌≡◌, false};
 
 use crate::doing::name_of;
 use crate::file_notes::is_plain;
-use crate::input::{Input, input_at};
+use crate::input::{Input, input_at, is_standard};
 use crate::place_notes::append_place_reason;
 use crate::quoted::{append_number, append_shown};
 use calls::pair::Name;
@@ -14,12 +14,15 @@ use program_words::PairTask;
 use rapid_text::OutOfMemory;
 
 /// Appends the note on why the names mean no pair of the trace in a file. The file is read again, so there is no note
-/// if it is not plain.
+/// if it is not plain, or if the trace came on standard input.
 pub(crate) fn append_pair_note(
     rt: &HostRuntime,
     out: &mut Vec<u8>,
     pair: &PairTask<'_>,
 ) -> Result<(), OutOfMemory> {
+    if is_standard(pair.trace) {
+        return Ok(());
+    }
     if !is_plain(rt, pair.trace) {
         return Ok(());
     }
