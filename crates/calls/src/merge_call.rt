@@ -76,6 +76,7 @@ pub fn write_merged<K: Sink>(
     requires { K.has_failed writer.old ≡ false }
     ensures written { IsWritten parts.now apart (K.taken writer.old) (K.taken writer.new) result }
     ensures write { K.has_failed writer.new ≡ true → result ≡ Err (Replay Write) }
+    ensures write_failed { result ≡ Err (Replay Write) → K.has_failed writer.new ≡ true }
 {
     let (text, races) = match text_of(alloc, parts, apart) {
         Ok(made) => made,
@@ -98,6 +99,7 @@ pub fn write_merged_json<K: Sink>(
     requires { K.has_failed writer.old ≡ false }
     ensures written { IsWrittenJson parts.now (K.taken writer.old) (K.taken writer.new) result }
     ensures write { K.has_failed writer.new ≡ true → result ≡ Err (Replay Write) }
+    ensures write_failed { result ≡ Err (Replay Write) → K.has_failed writer.new ≡ true }
 {
     let (text, races) = match json_of(alloc, parts) {
         Ok(made) => made,

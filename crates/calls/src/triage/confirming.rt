@@ -1,6 +1,9 @@
 //! Reads what `record/confirm --json` writes: what was found when races were followed on the real program.
-ghost use Rattle.std.specs.Prelude.{◌≡◌, ◌++◌, IfErr, IfOk, IfSome, OnErr, OnOk, false};
+ghost use Rattle.std.specs.Prelude.{◌≡◌, ◌++◌, Err, IfErr, IfOk, IfSome, OnErr, OnOk, false, true};
+ghost use Rattle.client_scripts.specs.declared.fault.ReadCause.TheVariants.{Device};
+ghost use Rattle.client_scripts.specs.declared.fault.ReplayFault.TheVariants.{Read};
 ghost use Rattle.followed_races.specs.Lines.{AreLines};
+ghost use Rattle.calls.specs.declared.triage.confirming.ConfirmedFault.TheVariants.{Replay};
 ghost use Rattle.calls.specs.triage.Confirmed.{confirmed_fault_words, IsConfirmedFault, IsTextFault};
 
 use client_scripts::{ReplayFault, Source, fault_text, read_input};
@@ -30,6 +33,8 @@ pub fn read_confirmed<S: Source>(
     requires { S.has_failed reader.old ≡ false }
     ensures ok { IfOk result (λ found. IfSome (S.rest reader.old) (λ told. AreLines told found.items)) }
     ensures err { IfErr result (IsConfirmedFault (S.rest reader.old)) }
+    ensures device { result ≡ Err (Replay (Read 3 Device)) → S.has_failed reader.new ≡ true }
+    ensures failed { S.has_failed reader.new ≡ true → result ≡ Err (Replay (Read 3 Device)) }
 {
     match read_input(alloc, reader, INPUT) {
         Ok(text) => entries_of(alloc, text.as_slice()),

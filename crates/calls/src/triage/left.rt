@@ -268,6 +268,7 @@ pub fn write_left<K: Sink>(
     requires { K.has_failed writer.old ≡ false }
     ensures written { IsLeftWritten parts.now asked.entry (K.taken writer.old) (K.taken writer.new) result }
     ensures write { K.has_failed writer.new ≡ true → result ≡ Err (Replay Write) }
+    ensures write_failed { result ≡ Err (Replay Write) → K.has_failed writer.new ≡ true }
 {
     let (text, races) = match left_told(alloc, parts, asked) {
         Ok(made) => made,

@@ -71,6 +71,7 @@ pub fn write_merged_sarif<'a, K: Sink>(
     requires writer { K.has_failed writer.old ≡ false }
     ensures written { IsLogWritten parts.now log.entry (K.taken writer.old) (K.taken writer.new) result }
     ensures write { K.has_failed writer.new ≡ true → result ≡ Err (Replay Write) }
+    ensures write_failed { result ≡ Err (Replay Write) → K.has_failed writer.new ≡ true }
 {
     let (text, races) = match log_of(alloc, parts, rows, cells, log) {
         Ok(made) => made,
@@ -108,6 +109,7 @@ pub fn write_merged_page<K: Sink>(
     requires { K.has_failed writer.old ≡ false }
     ensures written { IsPageWritten parts.now apart (K.taken writer.old) (K.taken writer.new) result }
     ensures write { K.has_failed writer.new ≡ true → result ≡ Err (Replay Write) }
+    ensures write_failed { result ≡ Err (Replay Write) → K.has_failed writer.new ≡ true }
 {
     let (text, races) = match page_of(alloc, parts, apart) {
         Ok(made) => made,

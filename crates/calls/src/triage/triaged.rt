@@ -1,8 +1,11 @@
 //! Reads a triage file, and makes the text of the fault if it is refused.
-ghost use Rattle.std.specs.Prelude.{◌≡◌, ◌++◌, ◌∷◌, [], codes, decimal, IfErr, IfOk, IfSome, OnErr, OnOk, false};
+ghost use Rattle.std.specs.Prelude.{◌≡◌, ◌++◌, ◌∷◌, [], codes, decimal, Err, IfErr, IfOk, IfSome, OnErr, OnOk, false, true};
 ghost use Rattle.std.specs.List.{concat};
 ghost use Rattle.toml.specs.View.{table_view};
+ghost use Rattle.client_scripts.specs.declared.fault.ReadCause.TheVariants.{Device};
+ghost use Rattle.client_scripts.specs.declared.fault.ReplayFault.TheVariants.{Read};
 ghost use Rattle.triage_file.specs.Files.{IsTaken};
+ghost use Rattle.calls.specs.declared.triage.triaged.TriagedFault.TheVariants.{Replay};
 ghost use Rattle.calls.specs.triage.Triaged.{fault_by, mistake_words, refusal_words, spot_words, triaged_fault_words, IsTriagedFault, IsTriagedTextFault};
 
 use client_scripts::{ReplayFault, Source, fault_text, read_input};
@@ -33,6 +36,8 @@ pub fn read_triaged<S: Source>(
     requires { S.has_failed reader.old ≡ false }
     ensures ok { IfOk result (λ table. IfSome (S.rest reader.old) (λ told. IsTaken told today (table_view table))) }
     ensures err { IfErr result (IsTriagedFault (S.rest reader.old) today) }
+    ensures device { result ≡ Err (Replay (Read 4 Device)) → S.has_failed reader.new ≡ true }
+    ensures failed { S.has_failed reader.new ≡ true → result ≡ Err (Replay (Read 4 Device)) }
 {
     match read_input(alloc, reader, INPUT) {
         Ok(text) => table_of(alloc, text.as_slice(), today),
