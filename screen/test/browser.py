@@ -40,6 +40,8 @@ LOOK = 6
 DOUBLE = 0.05
 # How long the browser has to end, in seconds.
 GRACE = 60
+# How long it has to close a page, in seconds. If it takes longer, the next test starts another browser.
+CLOSING = 60
 # The longest path of a folder in which the browser can make a socket: with the names in it 107 bytes are allowed.
 SOCKET_FOLDER = 50
 CRASHED = "the page ended: the browser ran out of memory, or failed"
@@ -106,7 +108,11 @@ class Browser:
         for page in browser.pages.values():
             if not page.is_closed and not browser.is_dead:
                 page.is_closed = True
-                await browser.call("Target.disposeBrowserContext", browserContextId=page.context)
+                try:
+                    closed = browser.call("Target.disposeBrowserContext", browserContextId=page.context)
+                    await asyncio.wait_for(closed, CLOSING)
+                except asyncio.TimeoutError:
+                    return await Browser.end()
 
     async def _start(self):
         """Starts the browser; a slow machine may need more than one try."""
