@@ -1,15 +1,14 @@
 //! The rows of a workspace: a tree of them by birth, and each name's birth beside it.
-ghost use Rattle.std.specs.Prelude.{◌≡◌, ◌≢◌, ◌<◌, ◌++◌, ◌∷◌, [], ℕ, List, true, false, if◌then◌else◌, OnOk, OnErr, IsOk, IfOk, IfErr, IfSome, IfNone, Some, None, is_some, length, slice_get, take, option_map, ◌+◌};
-ghost use Rattle.std.specs.BTreeMap.{get_by, is_at};
-ghost use Rattle.std.specs.Map.{lookup, remove_entry};
-ghost use Rattle.std.specs.Ordering.{nat_cmp};
+ghost use Rattle.std.specs.Prelude.{◌≡◌, ◌<◌, [], true, false, OnOk, OnErr, IsOk, IfOk, IfErr, IfSome, IfNone, Some, None, is_some, length, slice_get, take, option_map, ◌+◌};
+ghost use Rattle.std.specs.Map.{remove_entry};
 ghost use Rattle.std.specs.Str.{bytes_eq};
 ghost use Rattle.moves.specs.declared.row.Row.{Row as RowValue};
-ghost use Rattle.moves.specs.Rows.{row_of, put_in, with_row, names_of, IsListing, IsFree, IsOfTrace, Below};
-ghost use Rattle.moves.specs.Births.{HasBirth};
+ghost use Rattle.moves.specs.Rows.{row_of, put_in, names_of, IsListing, IsFree, IsOfTrace, Below};
 ghost use Rattle.moves.specs.Applied.{IsAt, IsApplied};
 ghost use Rattle.moves.specs.Boards.{IsBoardOf};
 ghost use Rattle.moves.specs.Inverses.{CanTurn, IsTurned, Fits, wants_memory, is_change};
+
+mod births;
 
 use crate::birth::Birth;
 use crate::board::Board;
@@ -22,15 +21,13 @@ use crate::name::Name;
 use crate::refusal::MoveRefusal;
 use crate::rising::Rising;
 use crate::row::Row;
+use births::{Births, birth_noted, birth_of, take_birth};
 use event_index::Indexed;
 use indexmap::IndexMap;
 use rapid_text::{OutOfMemory, TextKeyed};
 use schedule::Schedule;
 use std::alloc::Global;
 use std::marker::Model;
-
-/// The birth of each name's row.
-type Births = IndexMap<Name, Birth, TextKeyed>;
 
 /// The rows by name. Contracts see it as the list of names and rows, by rising birth.
 #[derive(Drop)]
@@ -305,51 +302,4 @@ pub(crate) fn copy_of_row(row: &Row, alloc: Global, indexed: &Indexed) -> Result
         birth: row.birth,
         schedule,
     })
-}
-
-/// The birth of the name, where it stands at the guessed place.
-fn guessed_birth(births: &Births, place: usize, name: &Name) -> Option<Birth>
-    ensures { IfSome result (λ birth. HasBirth births.now.entries place name.now birth) }
-{
-    match births.get_index(place) {
-        Some((key, birth)) if key == name => Some(*birth),
-        _ => None,
-    }
-}
-
-/// The birth of the name's row. If it stands at the guessed place, the name has not to be hashed.
-fn birth_of(births: &Births, place: usize, name: &Name) -> Option<Birth>
-    ensures value { result ≡ lookup (bytes_eq name.now) births.now.entries }
-{
-    if let Some(birth) = guessed_birth(births, place, name) {
-        return Some(birth);
-    }
-    births.get(name).copied()
-}
-
-/// The same, and where the name stands is noted.
-fn birth_noted(births: &Births, guesses: &mut Guesses, name: &Name) -> Option<Birth>
-    ensures value { result ≡ lookup (bytes_eq name.now) births.now.entries }
-{
-    let place = guesses.place(name);
-    if let Some(birth) = guessed_birth(births, place, name) {
-        return Some(birth);
-    }
-    let (at, _, birth) = births.get_full(name)?;
-    guesses.note(name, place, at);
-    Some(*birth)
-}
-
-/// Takes out the birth of the name's row, in the same way.
-fn take_birth(births: &mut Births, place: usize, name: &Name) -> Option<Birth>
-    ensures value { result ≡ lookup (bytes_eq name.now) births.old.entries }
-    ensures updates { (y : List ℕ) → lookup (bytes_eq y) births.new.entries
-        ≡ (if bytes_eq name.now y then None else lookup (bytes_eq y) births.old.entries) }
-    ensures unchanged { IfNone result (births.new.entries ≡ births.old.entries) }
-{
-    if guessed_birth(births, place, name).is_some() {
-        let (_, birth) = births.swap_remove_index(place)?;
-        return Some(birth);
-    }
-    births.swap_remove(name)
 }

@@ -1,5 +1,5 @@
 //! The workspace: named schedules, in the order in which they were made.
-ghost use Rattle.std.specs.Prelude.{◌≡◌, ◌+◌, ◌<◌, ◌≤◌, ℕ, [], length, vec_len, vec_capacity, slice_get, option_map, Some, None, false, Ok, Err, OnOk, OnErr, IsOk, IfOk, IfErr, IfSome, IfNone};
+ghost use Rattle.std.specs.Prelude.{◌≡◌, ◌+◌, ◌<◌, ℕ, [], length, slice_get, option_map, Some, None, false, Ok, Err, OnOk, OnErr, IsOk, IfOk, IfErr, IfSome, IfNone};
 ghost use Rattle.moves.specs.declared.row.Row.{Row as RowValue};
 ghost use Rattle.moves.specs.Rows.{Rows, row_of, IsListing, IsOfTrace, Below, names_of};
 ghost use Rattle.moves.specs.Boards.{IsBoardOf};
@@ -8,6 +8,8 @@ ghost use Rattle.moves.specs.Applied.{IsApplied, IsChecked, TakesBack};
 ghost use Rattle.moves.specs.Ages.{age};
 ghost use Rattle.moves.specs.Ready.{MayRun};
 ghost use Rattle.moves.specs.Batches.{IsAppliedAll, TakesAllBack, CanTurnAll, IsTurnedAll, AreOfTrace, AreBelow};
+
+mod apart;
 
 use crate::batch::{self, BatchRefusal, Inverses};
 use crate::birth::Birth;
@@ -24,7 +26,6 @@ use rapid_text::{OutOfMemory, TextKeyed};
 use schedule::Schedule;
 use std::alloc::Global;
 use std::marker::Model;
-use std::mem;
 
 /// Named schedules of one trace. Contracts see it as the list of names and rows, by rising birth.
 #[derive(Drop)]
@@ -210,61 +211,6 @@ impl Workspace {
         self.run_apart(items, indexed, board, entry, commands)
     }
 
-    // On a copy.
-    fn run_apart(
-        &mut self,
-        mut items: Vec<Inverse>,
-        indexed: &Indexed,
-        board: &Board,
-        entry: u64,
-        commands: &[Command],
-    ) -> Result<Inverses, BatchRefusal>
-        requires ready { MayRun indexed.now board.now entry commands.now self.old }
-        requires none { items.items ≡ [] }
-        requires room { vec_len items + length commands.now ≤ vec_capacity items }
-        ensures { IsAppliedAll indexed.now board.now (age entry 0) commands.now self.old self.new result }
-    {
-        match self.run_on_copy(&mut items, indexed, board, entry, commands) {
-            Ok(()) => Ok(Inverses { items }),
-            Err(why) => {
-                drop(items);
-                Err(why)
-            }
-        }
-    }
-
-    // Fills `items`, which has room for an inverse of each command.
-    fn run_on_copy(
-        &mut self,
-        items: &mut Vec<Inverse>,
-        indexed: &Indexed,
-        board: &Board,
-        entry: u64,
-        commands: &[Command],
-    ) -> Result<(), BatchRefusal>
-        requires ready { MayRun indexed.now board.now entry commands.now self.old }
-        requires none { items.old.items ≡ [] }
-        requires room { vec_len items.old + length commands.now ≤ vec_capacity items.old }
-        ensures ok { OnOk result
-            (IsAppliedAll indexed.now board.now (age entry 0) commands.now self.old self.new (Ok items.new.items)) }
-        ensures err { IfErr result
-            (λ why. IsAppliedAll indexed.now board.now (age entry 0) commands.now self.old self.new (Err why)) }
-    {
-        let Ok(mut copy) = self.copied(indexed) else {
-            return Err(BatchRefusal::OutOfMemory);
-        };
-        match batch::run(&mut copy, items, indexed, board, entry, commands) {
-            Ok(()) => {
-                drop(mem::replace(self, copy));
-                Ok(())
-            }
-            Err(why) => {
-                drop(copy);
-                Err(why)
-            }
-        }
-    }
-
     /// Takes back all of a batch, the last command first, or nothing. Each written name still has what the batch left
     /// there; other rows may have changed, come or gone.
     pub fn take_back_all(
@@ -311,60 +257,5 @@ impl Workspace {
         };
         inverses.items.push_reserved(last);
         Err((inverses, why))
-    }
-
-    // On a copy, in the same way as `run_all`.
-    fn turn_apart(
-        &mut self,
-        indexed: &Indexed,
-        inverses: Inverses,
-    ) -> Result<(), (Inverses, OutOfMemory)>
-        requires of_trace { IsOfTrace indexed.now self.old }
-        requires steps { AreOfTrace indexed.now inverses }
-        requires fits { CanTurnAll inverses self.old }
-        ensures ok { OnOk result (IsTurnedAll inverses self.old self.new) }
-        ensures err { OnErr result (self.new ≡ self.old) }
-        ensures back { IfErr result (λ refused. refused.0 ≡ inverses) }
-    {
-        match self.turn_on_copy(indexed, &inverses.items) {
-            Ok(()) => {
-                drop(inverses);
-                Ok(())
-            }
-            Err(why) => Err((inverses, why)),
-        }
-    }
-
-    // Takes the steps on a copy. They are lent, so that the caller gives them back where memory is wanting.
-    fn turn_on_copy(&mut self, indexed: &Indexed, inverses: &[Inverse]) -> Result<(), OutOfMemory>
-        requires of_trace { IsOfTrace indexed.now self.old }
-        requires steps { AreOfTrace indexed.now inverses.now }
-        requires fits { CanTurnAll inverses.now self.old }
-        ensures ok { OnOk result (IsTurnedAll inverses.now self.old self.new) }
-        ensures err { OnErr result (self.new ≡ self.old) }
-    {
-        let mut copy = self.copied(indexed)?;
-        match batch::turn_back(&mut copy, self.alloc, indexed, inverses) {
-            Ok(()) => {
-                drop(mem::replace(self, copy));
-                Ok(())
-            }
-            Err(_) => {
-                drop(copy);
-                Err(OutOfMemory)
-            }
-        }
-    }
-
-    // A workspace of its own with the same rows.
-    fn copied(&self, indexed: &Indexed) -> Result<Workspace, OutOfMemory>
-        requires { IsOfTrace indexed.now self.now }
-        ensures { IfOk result (λ copy. copy ≡ self.now) }
-    {
-        let rows = self.rows.copied(self.alloc, indexed)?;
-        Ok(Workspace {
-            alloc: self.alloc,
-            rows,
-        })
     }
 }

@@ -3,6 +3,7 @@
 
 mod building;
 mod commands;
+mod merge_reading;
 mod pair_commands;
 mod program;
 mod reading;

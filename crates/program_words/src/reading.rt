@@ -4,9 +4,8 @@ ghost use Rattle.program_words.specs.Tasks.{IsWithin};
 
 use crate::building::words_taken;
 use crate::commands::{CommandName, command_of};
-use crate::task::{
-    CutTask, Limits, MergeTask, PairTask, RacesForm, ScheduleForm, Task, TriageTask,
-};
+use crate::merge_reading::merge;
+use crate::task::{CutTask, Limits, PairTask, RacesForm, ScheduleForm, Task, TriageTask};
 use crate::told::{Told, refused, told_of};
 use crate::values::{Unread, check_inputs, day, is_number, named, number};
 use crate::workspace_reading::{replay, session, threads};
@@ -20,7 +19,7 @@ pub(crate) fn word<'a>(given: &ArgMatches<'a>, name: &str) -> &'a str {
 }
 
 /// The texts that a flag is given.
-fn texts<'a>(
+pub(crate) fn texts<'a>(
     alloc: Global,
     given: &ArgMatches<'a>,
     name: &str,
@@ -59,7 +58,7 @@ fn check_beside(
 }
 
 /// A refusal if a folder is named for what a log has, and no log is asked for.
-fn check_source(given: &ArgMatches<'_>) -> Result<(), Unread> {
+pub(crate) fn check_source(given: &ArgMatches<'_>) -> Result<(), Unread> {
     check_beside(given, "source", "sarif", "`--source` goes with `--sarif`")
 }
 
@@ -81,7 +80,7 @@ fn windows_of(given: &ArgMatches<'_>, limits: Limits) -> Result<Option<u32>, Unr
 const ALONE: &str = "`--windows` does not go with `--lines`, `--init-triage`, `--confirmed`";
 
 /// The day that is given, which goes with a triage file.
-fn today_of(given: &ArgMatches<'_>) -> Result<Option<u32>, Unread> {
+pub(crate) fn today_of(given: &ArgMatches<'_>) -> Result<Option<u32>, Unread> {
     day(given.get_str("today"), given.get_str("triage").is_some())
 }
 
@@ -136,13 +135,16 @@ fn triage_numbers(given: &ArgMatches<'_>, limits: Limits) -> Result<TriageNumber
 }
 
 /// The texts of which a block has to hold one, and those of which it may hold none.
-struct Filters<'a> {
-    only: Vec<&'a str>,
-    hide: Vec<&'a str>,
+pub(crate) struct Filters<'a> {
+    pub(crate) only: Vec<&'a str>,
+    pub(crate) hide: Vec<&'a str>,
 }
 
 /// The texts by which blocks are left out.
-fn block_filters<'a>(alloc: Global, given: &ArgMatches<'a>) -> Result<Filters<'a>, AllocError> {
+pub(crate) fn block_filters<'a>(
+    alloc: Global,
+    given: &ArgMatches<'a>,
+) -> Result<Filters<'a>, AllocError> {
     let only = texts(alloc, given, "only")?;
     let hide = texts(alloc, given, "hide")?;
     Ok(Filters { only, hide })
@@ -220,46 +222,6 @@ fn window<'a>(given: &ArgMatches<'a>, limits: Limits) -> Result<Task<'a>, Unread
         most: number(word(given, "windows"), 1, limits.events, WINDOWS)?,
         into,
     }))
-}
-
-/// In which form `merge` is asked for.
-fn merged_form(given: &ArgMatches<'_>) -> RacesForm {
-    if given.get_flag("sarif") {
-        RacesForm::Sarif
-    } else if given.get_flag("page") {
-        RacesForm::Page
-    } else if given.get_flag("json") {
-        RacesForm::Json
-    } else {
-        RacesForm::Text
-    }
-}
-
-/// The day that `merge` is given, or a refusal of what it is asked for.
-fn merged_day(given: &ArgMatches<'_>) -> Result<Option<u32>, Unread> {
-    let parts = given.get_strs("PART").unwrap_or(&[]);
-    check_inputs(parts, &[word(given, "known"), word(given, "triage")])?;
-    check_source(given)?;
-    today_of(given)
-}
-
-/// What `merge` is asked for.
-fn merge<'a>(alloc: Global, given: &ArgMatches<'a>) -> Result<MergeTask<'a>, Unread> {
-    let today = merged_day(given)?;
-    let parts = texts(alloc, given, "PART")?;
-    let Filters { only, hide } = block_filters(alloc, given)?;
-    Ok(MergeTask {
-        parts,
-        known: given.get_str("known"),
-        only,
-        hide,
-        apart: given.get_flag("apart"),
-        form: merged_form(given),
-        source: given.get_str("source"),
-        triage: given.get_str("triage"),
-        today,
-        fail: given.get_flag("fail"),
-    })
 }
 
 /// What a command is asked for.

@@ -2,12 +2,12 @@
 ghost use Rattle.std.specs.Prelude.{◌<◌};
 
 use crate::doing::finish;
+use crate::folders::{Folder, folder_at};
 use crate::input::input_at;
 use crate::pieces::Pieces;
 use crate::quoted::append_number;
-use crate::telling::{
-    tell_files, tell_full, tell_past_end, tell_replay, tell_unlisted, tell_unwritten,
-};
+use crate::telling::{tell_files, tell_past_end, tell_replay};
+use crate::telling_paths::{tell_full, tell_unlisted, tell_unwritten};
 use crate::windows::Windows;
 use crate::write_notes::cause_of;
 use calls::{BenchFault, cut_window};
@@ -140,66 +140,6 @@ pub(crate) fn print_text(rt: &HostRuntime, text: &[u8]) -> ExitCode {
     match write_all(&mut writer, text) {
         Ok(()) => finish(rt, &mut writer),
         Err(_) => tell_replay(rt, ReplayFault::Write),
-    }
-}
-
-/// What is at the path of the folder for the windows.
-#[derive(Clone, Copy)]
-enum Folder {
-    /// A folder without files. It may have been made just now.
-    Empty,
-    /// A folder with files.
-    Full,
-    /// Something that can't be read as a folder.
-    Unread,
-    /// Nothing, and no folder can be made there. This is why, in words.
-    Unmade(&'static [u8]),
-    /// Memory ran out while looking.
-    NoMemory,
-}
-
-/// What is at a path, if it could not be read because of this error. If nothing is there, makes a folder.
-fn failed_at(rt: &HostRuntime, path: &str, error: io::Error) -> Folder {
-    match error.kind() {
-        io::ErrorKind::NotFound => made_at(rt, path),
-        io::ErrorKind::OutOfMemory => Folder::NoMemory,
-        _ => Folder::Unread,
-    }
-}
-
-/// Makes a folder at the path.
-fn made_at(rt: &HostRuntime, path: &str) -> Folder {
-    match fs::create_dir(rt, path) {
-        Ok(()) => Folder::Empty,
-        Err(error) => {
-            if error.kind() == io::ErrorKind::OutOfMemory {
-                Folder::NoMemory
-            } else {
-                Folder::Unmade(cause_of(&error))
-            }
-        }
-    }
-}
-
-/// What is at the path of a folder, if reading its first name failed with this error.
-fn unnamed_in(error: io::Error) -> Folder {
-    match error.kind() {
-        // There is a file, and its name is not text.
-        io::ErrorKind::InvalidFilename => Folder::Full,
-        io::ErrorKind::OutOfMemory => Folder::NoMemory,
-        _ => Folder::Unread,
-    }
-}
-
-/// What is at the path of a folder. If nothing is there, the folder is made.
-fn folder_at(rt: &HostRuntime, path: &str) -> Folder {
-    match fs::read_dir(rt, path) {
-        Ok(mut entries) => match entries.next() {
-            None => Folder::Empty,
-            Some(Ok(_)) => Folder::Full,
-            Some(Err(error)) => unnamed_in(error),
-        },
-        Err(error) => failed_at(rt, path, error),
     }
 }
 

@@ -12,7 +12,8 @@ use crate::leaving::{
 use crate::logging::print_log;
 use crate::notes::are_wanted;
 use crate::quoted::{append_name, append_number};
-use crate::telling::{end, tell_files, tell_folder, tell_replay};
+use crate::telling::{end, tell_files, tell_replay};
+use crate::telling_paths::tell_folder;
 use crate::telling_triage::tell_triage;
 use calls::triage::{have_events, write_merged_page};
 use calls::{BenchFault, MergeFault, Parts, read_part, write_merged, write_merged_json};

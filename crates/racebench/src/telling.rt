@@ -4,17 +4,15 @@ ghost use Rattle.std.specs.Process.{exit_status};
 ghost use Rattle.calls.specs.declared.fault.BenchFault.TheVariants.{TooManyScripts};
 
 use crate::file_notes::{append_file_notes, is_plain};
-use crate::notes::{append_joint_notes, append_named, are_wanted};
+use crate::notes::{append_joint_notes, are_wanted};
 use crate::pair_notes::{append_no_event, append_pair_note};
-use crate::quoted::append_name;
-use crate::write_notes::{append_log_write_note, append_write_note};
 use calls::pair::{PairFault, pair_fault_text};
 use calls::triage::{
     ConfirmedFault, TriageFault, TriagedFault, confirmed_fault_text, triage_fault_text,
     triaged_fault_text,
 };
 use calls::{BenchFault, bench_fault_text};
-use client_scripts::{FromWrite, ReadCause, ReplayFault, write_all};
+use client_scripts::{FromWrite, ReplayFault, write_all};
 use kept_session::{SessionFault, session_fault_text};
 use program_words::{Named, PairTask};
 use rapid_text::OutOfMemory;
@@ -22,12 +20,6 @@ use std::process::ExitCode;
 
 /// The exit status if arguments are refused, or request more than the program does.
 pub(crate) const REFUSED: u8 = 2;
-
-/// 94: an input could not be read.
-const UNREAD: ReplayFault = ReplayFault::Read {
-    input: 1,
-    why: ReadCause::Device,
-};
 
 /// Writes these bytes on standard error. A failure is ignored, since it can't be reported.
 pub(crate) fn say(rt: &HostRuntime, bytes: &[u8]) {
@@ -238,40 +230,6 @@ pub(crate) fn tell_pair(rt: &HostRuntime, fault: PairFault, pair: &PairTask<'_>)
     }
 }
 
-/// Appends the line that reports that a folder is not there.
-fn append_no_folder(out: &mut Vec<u8>, path: &str) -> Result<(), OutOfMemory> {
-    out.extend_from_slice(b"racebench: no such folder: ")?;
-    append_name(out, path)?;
-    out.extend_from_slice(b"\n")?;
-    Ok(())
-}
-
-/// 109: reports that the folder of code at this path is not there.
-pub(crate) fn tell_folder(rt: &HostRuntime, path: &str) -> ExitCode
-    ensures { 0 < exit_status result }
-{
-    let mut lines = Vec::new(rt.alloc());
-    let made = append_no_folder(&mut lines, path);
-    end(rt, &lines, made, ExitCode::FAILURE)
-}
-
-/// Appends the line that reports that a folder is not empty.
-fn append_full(out: &mut Vec<u8>, path: &str) -> Result<(), OutOfMemory> {
-    out.extend_from_slice(b"racebench: the folder has files: ")?;
-    append_name(out, path)?;
-    out.extend_from_slice(b"\n")?;
-    Ok(())
-}
-
-/// 105: reports that the folder for windows at this path is not empty.
-pub(crate) fn tell_full(rt: &HostRuntime, path: &str) -> ExitCode
-    ensures { 0 < exit_status result }
-{
-    let mut lines = Vec::new(rt.alloc());
-    let made = append_full(&mut lines, path);
-    end(rt, &lines, made, ExitCode::FAILURE)
-}
-
 /// Appends the line that reports that a window begins at no event, and the note that says which events the trace has.
 fn append_past_end(
     rt: &HostRuntime,
@@ -293,67 +251,5 @@ pub(crate) fn tell_past_end(rt: &HostRuntime, event: u32, events: u64) -> ExitCo
 {
     let mut lines = Vec::new(rt.alloc());
     let made = append_past_end(rt, &mut lines, event, events);
-    end(rt, &lines, made, ExitCode::FAILURE)
-}
-
-/// 95.
-const UNWRITTEN: Fault = Fault::Bench(BenchFault::Replay(ReplayFault::Write));
-
-/// Appends the line that reports a failed write, and the note that names what was not written, and why.
-fn append_unwritten(
-    rt: &HostRuntime,
-    out: &mut Vec<u8>,
-    name: &str,
-    cause: &[u8],
-) -> Result<(), OutOfMemory> {
-    append_fault(out, &UNWRITTEN)?;
-    if are_wanted(rt) {
-        append_write_note(out, name, cause)?;
-    }
-    Ok(())
-}
-
-/// 95: reports that the output with this name was not written. `cause` says why in words, or is empty.
-pub(crate) fn tell_unwritten(rt: &HostRuntime, name: &str, cause: &[u8]) -> ExitCode
-    ensures { 0 < exit_status result }
-{
-    let mut lines = Vec::new(rt.alloc());
-    let made = append_unwritten(rt, &mut lines, name, cause);
-    end(rt, &lines, made, ExitCode::FAILURE)
-}
-
-/// Appends the line that reports a failed write of a log, and the note that names the log, and the likely cause.
-fn append_unlogged(rt: &HostRuntime, out: &mut Vec<u8>, path: &str) -> Result<(), OutOfMemory> {
-    append_fault(out, &UNWRITTEN)?;
-    if are_wanted(rt) {
-        append_log_write_note(rt, out, path)?;
-    }
-    Ok(())
-}
-
-/// 95: reports that the log at this path was not written.
-pub(crate) fn tell_unlogged(rt: &HostRuntime, path: &str) -> ExitCode
-    ensures { 0 < exit_status result }
-{
-    let mut lines = Vec::new(rt.alloc());
-    let made = append_unlogged(rt, &mut lines, path);
-    end(rt, &lines, made, ExitCode::FAILURE)
-}
-
-/// Appends the line that reports that a folder was not read, and the note that names it.
-fn append_unlisted(rt: &HostRuntime, out: &mut Vec<u8>, path: &str) -> Result<(), OutOfMemory> {
-    append_fault(out, &Fault::Bench(BenchFault::from(UNREAD)))?;
-    if are_wanted(rt) {
-        append_named(out, path, b" is not a folder that can be read")?;
-    }
-    Ok(())
-}
-
-/// 94: reports that the folder for windows at this path was not read.
-pub(crate) fn tell_unlisted(rt: &HostRuntime, path: &str) -> ExitCode
-    ensures { 0 < exit_status result }
-{
-    let mut lines = Vec::new(rt.alloc());
-    let made = append_unlisted(rt, &mut lines, path);
     end(rt, &lines, made, ExitCode::FAILURE)
 }

@@ -4,7 +4,8 @@ ghost use Rattle.std.specs.Process.{exit_status};
 
 use crate::file_notes::{LOG, append_form_notes, append_other_log_note};
 use crate::notes::are_wanted;
-use crate::telling::{Fault, append_fault, end, tell_files, tell_joint, tell_unlogged};
+use crate::telling::{Fault, append_fault, end, tell_files, tell_joint};
+use crate::telling_paths::tell_unlogged;
 use calls::BenchFault;
 use client_scripts::ReplayFault;
 use kept_session::SessionFault;

@@ -6,7 +6,8 @@ use crate::input::input_at;
 use crate::listing::{Listing, list_to};
 use crate::progress::Progress;
 use crate::seen::Seen;
-use crate::telling::{tell_folder, tell_replay};
+use crate::telling::tell_replay;
+use crate::telling_paths::tell_folder;
 use crate::telling_triage::{
     tell_blockless, tell_confirmed, tell_dateless, tell_marks, tell_triage, tell_triaged,
 };
