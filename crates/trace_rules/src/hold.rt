@@ -6,14 +6,14 @@ ghost use Rattle.trace_rules.specs.Tables.{IsHoldOf, IsOpenTo, AfterHold, IsTake
 
 use crate::refusal::RuleCause;
 
-/// The thread that holds a lock, and how many more times it took it than it let it go.
+/// The thread that holds a lock, and its acquires of the lock minus its releases of it.
 #[derive(Clone, Copy)]
 pub(crate) struct Hold {
     pub(crate) owner: Option<u32>,
     pub(crate) depth: u32,
 }
 
-/// The hold of a lock that nobody took yet.
+/// The hold of a lock that no thread has acquired yet.
 pub(crate) fn free() -> Hold
     ensures { (l : ℕ) → IsHoldOf [] l result }
 {
@@ -23,7 +23,7 @@ pub(crate) fn free() -> Hold
     }
 }
 
-/// The rule that the thread breaks where it takes the lock now.
+/// The rule that the thread breaks if it acquires the lock now.
 pub(crate) fn breach_of_acquire(hold: Hold, thread: u32) -> Option<RuleCause>
     ensures breach { AfterHold hold (λ es l. result ≡ breach_of_op es thread (Op.Acquire l)) }
     ensures allowed { result ≡ None → IsOpenTo thread hold }
@@ -35,7 +35,7 @@ pub(crate) fn breach_of_acquire(hold: Hold, thread: u32) -> Option<RuleCause>
     }
 }
 
-/// The rule that the thread breaks where it lets the lock go now.
+/// The rule that the thread breaks if it releases the lock now.
 pub(crate) fn breach_of_release(hold: Hold, thread: u32) -> Option<RuleCause>
     ensures breach { AfterHold hold (λ es l. result ≡ breach_of_op es thread (Op.Release l)) }
     ensures owned { result ≡ None → hold.owner ≡ Some thread }
@@ -59,7 +59,7 @@ pub(crate) fn taken(hold: Hold, thread: u32) -> Hold
     }
 }
 
-/// The hold after one more release by the thread that holds it.
+/// The hold after one more release by the thread that holds the lock.
 pub(crate) fn let_go(hold: Hold, thread: u32) -> Hold
     requires owned { hold.owner ≡ Some thread }
     requires deep { 0 < hold.depth }

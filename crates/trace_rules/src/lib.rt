@@ -1,4 +1,4 @@
-//! The rules that a trace has to keep, on locks, forks and joins.
+//! The rules on locks, forks and joins that a trace has to keep.
 #![tactic(auto)]
 
 mod check_rules;

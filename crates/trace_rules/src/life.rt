@@ -1,4 +1,4 @@
-//! What a thread went through so far.
+//! What a thread has gone through so far.
 ghost use Rattle.std.specs.Prelude.{◌≡◌, ℕ, List, []};
 ghost use Rattle.rapid_text.specs.declared.event.Event.{Event};
 ghost use Rattle.rapid_text.specs.declared.event.Op.{Op};
@@ -7,7 +7,7 @@ ghost use Rattle.trace_rules.specs.Tables.{IsLifeOf};
 
 use crate::refusal::RuleCause;
 
-/// Whether the thread has an event, was forked, was joined.
+/// Whether the thread has an event, whether it was forked, and whether it was joined.
 #[derive(Clone, Copy)]
 pub(crate) struct Life {
     pub(crate) has_event: bool,
@@ -15,7 +15,7 @@ pub(crate) struct Life {
     pub(crate) was_joined: bool,
 }
 
-/// The life of a thread before the first event.
+/// The life of any thread before the first event of the trace.
 pub(crate) fn unborn() -> Life
     ensures { (t : ℕ) → IsLifeOf [] t result }
 {
@@ -26,7 +26,7 @@ pub(crate) fn unborn() -> Life
     }
 }
 
-/// The rule that the thread `by` breaks where it forks the thread of this life now.
+/// The rule that the thread `by` breaks if it forks the thread `thread`, which has this life, now.
 pub(crate) fn breach_of_fork(life: Life, thread: u32, by: u32) -> Option<RuleCause>
     ensures { (es : List Event) → IsLifeOf es thread life → result ≡ breach_of_op es by (Op.Fork thread) }
 {
@@ -42,7 +42,7 @@ pub(crate) fn breach_of_fork(life: Life, thread: u32, by: u32) -> Option<RuleCau
     None
 }
 
-/// The rule that the thread `by` breaks where it joins this thread.
+/// The rule that the thread `by` breaks if it joins the thread `thread`.
 pub(crate) fn breach_of_join(thread: u32, by: u32) -> Option<RuleCause>
     ensures { (es : List Event) → result ≡ breach_of_op es by (Op.Join thread) }
 {

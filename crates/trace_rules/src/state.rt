@@ -9,7 +9,7 @@ use crate::refusal::RuleCause;
 use rapid_text::{Event, Op, RawTrace};
 use std::alloc::{AllocError, Global};
 
-/// Each lock's hold and each thread's life, by their numbers.
+/// The hold of each lock and the life of each thread, indexed by their numbers.
 #[derive(Drop)]
 pub(crate) struct State {
     pub(crate) holds: Vec<Hold>,
@@ -17,7 +17,7 @@ pub(crate) struct State {
 }
 
 impl State {
-    /// Before the first event.
+    /// The state before the first event. Fails if memory runs out.
     pub(crate) fn new(alloc: Global, raw: &RawTrace) -> Result<State, AllocError>
         ensures { IfOk result (λ state. IsStateOf raw.now 0 state) }
     {
@@ -27,7 +27,7 @@ impl State {
         })
     }
 
-    /// The first rule that the event at this place breaks.
+    /// The first rule that event `at` breaks.
     pub(crate) fn breach(&self, raw: &RawTrace, at: u32) -> Option<RuleCause>
         requires place { at < length raw.now.events }
         requires tables { IsStateOf raw.now at self.now }
@@ -49,7 +49,7 @@ impl State {
         }
     }
 
-    /// Goes on past the event at this place, which breaks no rule.
+    /// Moves past event `at`, which breaks no rule.
     pub(crate) fn apply(&mut self, raw: &RawTrace, at: u32)
         requires place { at < length raw.now.events }
         requires room { at < u32.MAX }
@@ -62,7 +62,7 @@ impl State {
     }
 }
 
-/// Takes or lets go the lock of the event.
+/// Updates the hold of the lock that the event acquires or releases.
 fn apply_to_locks(holds: &mut Vec<Hold>, raw: &RawTrace, at: u32)
     requires place { at < length raw.now.events }
     requires room { at < u32.MAX }
@@ -86,7 +86,7 @@ fn apply_to_locks(holds: &mut Vec<Hold>, raw: &RawTrace, at: u32)
     }
 }
 
-/// Notes the event for its thread, and for the thread that it forks or joins.
+/// Records the event in its thread's life, and in the life of the thread that it forks or joins.
 fn apply_to_threads(lives: &mut Vec<Life>, raw: &RawTrace, at: u32)
     requires place { at < length raw.now.events }
     requires threads { length lives.old.items ≡ length raw.now.threads }

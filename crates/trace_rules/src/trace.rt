@@ -6,7 +6,7 @@ ghost use Rattle.trace_rules.specs.Rules.{IsDisciplined};
 use rapid_text::RawTrace;
 use std::marker::Model;
 
-/// A trace that keeps the rules on locks, forks and joins. `check` alone makes one.
+/// A trace that keeps the rules on locks, forks and joins. Only `check` makes one.
 #[derive(Drop)]
 pub struct Trace {
     pub(crate) raw: RawTrace,
@@ -24,7 +24,7 @@ impl Model for Trace {
 }
 
 impl Trace {
-    /// The trace as its text tells it.
+    /// The trace as it was read.
     pub fn raw(&self) -> &RawTrace
         ensures same { result.now ≡ self.now }
         ensures well_formed { IsWellFormed self.now }
