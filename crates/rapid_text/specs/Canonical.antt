@@ -1,4 +1,4 @@
--- The canonical text of a trace: for each event a line `thread|word(name)|location`.
+-- The canonical text of a trace: a line `thread|word(name)|location` for each event.
 use Rattle.std.specs.Prelude.{ℕ, List, [], ◌∷◌, ◌++◌, slice_index_or, codes}
 use Rattle.rapid_text.specs.declared.event.Event.{Event}
 use Rattle.rapid_text.specs.declared.event.Op.{Op}

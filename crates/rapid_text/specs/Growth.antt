@@ -1,4 +1,4 @@
--- How a recording grows by one event more. No public clause cites this module.
+-- How a recording grows by one event. No public clause cites this module.
 use Rattle.std.specs.Prelude.{◌≡◌, ℕ, ◌<◌, ◌≤◌, nat_le, nat_lt, if◌then◌else◌, List, [], ◌∷◌, ◌++◌, length, map, All, Option, Some, None, position, bytes_eq, Vec}
 use Rattle.std.specs.List.{list_any}
 use Rattle.std.specs.HashSet.{HashSet}
@@ -14,7 +14,7 @@ use Rattle.rapid_text.specs.Recording.{Recording, IsNamed}
 abbrev pub names_of : {A S : Type 0} → HashSet (Vec ℕ A) S → List (List ℕ)
 names_of s = map (λ name. name.items) s.keys
 
--- the names with one more, which is noted if it is new
+-- the names with this name, which is appended if it is new
 abbrev pub with_name : List (List ℕ) → List ℕ → List (List ℕ)
 with_name names name = if list_any (bytes_eq name) names then names else names ++ name ∷ []
 
@@ -22,11 +22,11 @@ with_name names name = if list_any (bytes_eq name) names then names else names +
 abbrev pub IsNumber : List (List ℕ) → List ℕ → ℕ → Type 0
 IsNumber names name n = position (bytes_eq name) names ≡ Some n
 
--- the recording that knows this thread
+-- the recording with the name of this thread
 abbrev pub with_thread : Recording → List ℕ → Recording
 with_thread r name = record r { threads = with_name r.threads name }
 
--- the recording that knows this name of an operation
+-- the recording with this name of an operation
 abbrev pub with_operand : Recording → Kind → List ℕ → Recording
 with_operand r Reads name = record r { variables = with_name r.variables name }
 with_operand r Writes name = record r { variables = with_name r.variables name }
@@ -35,7 +35,7 @@ with_operand r Releases name = record r { locks = with_name r.locks name }
 with_operand r Forks name = record r { threads = with_name r.threads name }
 with_operand r Joins name = record r { threads = with_name r.threads name }
 
--- the recording that knows both names of the event
+-- the recording with both names of the event
 abbrev pub with_names : Recording → NamedEvent → Recording
 with_names r e = with_operand (with_thread r e.thread) e.kind e.name
 
@@ -48,31 +48,31 @@ with_event r e =
       locations = s.locations ++ e.location ∷ [];
     }
 
--- the recording behind a line that is not refused
+-- the recording after a line that is not refused
 abbrev pub with_line : Recording → LineReading → Recording
 with_line r (Says e) = with_event r e
 with_line r line = r
 
--- why the event is refused behind this recording, if it is
+-- why the event is refused after this recording, if it is
 abbrev pub fault_beyond : Recording → NamedEvent → Option TextCause
 fault_beyond r e =
     if nat_le event_limit (length r.events)
     then Some TooManyEvents
     else (if nat_lt thread_limit (length (with_names r e).threads) then Some TooManyNames else None)
 
--- why the line is refused behind this recording, if it is
+-- why the line is refused after this recording, if it is
 abbrev pub line_fault : Recording → LineReading → Option TextCause
 line_fault r Skipped = None
 line_fault r (Refused why) = Some why
 line_fault r (Says e) = fault_beyond r e
 
--- the tables are so small that each number is a u32
+-- the tables are small enough for each number to be a u32
 pub record HasRoom (r : Recording) : Type 0 where
   pub threads : length r.threads < name_count_limit
   pub variables : length r.variables < name_count_limit
   pub locks : length r.locks < name_count_limit
 
--- A recording within the limits; each variable and each lock has an event of its own.
+-- A recording within the limits, which has no more variables or locks than events.
 pub record IsTight (r : Recording) : Type 0 where
   pub events : length r.events ≤ event_limit
   pub threads : length r.threads ≤ thread_limit

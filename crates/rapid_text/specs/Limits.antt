@@ -1,5 +1,5 @@
--- How long a line and a name may be, and how large a trace. The constants of the code are measured
--- against these numbers.
+-- The most bytes of a line and of a name, and the largest trace. The proofs compare the constants of the code with
+-- these numbers.
 use Rattle.std.specs.Prelude.{ℕ, ◌*◌}
 
 -- the most events of a trace
@@ -10,12 +10,12 @@ event_limit = 1048576
 abbrev pub thread_limit : ℕ
 thread_limit = 256
 
--- A table of names has fewer names than this: each event brings two names at most, so the number of each
--- name fits into a u32.
+-- A table of names has fewer names than this. Each event brings at most two names, so each name's number fits in a
+-- u32.
 abbrev pub name_count_limit : ℕ
 name_count_limit = 2 * event_limit
 
--- the most bytes of a line, without the blanks at its ends
+-- the most bytes of a line, not counting the blanks at its ends
 abbrev pub line_limit : ℕ
 line_limit = 4096
 

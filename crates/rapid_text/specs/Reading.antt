@@ -1,6 +1,6 @@
--- What a trace text says: its events with names and locations, or its first refused line and cause.
--- A line has the form that RAPID's README gives, `thread|operation(name)|location`; what is skipped,
--- refused and left out is this project's own profile of it.
+-- What a trace text means: its events with names and locations, or its first refused line and cause. A line has the
+-- form of RAPID's README, `thread|operation(name)|location`. Which lines are skipped, refused or ignored is this
+-- project's own.
 use Rattle.std.specs.Prelude.{ℕ, ◌+◌, ◌-◌, ◌==◌, nat_eq, nat_lt, nat_le, Bool, true, false, not, ◌||◌, if◌then◌else◌, List, [], ◌∷◌, ◌++◌, map, length, take, drop, filter, filter_map, flat_map, find, position, slice_index_or, Option, Some, None, option_map, unwrap_or, Result, Ok, Err, codes, bytes_eq}
 use Rattle.std.specs.List.{ends_with, prefix_len, suffix_len, list_any, before_first, after_first, before_last, slice_split, range_with_len}
 use Rattle.rapid_text.specs.declared.event.Event.{Event}
@@ -40,7 +40,7 @@ trimmed xs =
     let rest = drop (prefix_len is_blank xs) xs in
     take (length rest - suffix_len is_blank rest) rest
 
--- the word of each kind of operation
+-- the word for each kind of operation
 abbrev pub word_of : Kind → List ℕ
 word_of Reads = codes "r"
 word_of Writes = codes "w"
@@ -60,20 +60,20 @@ kind_of word = find (λ kind. bytes_eq word (word_of kind)) kinds
 abbrev pub is_mark : List ℕ → Bool
 is_mark word = bytes_eq word (codes "begin") || bytes_eq word (codes "end")
 
--- an event by its names, as one line has it
+-- one line's event, with names instead of numbers
 pub record NamedEvent : Type 0 where
   pub thread : List ℕ
   pub kind : Kind
   pub name : List ℕ
   pub location : List ℕ
 
--- what one line asks for, whatever stands before it
+-- what one line means, regardless of the lines before it
 pub data LineReading : Type 0 where
   Skipped : LineReading
   Refused : TextCause → LineReading
   Says : NamedEvent → LineReading
 
--- of the thread, the kind where there is one, the name and the location
+-- what a line with this thread, kind, name and location means; the kind is None if the word is unknown
 abbrev pub named_reading : List ℕ → Option Kind → List ℕ → List ℕ → LineReading
 named_reading thread None name location = Refused UnknownOperation
 named_reading thread (Some kind) name location =
@@ -83,7 +83,7 @@ named_reading thread (Some kind) name location =
     then Refused NameTooLong
     else Says (record { thread = thread; kind = kind; name = name; location = location }))
 
--- of the thread, the operation `word(name)` and the location
+-- what a line with this thread, operation `word(name)` and location means
 abbrev pub operation_reading : List ℕ → List ℕ → List ℕ → LineReading
 operation_reading thread operation location =
     if is_mark operation
@@ -95,13 +95,13 @@ operation_reading thread operation location =
     let name = trimmed (before_last is_close (after_first is_open operation)) in
     if is_mark word then Skipped else named_reading thread (kind_of word) name location))
 
--- of a line without the blanks at its ends
+-- what a line without blanks at its ends means
 abbrev pub fields_reading : List ℕ → LineReading
 fields_reading line =
     let rest = after_first is_bar line in
     operation_reading (trimmed (before_first is_bar line)) (trimmed (before_first is_bar rest)) (trimmed (after_first is_bar rest))
 
--- what the line asks for
+-- what the line means
 abbrev pub line_reading : List ℕ → LineReading
 line_reading raw =
     let line = trimmed raw in
@@ -111,20 +111,20 @@ line_reading raw =
     then Refused LineTooLong
     else (if not (list_any is_bar line) then Refused NoBar else fields_reading line))
 
--- the event that a line asks for, if it asks for one
+-- the event of a line, if the line has one
 abbrev pub event_said : LineReading → Option NamedEvent
 event_said (Says event) = Some event
 event_said line = None
 
--- the events that lines ask for, in order
+-- the events of the lines, in order
 abbrev pub named_events : List (List ℕ) → List NamedEvent
 named_events lines = filter_map (λ line. event_said (line_reading line)) lines
 
--- the name behind an operation, where the kind passes the test
+-- the operation's name, if the kind passes the test
 abbrev pub name_where : (Kind → Bool) → NamedEvent → List (List ℕ)
 name_where test event = if test event.kind then event.name ∷ [] else []
 
--- whether the name behind the operation is that of a variable, of a lock, of a thread
+-- whether the operation's name is that of a variable, of a lock, of a thread
 abbrev pub names_variable : Kind → Bool
 names_variable Reads = true
 names_variable Writes = true
@@ -140,7 +140,7 @@ names_thread Forks = true
 names_thread Joins = true
 names_thread kind = false
 
--- the uses of threads, variables and locks by name; in a line its thread comes before its operation
+-- the uses of threads, variables and locks by name; in a line, the thread comes before the operation's name
 abbrev pub thread_uses : List NamedEvent → List (List ℕ)
 thread_uses events = flat_map (λ event. event.thread ∷ name_where names_thread event) events
 
@@ -150,16 +150,16 @@ variable_uses events = flat_map (name_where names_variable) events
 abbrev pub lock_uses : List NamedEvent → List (List ℕ)
 lock_uses events = flat_map (name_where names_lock) events
 
--- each name once, in the order of first uses
+-- each name once, in the order of first use
 abbrev pub first_uses : List (List ℕ) → List (List ℕ)
 first_uses [] = []
 first_uses (name ∷ names) = name ∷ filter (λ other. not (bytes_eq name other)) (first_uses names)
 
--- the number of a name: its place among the first uses
+-- the number of a name: its position among the first uses
 abbrev pub number_of : List (List ℕ) → List ℕ → ℕ
 number_of names name = unwrap_or (position (λ other. bytes_eq name other) names) 0
 
--- what an operation is by number
+-- the operation with a number instead of the name
 abbrev pub numbered_op : List (List ℕ) → List (List ℕ) → List (List ℕ) → Kind → List ℕ → Op
 numbered_op threads variables locks Reads name = Read (number_of variables name)
 numbered_op threads variables locks Writes name = Write (number_of variables name)
@@ -175,7 +175,7 @@ numbered threads variables locks event =
       op = numbered_op threads variables locks event.kind event.name;
     }
 
--- the recording of these events: threads, variables and locks are numbered apart, each by first use
+-- the recording of these events; threads, variables and locks are numbered separately, each in the order of first use
 abbrev pub recording_of : List NamedEvent → Recording
 recording_of events =
     let threads = first_uses (thread_uses events) in
@@ -189,7 +189,7 @@ recording_of events =
       locations = map (λ event. event.location) events;
     }
 
--- why a line is refused that stands after these events, if it is
+-- why a line after these events is refused, if it is
 abbrev pub fault_after : List NamedEvent → LineReading → Option TextCause
 fault_after earlier Skipped = None
 fault_after earlier (Refused why) = Some why
@@ -200,15 +200,14 @@ fault_after earlier (Says event) =
     then Some TooManyNames
     else None)
 
--- the refusal of the line at place i, if it is refused; the lines before it ask for the events before it,
--- and lines are counted from 1
+-- the refusal of line i, if it is refused; the earlier lines give the earlier events. A refusal counts lines from 1
 abbrev pub refusal_at : List (List ℕ) → ℕ → Option TextRefusal
 refusal_at lines i =
     option_map
     (λ why. record { line = i + 1; why = why })
     (fault_after (named_events (take i lines)) (line_reading (slice_index_or lines i [])))
 
--- the refusals of all lines that are refused, in the order of the lines
+-- the refusals of all refused lines, in order
 abbrev pub refusals_of : List (List ℕ) → List TextRefusal
 refusals_of lines = filter_map (refusal_at lines) (range_with_len 0 (length lines))
 
@@ -216,6 +215,6 @@ abbrev pub reading_by : List (List ℕ) → List TextRefusal → Result Recordin
 reading_by lines [] = Ok (recording_of (named_events lines))
 reading_by lines (first ∷ later) = Err first
 
--- what the text says: the recording of its lines' events, or the refusal of the first line that is refused
+-- what the text means: the recording of its lines' events, or the refusal of the first refused line
 unfoldable pub reading_of : List ℕ → Result Recording TextRefusal
 reading_of text = let lines = slice_split is_line_feed text in reading_by lines (refusals_of lines)

@@ -1,4 +1,4 @@
--- What the fields of a `Recorder` mean. No public clause cites this module.
+-- What the fields of a `Recorder` represent. No public clause cites this module.
 use Rattle.std.specs.Prelude.{◌≡◌, ⊤, map, All, Option, Some}
 use Rattle.rapid_text.specs.Growth.{IsTight, names_of}
 use Rattle.rapid_text.specs.Layout.{IsPart, part_at}
@@ -8,7 +8,7 @@ use Rattle.rapid_text.specs.declared.recorder.Stop.{Stop}
 use Rattle.rapid_text.specs.declared.recorder.Stop.TheVariants.{Fault, Memory}
 use Rattle.rapid_text.specs.declared.refusal.TextCause.{TextCause}
 
--- what was recorded
+-- the recording so far
 abbrev pub recorded : Recorder → Recording
 recorded t =
     record {
@@ -19,7 +19,7 @@ recorded t =
       locations = map (part_at t.locations.items) t.spans.items;
     }
 
--- each location lies in the buffer
+-- each span lies within the buffer of locations
 abbrev pub AreParts : Recorder → Type 0
 AreParts t = All (IsPart t.locations.items) t.spans.items
 
@@ -28,7 +28,7 @@ pub record IsReady (t : Recorder) : Type 0 where
   pub tight : IsTight (recorded t)
   pub parts : AreParts t
 
--- the stop is for want of memory, or for this fault
+-- the stop is for memory, or for this fault
 abbrev pub StopsFor : Option TextCause → Stop → Type 0
 StopsFor fault Memory = ⊤
 StopsFor fault (Fault why) = fault ≡ Some why

@@ -1,12 +1,12 @@
--- What a contract sees of a trace: its events, and the names behind their numbers.
+-- What a contract sees of a trace: its events, and the names for their numbers.
 use Rattle.std.specs.Prelude.{◌≡◌, ℕ, ◌<◌, ◌≤◌, List, length, All}
 use Rattle.rapid_text.specs.declared.event.Event.{Event}
 use Rattle.rapid_text.specs.declared.event.Op.{Op}
 use Rattle.rapid_text.specs.declared.event.Op.TheVariants.{Read, Write, Acquire, Release, Fork, Join}
 use Rattle.rapid_text.specs.Limits.{event_limit, thread_limit}
 
--- The events in the order of the recording; the names of threads, variables and locks, each in the
--- order of their numbers; and for each event its location. Names and locations are bytes.
+-- The events in the order of the recording; the names of threads, variables and locks, each in the order of their
+-- numbers; and a location for each event. Names and locations are bytes.
 pub record Recording : Type 0 where
   pub events : List Event
   pub threads : List (List ℕ)

@@ -2,6 +2,6 @@
 use Rattle.rapid_text.specs.declared.refusal.TextCause.TheVariants.{OutOfMemory}
 use Rattle.rapid_text.specs.declared.refusal.TextRefusal.{TextRefusal}
 
--- a growth was refused; no line is at fault
+-- memory ran out; no line is at fault
 abbrev pub no_memory : TextRefusal
 no_memory = record { line = 0; why = OutOfMemory }

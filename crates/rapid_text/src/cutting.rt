@@ -1,4 +1,4 @@
-//! Takes blanks off the ends of a text.
+//! Removes blanks from the ends of a text.
 ghost use Rattle.std.specs.Prelude.{◌≡◌, ◌-◌, ◌≤◌, take, drop, length};
 ghost use Rattle.std.specs.List.{prefix_len, suffix_len};
 ghost use Rattle.rapid_text.specs.Reading.{is_blank, trimmed};
@@ -10,7 +10,7 @@ pub fn is_a_blank(byte: u8) -> bool
     byte == b' ' || byte == b'\t' || byte == b'\r'
 }
 
-/// How many blanks the bytes begin with.
+/// The number of blanks at the front of the bytes.
 fn blanks_before(bytes: &[u8]) -> usize
     ensures blanks { result ≡ prefix_len is_blank bytes.now }
     ensures within { result ≤ length bytes.now }
@@ -18,7 +18,7 @@ fn blanks_before(bytes: &[u8]) -> usize
     bytes.iter().take_while(|byte| is_a_blank(**byte)).count()
 }
 
-/// How many blanks the bytes end with.
+/// The number of blanks at the end of the bytes.
 fn blanks_after(bytes: &[u8]) -> usize
     ensures blanks { result ≡ suffix_len is_blank bytes.now }
     ensures within { result ≤ length bytes.now }
@@ -30,14 +30,14 @@ fn blanks_after(bytes: &[u8]) -> usize
         .count()
 }
 
-/// The bytes without the blanks at their front.
+/// The bytes without the blanks at the front.
 pub fn trim_start(bytes: &[u8]) -> &[u8]
     ensures { result.now ≡ drop (prefix_len is_blank bytes.now) bytes.now }
 {
     &bytes[blanks_before(bytes)..]
 }
 
-/// The bytes without the blanks at their end.
+/// The bytes without the blanks at the end.
 pub(crate) fn trim_end(bytes: &[u8]) -> &[u8]
     ensures { result.now ≡ take (length bytes.now - suffix_len is_blank bytes.now) bytes.now }
 {

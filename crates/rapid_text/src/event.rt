@@ -1,6 +1,6 @@
 //! An event of a trace: which thread did what.
 
-/// What an event does. The number is that of a variable, a lock or a thread, each counted from 0 by
+/// What an event does. The number is that of a variable, a lock or a thread, each counted from 0 in the order of
 /// first use.
 #[derive(Clone, Copy, PartialEq, Eq, Debug)]
 pub enum Op {
@@ -8,9 +8,9 @@ pub enum Op {
     Read(u32),
     /// Writes a variable.
     Write(u32),
-    /// Takes a lock.
+    /// Acquires a lock.
     Acquire(u32),
-    /// Lets a lock go.
+    /// Releases a lock.
     Release(u32),
     /// Starts a thread.
     Fork(u32),
@@ -18,7 +18,7 @@ pub enum Op {
     Join(u32),
 }
 
-/// The kind of an operation, which the text tells by a word: `r`, `w`, `acq`, `rel`, `fork`, `join`.
+/// The kind of an operation. The text has a word for each: `r`, `w`, `acq`, `rel`, `fork`, `join`.
 #[derive(Clone, Copy, PartialEq, Eq, Debug)]
 pub enum Kind {
     /// `r`, of a variable.
@@ -35,11 +35,11 @@ pub enum Kind {
     Joins,
 }
 
-/// One event. Its number is its place in the trace, from 0.
+/// One event. Its number is its position in the trace, counted from 0.
 #[derive(Clone, Copy, PartialEq, Eq, Debug)]
 pub struct Event {
-    /// The thread that did it.
+    /// The number of the event's thread.
     pub thread: u32,
-    /// What it did.
+    /// What the thread did.
     pub op: Op,
 }

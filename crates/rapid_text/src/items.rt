@@ -1,4 +1,4 @@
-//! A list that a caller owns.
+//! A list that its caller owns.
 ghost use Rattle.std.specs.Prelude.{◌≡◌, [], ◌∷◌, ◌++◌, OnOk, OnErr, IfOk};
 
 use crate::memory::OutOfMemory;
@@ -23,7 +23,7 @@ impl<T> Model for Items<T> {
 pub type Bytes = Items<u8>;
 
 impl<T> Items<T> {
-    /// The empty list. It takes no memory: `alloc` is kept for later.
+    /// The empty list. It allocates nothing; `push` uses `alloc` later.
     pub fn new(alloc: Global) -> Items<T>
         ensures { result ≡ [] }
     {
@@ -41,7 +41,7 @@ impl<T> Items<T> {
 }
 
 impl<T: Drop> Items<T> {
-    /// Appends one item.
+    /// Appends one item. If memory runs out, the list stays as it was.
     pub fn push(&mut self, item: T) -> Result<(), OutOfMemory>
         ensures ok { OnOk result (self.new ≡ self.old ++ item ∷ []) }
         ensures err { OnErr result (self.new ≡ self.old) }
@@ -52,7 +52,7 @@ impl<T: Drop> Items<T> {
 }
 
 impl<T: Copy> Items<T> {
-    /// The list of these items.
+    /// A list with a copy of `items`. Fails if memory runs out.
     pub fn of(alloc: Global, items: &[T]) -> Result<Items<T>, OutOfMemory>
         ensures { IfOk result (λ list. list ≡ items.now) }
     {

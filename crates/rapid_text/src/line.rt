@@ -1,4 +1,4 @@
-//! Reads one line of a trace text, whatever stands before it.
+//! Reads one line of a trace text, regardless of the lines before it.
 ghost use Rattle.std.specs.Prelude.{◌≡◌, true, length, IfSome};
 ghost use Rattle.std.specs.List.{before_first, after_first, list_any};
 ghost use Rattle.rapid_text.specs.Reading.{is_bar, is_line_feed, is_mark, kind_of, line_reading, named_reading, operation_reading, trimmed};
@@ -11,7 +11,7 @@ use crate::marks::{Marks, cut_marked, cut_or_all_marked, cut_told};
 use crate::raw_trace::{MAX_LINE, MAX_NAME};
 use crate::refusal::TextCause;
 
-/// An event by its names, as one line has it.
+/// One line's event, with names instead of numbers.
 #[derive(Clone, Copy)]
 pub(crate) struct Fields<'a> {
     pub(crate) thread: &'a [u8],
@@ -20,7 +20,7 @@ pub(crate) struct Fields<'a> {
     pub(crate) location: &'a [u8],
 }
 
-/// What one line asks for.
+/// What one line means: nothing, a refusal or an event.
 #[derive(Clone, Copy)]
 pub(crate) enum Line<'a> {
     Skipped,
@@ -28,7 +28,7 @@ pub(crate) enum Line<'a> {
     Says(Fields<'a>),
 }
 
-/// The kind of operation that has this word.
+/// The kind of operation that this word stands for.
 fn kind_with(word: &[u8]) -> Option<Kind>
     ensures { result ≡ kind_of word.now }
 {
@@ -43,14 +43,14 @@ fn kind_with(word: &[u8]) -> Option<Kind>
     }
 }
 
-/// Whether the word marks a bound of an atomic block, which is no event.
+/// Whether the word is `begin` or `end`: it bounds an atomic block and is no event.
 fn is_bound(word: &[u8]) -> bool
     ensures { result ≡ is_mark word.now }
 {
     matches!(word, b"begin" | b"end")
 }
 
-/// What a line with these names asks for; the word of its operation was `kind`'s, if it was one.
+/// What a line with these names means. `kind` is the kind of its operation, or None if the word is unknown.
 fn read_names<'a>(
     thread: &'a [u8],
     kind: Option<Kind>,
@@ -76,7 +76,7 @@ fn read_names<'a>(
     })
 }
 
-/// What a line with this operation, `word(name)`, asks for; the marks are the operation's.
+/// What a line with this operation, `word(name)`, means. The marks are those of the operation.
 fn read_operation<'a>(
     thread: &'a [u8],
     operation: &'a [u8],
@@ -102,7 +102,8 @@ fn read_operation<'a>(
     read_names(thread, kind_with(word), trim(name), location)
 }
 
-/// What a line with the fields `thread` and, behind its first bar, `rest` asks for; the marks are those of `rest`.
+/// What a line means whose first field is `thread` and whose text after the first bar is `rest`. The marks are those
+/// of `rest`.
 fn read_fields<'a>(thread: &'a [u8], rest: &'a [u8], marks: Marks) -> Line<'a>
     requires { IsMarked marks rest.now }
     ensures { reading_in result
@@ -118,7 +119,7 @@ fn read_fields<'a>(thread: &'a [u8], rest: &'a [u8], marks: Marks) -> Line<'a>
     read_operation(trim(thread), operation, trim(location), marks)
 }
 
-/// Reads a line, with the blanks at its ends; the marks are the line's.
+/// Reads a line, which may have blanks at its ends. The marks are those of the line.
 pub(crate) fn read_line(raw: &[u8], marks: Marks) -> Line<'_>
     requires { IsMarked marks raw.now }
     ensures { reading_in result ≡ line_reading raw.now }
@@ -138,7 +139,8 @@ pub(crate) fn read_line(raw: &[u8], marks: Marks) -> Line<'_>
     }
 }
 
-/// Reads a line without a blank, where the marks tell all places at which it is cut.
+/// Reads a line without a blank. None if the marks do not show every byte at which to cut it, if the line is too
+/// long, or if it bounds an atomic block; `read_line` reads every line.
 #[inline(always)]
 fn read_parts<'a>(line: &'a [u8], marks: Marks) -> Option<Line<'a>>
     requires marked { IsMarked marks line.now }
@@ -159,8 +161,8 @@ fn read_parts<'a>(line: &'a [u8], marks: Marks) -> Option<Line<'a>>
     Some(read_names(thread, kind_with(word), name, location))
 }
 
-/// Reads the first line of a text, and gives what stands behind its end; the marks are the text's. None where they do not
-/// tell where to cut it, or where it has a blank: `read_line` reads every line.
+/// Reads the first line of a text, and returns it with the text after its line feed. The marks are those of the text.
+/// None if the marks do not show where to cut the line, or if it may have a blank; `read_line` reads every line.
 #[inline(always)]
 pub(crate) fn read_plain<'a>(text: &'a [u8], marks: Marks) -> Option<(Line<'a>, &'a [u8])>
     requires { IsMarked marks text.now }

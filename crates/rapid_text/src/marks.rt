@@ -1,4 +1,4 @@
-//! Marks the bytes at which a line is cut, of some bytes at once.
+//! Marks the bytes at which a line is cut, for 32 bytes at once.
 ghost use Rattle.std.specs.Prelude.{◌≡◌, ℕ, List, ◌==◌, nat_le, true, false, take, drop, map, IsTrue, IfNone, Some, IfSome};
 ghost use Rattle.std.specs.Simd.Lanes.{mask_l};
 ghost use Rattle.std.specs.List.{before_first, after_first, list_any};
@@ -8,7 +8,8 @@ ghost use Rattle.rapid_text.specs.Marking.{AreBits, HasNoBlank, IsMarked};
 use memchr::memchr;
 use std::simd::prelude::*;
 
-/// Where the bytes stand that end a line, a field and a word, and blanks: a bit for each of the first places of a text.
+/// Bit k of each mask is about the k-th byte of a text, counted from 0. `feeds` marks line feeds, `bars` marks `|`,
+/// `opens` marks `(`, and `blanks` marks blanks.
 #[derive(Clone, Copy)]
 pub(crate) struct Marks {
     pub(crate) feeds: u64,
@@ -18,7 +19,7 @@ pub(crate) struct Marks {
 }
 
 impl Marks {
-    /// Tells nothing.
+    /// Marks that show nothing.
     pub(crate) fn none() -> Marks
         ensures { (xs : List ℕ) → IsMarked result xs }
     {
@@ -30,7 +31,7 @@ impl Marks {
         }
     }
 
-    /// The marks of the first 32 bytes of a text; of a shorter one they tell nothing.
+    /// The marks of the first 32 bytes of a text. If the text is shorter, they show nothing.
     #[inline(always)]
     pub(crate) fn of(text: &[u8]) -> Marks
         ensures { IsMarked result text.now }
@@ -47,7 +48,7 @@ impl Marks {
         }
     }
 
-    /// The marks of what stands behind the first so many bytes.
+    /// The marks of the text that is left after its first `count` bytes.
     #[inline(always)]
     pub(crate) fn behind(self, count: usize) -> Marks
         ensures { (xs : List ℕ) → IsMarked self xs → IsMarked result (drop count xs) }
@@ -63,7 +64,7 @@ impl Marks {
         }
     }
 
-    /// Whether no blank stands before the first line feed, which stands at this place.
+    /// Whether the marks show that the first line feed is at `feed`, and that no blank comes before it.
     #[inline(always)]
     pub(crate) fn is_plain(self, feed: usize) -> bool
         ensures { IsTrue result → (xs : List ℕ) → IsMarked self xs → HasNoBlank (take feed xs) }
@@ -79,7 +80,7 @@ impl Marks {
     }
 }
 
-/// The bits of the lanes that hold the byte.
+/// The mask of the lanes that equal the byte.
 #[inline(always)]
 fn bits_of(byte: u8, front: u8x32) -> u64
     ensures { result ≡ mask_l (map (λ c. c == byte) front) }
@@ -87,7 +88,7 @@ fn bits_of(byte: u8, front: u8x32) -> u64
     front.simd_eq(u8x32::splat(byte)).to_bitmask()
 }
 
-/// The bits of the lanes that hold a blank, or another byte that is no more than a space.
+/// The mask of the lanes that are at most 32: each blank, and each other byte up to the space.
 #[inline(always)]
 fn blanks_of(front: u8x32) -> u64
     ensures { result ≡ mask_l (map (λ c. nat_le c 32) front) }
@@ -95,7 +96,7 @@ fn blanks_of(front: u8x32) -> u64
     front.simd_le(u8x32::splat(b' ')).to_bitmask()
 }
 
-/// The first place of the byte, where a bit tells it.
+/// The position of the first such byte, if a bit marks it; otherwise None.
 #[inline(always)]
 fn place_told(byte: u8, bits: u64, bytes: &[u8]) -> Option<usize>
     requires { AreBits (λ c. c == byte) bits bytes.now }
@@ -108,7 +109,7 @@ fn place_told(byte: u8, bits: u64, bytes: &[u8]) -> Option<usize>
     if at < bytes.len() { Some(at) } else { None }
 }
 
-/// The first place of the byte. Bits of where it stands spare the search.
+/// The position of the first such byte. If no bit marks it, the function searches for it.
 #[inline(always)]
 fn place_marked(byte: u8, bits: u64, bytes: &[u8]) -> Option<usize>
     requires { AreBits (λ c. c == byte) bits bytes.now }
@@ -120,7 +121,7 @@ fn place_marked(byte: u8, bits: u64, bytes: &[u8]) -> Option<usize>
     }
 }
 
-/// The first place of the byte, where no bits tell it.
+/// The position of the first such byte, found by a search.
 #[inline(never)]
 fn search(byte: u8, bytes: &[u8]) -> Option<usize>
     ensures { IsFirstByte (λ c. c == byte) bytes.now result }
@@ -128,7 +129,7 @@ fn search(byte: u8, bytes: &[u8]) -> Option<usize>
     memchr(byte, bytes)
 }
 
-/// What stands before the first such byte and after it; none where there is no such byte.
+/// The bytes before the first such byte, and those after it. None if there is no such byte.
 #[inline(always)]
 pub(crate) fn cut_marked(byte: u8, bits: u64, bytes: &[u8]) -> Option<(&[u8], &[u8])>
     requires { AreBits (λ c. c == byte) bits bytes.now }
@@ -143,7 +144,7 @@ pub(crate) fn cut_marked(byte: u8, bits: u64, bytes: &[u8]) -> Option<(&[u8], &[
     Some((&bytes[..at], &bytes[at + 1..]))
 }
 
-/// What stands before the first such byte and after it; all and nothing where there is no such byte.
+/// The bytes before the first such byte, and those after it. If there is no such byte: all bytes, and none.
 #[inline(always)]
 pub(crate) fn cut_or_all_marked(byte: u8, bits: u64, bytes: &[u8]) -> (&[u8], &[u8])
     requires { AreBits (λ c. c == byte) bits bytes.now }
@@ -156,7 +157,7 @@ pub(crate) fn cut_or_all_marked(byte: u8, bits: u64, bytes: &[u8]) -> (&[u8], &[
     }
 }
 
-/// The same, where a bit tells where the byte stands; none also where no bit does.
+/// The bytes before the first such byte, and those after it, if a bit marks that byte; otherwise None.
 #[inline(always)]
 pub(crate) fn cut_told(byte: u8, bits: u64, bytes: &[u8]) -> Option<(&[u8], &[u8])>
     requires { AreBits (λ c. c == byte) bits bytes.now }

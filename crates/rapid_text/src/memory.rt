@@ -1,8 +1,8 @@
-//! The answer of a call for which there was no memory.
+//! The error of a call that ran out of memory.
 
 use std::alloc::{AllocError, AllocFailed};
 
-/// A growth was refused, and the call changed nothing.
+/// Memory ran out.
 #[derive(Clone, Copy, PartialEq, Eq, Debug)]
 pub struct OutOfMemory;
 

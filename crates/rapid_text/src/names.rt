@@ -1,4 +1,4 @@
-//! Numbers names by their first uses.
+//! Numbers names in the order of their first uses.
 ghost use Rattle.std.specs.Prelude.{◌≡◌, ◌<◌, ◌≤◌, [], length, OnOk, IfOk, IsTrue};
 ghost use Rattle.rapid_text.specs.Growth.{names_of, with_name, IsNumber};
 ghost use Rattle.rapid_text.specs.Limits.{name_count_limit};
@@ -10,10 +10,10 @@ use memchr::memchr;
 use std::alloc::Global;
 use std::hash::{BuildHasher, DefaultHasher, Hasher};
 
-/// From so many bytes on it is quicker to find the names of a line than to hash all of it.
+/// From this line length on, finding the names of a line is quicker than hashing the whole line.
 const LONG_LINE: usize = 128;
 
-/// The names of threads, variables or locks; a name's number is its place.
+/// The names of threads, variables or locks. A name's number is its position.
 pub(crate) type Names = IndexSet<Vec<u8>, TextKeyed>;
 
 /// The names of one kind while a text is read, with guesses at their numbers.
@@ -21,13 +21,13 @@ pub(crate) type Names = IndexSet<Vec<u8>, TextKeyed>;
 pub(crate) struct NameTable {
     pub(crate) names: Names,
     recent: Recent,
-    // Whether the name that was last looked up by its hash was new. The next one is then taken for new too: that
-    // hashes it once, where one that is searched for and not found is hashed twice.
+    // Whether the name that was last looked up by its hash was new. If so, the next name is treated as new too, which
+    // hashes it once. A name that is searched for and not found is hashed twice.
     was_new: bool,
 }
 
 impl NameTable {
-    /// No name was read yet; the names are hashed by these hashers.
+    /// A table without names, which uses these hashers.
     pub(crate) fn new(alloc: Global, hashers: TextKeyed) -> NameTable
         ensures { names_of result.names ≡ [] }
     {
@@ -38,7 +38,7 @@ impl NameTable {
         }
     }
 
-    /// The number of the name, which is noted as the last one if it is new.
+    /// The number of the name. If the name is new, the call appends it.
     pub(crate) fn number(&mut self, alloc: Global, name: &[u8]) -> Result<u32, OutOfMemory>
         requires { length (names_of self.old.names) < name_count_limit }
         ensures names { OnOk result
@@ -54,7 +54,8 @@ impl NameTable {
         self.look_up(alloc, name, mix)
     }
 
-    // The number of the name by its hash, which is noted as the guess at its mix. It is kept out of the way of the guesses.
+    // The number of the name by its hash. The call notes it as the guess for the name's mix. It is not inlined, so
+    // that the guesses stay fast.
     #[inline(never)]
     fn look_up(&mut self, alloc: Global, name: &[u8], mix: u64) -> Result<u32, OutOfMemory>
         requires { length (names_of self.old.names) < name_count_limit }
@@ -74,26 +75,25 @@ impl NameTable {
     }
 }
 
-/// Makes hashers for tables of names that a stranger chose, keyed by the text in which the names stand:
-/// SipHash-1-3 under a hash of the text. Each name of the text is a part of what makes the key, so
-/// names chosen ahead do not collide; who searches over many texts can still find some that do.
-/// Contracts say nothing of the hashes.
+/// Makes hashers for tables of names that a stranger chose. They compute SipHash-1-3; its key is a hash of the text
+/// with those names. So names that were chosen ahead do not collide. Somebody who searches over many texts can still
+/// find names that do. Contracts say nothing about the hashes.
 #[derive(Clone, Copy)]
 pub struct TextKeyed {
-    // a hasher that was given the key and nothing else
+    // a hasher that was given only the key
     keyed: DefaultHasher,
 }
 
 impl TextKeyed {
-    /// The hashers of this text.
+    /// The hashers that are keyed by this text.
     pub fn of(text: &[u8]) -> TextKeyed {
         let mut whole = DefaultHasher::new();
         whole.write(text);
         TextKeyed::from_hash(whole.finish())
     }
 
-    /// The hashers of this trace text. Where its first line is long, so are most locations, and the key is made of what
-    /// stands before the second bar of each line: all names stand there.
+    /// The hashers that are keyed by this trace text. If its first line is long, most locations are long. The key is
+    /// then made of the part of each line before its second bar, which has all names.
     pub(crate) fn of_trace(text: &[u8]) -> TextKeyed {
         if text.is_empty() || line_len(text) < LONG_LINE {
             return TextKeyed::of(text);
@@ -108,7 +108,7 @@ impl TextKeyed {
         TextKeyed::from_hash(whole.finish())
     }
 
-    /// The hashers of these bytes too.
+    /// The hashers that are keyed by these bytes as well.
     pub(crate) fn with(&self, bytes: &[u8]) -> TextKeyed {
         let mut whole = self.keyed;
         whole.write(bytes);
@@ -133,7 +133,8 @@ impl BuildHasher for TextKeyed {
     }
 }
 
-/// How many bytes of a text hold the names of its first line, in whole words, and how many that line has with its end.
+/// The number of bytes, in whole words, that hold the names of the text's first line; and the length of that line
+/// with its line feed.
 fn first_extent(text: &[u8]) -> (usize, usize)
     requires { 0 < length text.now }
     ensures named { result.0 ≤ length text.now }
@@ -143,7 +144,7 @@ fn first_extent(text: &[u8]) -> (usize, usize)
     (whole_words(bars_len(&text[..line]), text), line)
 }
 
-/// How many bytes stand before the second bar of a line.
+/// The number of bytes before the second bar of a line; without a second bar, the length of the line.
 fn bars_len(line: &[u8]) -> usize {
     let Some(first) = memchr(b'|', line) else {
         return line.len();
@@ -154,7 +155,7 @@ fn bars_len(line: &[u8]) -> usize {
     }
 }
 
-/// How many bytes the first line of a text has with its end.
+/// The length of the text's first line, with its line feed.
 fn line_len(text: &[u8]) -> usize
     requires { 0 < length text.now }
     ensures { (0 < result) × (result ≤ length text.now) }
@@ -165,14 +166,14 @@ fn line_len(text: &[u8]) -> usize
     }
 }
 
-/// So many bytes and up to seven more, since a hasher takes whole words at once.
+/// `count` bytes and up to seven more, since a hasher takes whole words at once; at most the whole text.
 fn whole_words(count: usize, text: &[u8]) -> usize
     ensures { result ≤ length text.now }
 {
     (count.saturating_add(7) & !7).min(text.len())
 }
 
-/// Whether the name stands at this place.
+/// Whether the name at this position is `name`.
 fn is_at(names: &Names, place: u32, name: &[u8]) -> bool
     ensures { IsTrue result → IsNumber (names_of names.now) name.now place }
 {
@@ -183,7 +184,7 @@ fn is_at(names: &Names, place: u32, name: &[u8]) -> bool
     names[place].as_slice() == name
 }
 
-// The number of the name by its hash; it is noted as the last one if it is new.
+// The number of the name by its hash. If the name is new, the function appends it.
 fn number(names: &mut Names, alloc: Global, name: &[u8]) -> Result<u32, OutOfMemory>
     requires { length (names_of names.old) < name_count_limit }
     ensures names { OnOk result (names_of names.new ≡ with_name (names_of names.old) name.now) }
@@ -195,7 +196,7 @@ fn number(names: &mut Names, alloc: Global, name: &[u8]) -> Result<u32, OutOfMem
     put(names, alloc, name)
 }
 
-// The number of the name; it is noted as the last one if it is new, which this is quick for.
+// The number of the name. If the name is new, the function appends it; it is fastest for new names.
 fn put(names: &mut Names, alloc: Global, name: &[u8]) -> Result<u32, OutOfMemory>
     requires { length (names_of names.old) < name_count_limit }
     ensures names { OnOk result (names_of names.new ≡ with_name (names_of names.old) name.now) }

@@ -10,13 +10,12 @@ use crate::memory::OutOfMemory;
 use crate::raw_trace::RawTrace;
 use std::alloc::Global;
 
-/// The fewest bytes of a line: two names of one byte, a word of one byte, two bars, two parentheses
-/// and the line feed.
+/// The fewest bytes of a line: two names and a word of one byte each, two bars, two parentheses and the line feed.
 const MIN_LINE: usize = 8;
 
 /// The canonical text: for each event a line `thread|word(name)|location` and a line feed.
 ///
-/// `parse` reads the same trace from it, memory aside.
+/// `parse` reads the same trace from it, unless memory runs out. Fails if memory runs out.
 pub fn print(alloc: Global, trace: &RawTrace) -> Result<Bytes, OutOfMemory>
     ensures text { IfOk result (λ text. text ≡ canonical_text trace.now) }
     ensures reads_back { IfOk result (λ text. reading_of text ≡ Ok trace.now) }
@@ -33,7 +32,7 @@ pub fn print(alloc: Global, trace: &RawTrace) -> Result<Bytes, OutOfMemory>
     Ok(Bytes::from(text))
 }
 
-// Appends the line of an event at its location, with its line feed.
+// Appends the line of an event at this location, with its line feed.
 fn append_line(
     text: &mut Vec<u8>,
     trace: &RawTrace,

@@ -1,4 +1,4 @@
-//! A trace before any rule on it is tested.
+//! A trace whose events are not yet checked against the rules.
 ghost use Rattle.std.specs.Prelude.{◌≡◌, ◌<◌, ◌≤◌, length, slice_get, Some};
 ghost use Rattle.rapid_text.specs.Recording.{IsWellFormed, IsNamed};
 
@@ -10,20 +10,20 @@ use std::marker::Model;
 pub const MAX_EVENTS: usize = 1_048_576;
 /// The most threads of a trace.
 pub const MAX_THREADS: usize = 256;
-/// The most bytes of a line, without the blanks at its ends.
+/// The most bytes of a line, not counting the blanks at its ends.
 pub const MAX_LINE: usize = 4_096;
 /// The most bytes of a name.
 pub const MAX_NAME: usize = 255;
 
-/// A trace as its text tells it. It is made by `parse` alone, so each number in it has a name, and its
-/// canonical text reads back as the same trace.
+/// A trace as its text has it. Only `parse` makes one, so each number in it has a name. `parse` reads the same trace
+/// from its canonical text.
 #[derive(Drop)]
 pub struct RawTrace {
     pub(crate) events: Vec<Event>,
     pub(crate) threads: Names,
     pub(crate) variables: Names,
     pub(crate) locks: Names,
-    // The locations of all events in one buffer, and for each event the part that is its own.
+    // The locations of all events in one buffer, and for each event the span of its location.
     pub(crate) locations: Vec<u8>,
     pub(crate) spans: Vec<Span>,
 }
@@ -64,7 +64,7 @@ impl RawTrace {
         self.threads.len() as u32
     }
 
-    /// The number of variables, at most that of the events.
+    /// The number of variables, at most the number of events.
     pub fn variables(&self) -> u32
         ensures len { result ≡ length self.now.variables }
         ensures well_formed { IsWellFormed self.now }
@@ -72,7 +72,7 @@ impl RawTrace {
         self.variables.len() as u32
     }
 
-    /// The number of locks, at most that of the events.
+    /// The number of locks, at most the number of events.
     pub fn locks(&self) -> u32
         ensures len { result ≡ length self.now.locks }
         ensures well_formed { IsWellFormed self.now }
@@ -80,7 +80,7 @@ impl RawTrace {
         self.locks.len() as u32
     }
 
-    /// The event with this number, which is its place from 0.
+    /// The event with this number, counted from 0.
     pub fn event(&self, event: u32) -> Event
         requires { event < length self.now.events }
         ensures found { slice_get self.now.events event ≡ Some result }
@@ -113,7 +113,7 @@ impl RawTrace {
         self.locks[lock as usize].as_slice()
     }
 
-    /// The location of the event with this number, as it stands in the text; it may be empty.
+    /// The location of the event with this number, without the blanks at its ends. It may be empty.
     pub fn location(&self, event: u32) -> &[u8]
         requires { event < length self.now.events }
         ensures { slice_get self.now.locations event ≡ Some result.now }
@@ -122,8 +122,8 @@ impl RawTrace {
         &self.locations[span.start..span.end]
     }
 
-    /// The hashers of the text that it was read from, for tables of names or of locations that are kept beside it: all
-    /// its names and locations are a part of their key. Contracts say nothing of the hashes.
+    /// Hashers for tables of names or locations that are kept beside the trace. All its names and locations are part
+    /// of their key. Contracts say nothing about the hashes.
     pub fn keyed(&self) -> TextKeyed {
         self.threads.hasher().with(&self.locations)
     }

@@ -17,7 +17,7 @@ use crate::recorder::{Recorder, Stop};
 use crate::refusal::{TextCause, TextRefusal};
 use std::alloc::Global;
 
-/// Records the event that a line asks for.
+/// Records the event of a line, if the line has one.
 fn record_line(recorder: &mut Recorder, line: Line<'_>) -> Result<(), Stop>
     requires { IsReady recorder.old }
     ensures allowed { OnOk result (line_fault (recorded recorder.old) (reading_in line.entry) ≡ None) }
@@ -33,8 +33,8 @@ fn record_line(recorder: &mut Recorder, line: Line<'_>) -> Result<(), Stop>
     }
 }
 
-/// The first line of a text without its end, and what stands behind its end if it has one. The text's marks are the
-/// line's too.
+/// The first line of a text without its line feed, and the text after the line feed if there is one. The marks of the
+/// text are also those of the line.
 fn cut_line(text: &[u8], marks: Marks) -> (&[u8], Option<&[u8]>)
     requires { IsMarked marks text.now }
     ensures marked { IsMarked marks result.0.now }
@@ -48,7 +48,8 @@ fn cut_line(text: &[u8], marks: Marks) -> (&[u8], Option<&[u8]>)
     }
 }
 
-/// What the first line of a text asks for, and what stands behind its end if it has one; the marks are the text's.
+/// What the first line of a text means, and the text after its line feed if there is one. The marks are those of the
+/// text.
 #[inline(always)]
 fn any_line(text: &[u8], marks: Marks) -> (Line<'_>, Option<&[u8]>)
     requires { IsMarked marks text.now }
@@ -61,7 +62,8 @@ fn any_line(text: &[u8], marks: Marks) -> (Line<'_>, Option<&[u8]>)
     (read_line(line, marks), rest)
 }
 
-/// The same. Most lines are short and have no blank; these are read at once.
+/// The same as `any_line`, with its own marks. Most lines are short and without blanks, and `read_plain` reads them
+/// faster.
 #[inline(always)]
 fn first_line(text: &[u8]) -> (Line<'_>, Option<&[u8]>)
     ensures line { reading_in result.0 ≡ line_reading (before_first is_line_feed text.now) }
@@ -76,7 +78,7 @@ fn first_line(text: &[u8]) -> (Line<'_>, Option<&[u8]>)
     }
 }
 
-/// The refusal of a text that stopped at this line.
+/// The refusal of a text if the reader stopped at this line.
 fn refusal_at(line: u64, stop: Stop) -> TextRefusal
     ensures { result ≡ refusal_for line stop }
 {
@@ -89,8 +91,8 @@ fn refusal_at(line: u64, stop: Stop) -> TextRefusal
     }
 }
 
-/// Reads a trace text: its events with names and locations, or the first line that is refused with its
-/// first cause, 1 to 8; or 9 where memory was refused, which may come before a later fault is seen.
+/// Reads a trace text. Returns its events with names and locations, or the first line that is refused with its first
+/// cause, 1 to 8. Error 9 means out of memory, which may hide a refusal of a later line.
 pub fn parse(alloc: Global, text: &[u8]) -> Result<RawTrace, TextRefusal>
     ensures read { IfOk result (λ trace. reading_of text.now ≡ Ok trace) }
     ensures refused { IfErr result

@@ -1,21 +1,21 @@
-//! Guesses which number a name has, since few names make most of a text.
+//! Guesses the number of a name, since a text repeats few names often.
 
 use std::hash::{FoldHasher, Hasher};
 
-// How many guesses are kept for one table: a power of two.
+// The number of guesses that are kept for one table: a power of two.
 const GUESSES: usize = 1_024;
-// How far a mix is shifted to tell the place of its guess.
+// A mix shifted right by this much is the index of its guess.
 const SHIFT: u32 = 54;
 
-/// The numbers that names were found to have, the last one for each place. A guess spares a look-up by
-/// `TextKeyed`, and is compared with the table before it is believed. So its own hash needs no key: who
-/// chooses names that share a place makes the guesses useless, and no look-up dearer.
+/// The numbers that earlier names had, the last one for each index. A right guess spares a look-up by `TextKeyed`,
+/// and the table is compared before a guess is used. So this hash needs no key. Somebody who chooses names with one
+/// index makes the guesses useless, but makes no look-up slower.
 #[derive(Clone, Copy)]
 pub(crate) struct Recent {
     guesses: [Guess; GUESSES],
 }
 
-// The mix of a name's bytes and the number that it had.
+// The mix of a name's bytes, and the number of that name.
 #[derive(Clone, Copy)]
 struct Guess {
     mix: u64,
@@ -23,14 +23,14 @@ struct Guess {
 }
 
 impl Recent {
-    /// No name was looked up yet.
+    /// Guesses before the first name.
     pub(crate) fn new() -> Recent {
         Recent {
             guesses: [Guess { mix: 0, number: 0 }; GUESSES],
         }
     }
 
-    /// The number that the last name of this mix had.
+    /// The number of the last name with this mix, unless a name with another mix replaced it.
     pub(crate) fn guess(&self, mix: u64) -> Option<u32> {
         let guess = self.guesses.get((mix >> SHIFT) as usize)?;
         if guess.mix == mix {

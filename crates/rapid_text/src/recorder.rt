@@ -1,4 +1,4 @@
-//! Gathers the events of a text that is being read.
+//! Collects the events of a text while it is read.
 ghost use Rattle.std.specs.Prelude.{◌≡◌, ◌+◌, ◌<◌, ◌^◌, [], ◌∷◌, ◌++◌, None, Ok, length, OnOk, IfOk, IfErr};
 ghost use Rattle.rapid_text.specs.Canonical.{canonical_text};
 ghost use Rattle.rapid_text.specs.Growth.{fault_beyond, with_event, with_operand, HasRoom};
@@ -14,12 +14,12 @@ use crate::raw_trace::{MAX_EVENTS, MAX_THREADS, RawTrace, Span};
 use crate::refusal::TextCause;
 use std::alloc::Global;
 
-/// Why an event is not recorded.
+/// Why the reading stops.
 #[derive(Clone, Copy)]
 pub(crate) enum Stop {
-    /// The line is refused.
+    /// A line is refused.
     Fault(TextCause),
-    /// A growth was refused.
+    /// Memory ran out.
     Memory,
 }
 
@@ -34,7 +34,7 @@ impl From<OutOfMemory> for Stop {
     }
 }
 
-/// What was read of a text so far.
+/// What has been read of a text so far.
 #[derive(Drop)]
 pub(crate) struct Recorder {
     pub(crate) events: Vec<Event>,
@@ -47,7 +47,7 @@ pub(crate) struct Recorder {
 }
 
 impl Recorder {
-    /// Nothing was read yet; the names are hashed by these hashers.
+    /// A recorder before the first line, whose tables of names use these hashers.
     pub(crate) fn new(alloc: Global, hashers: TextKeyed) -> Recorder
         ensures nothing { recorded result ≡ recording_of [] }
         ensures ready { IsReady result }
@@ -63,7 +63,7 @@ impl Recorder {
         }
     }
 
-    /// The operation by number; its name is numbered if it is new.
+    /// The operation with a number instead of the name. If the name is new, the call appends it to its table.
     fn number_operation(&mut self, kind: Kind, name: &[u8]) -> Result<Op, OutOfMemory>
         requires { HasRoom (recorded self.old) }
         ensures names { OnOk result
@@ -88,7 +88,7 @@ impl Recorder {
         })
     }
 
-    /// Puts the event last, at this location.
+    /// Appends the event with this location.
     fn put_last(&mut self, event: Event, location: &[u8]) -> Result<(), OutOfMemory>
         requires { AreParts self.old }
         ensures ok { OnOk result
@@ -121,7 +121,7 @@ impl Recorder {
         }
         let thread = self.threads.number(self.alloc, fields.thread)?;
         let op = self.number_operation(fields.kind, fields.name)?;
-        // counted once its names are there, so that no name is looked up twice
+        // counted after the names are in the tables, so that no name is looked up twice
         if self.threads.names.len() > MAX_THREADS {
             return Err(Stop::Fault(TextCause::TooManyNames));
         }
@@ -129,7 +129,7 @@ impl Recorder {
         Ok(())
     }
 
-    /// The recording of all that was read.
+    /// The trace of all lines that were read.
     pub(crate) fn finish(self) -> RawTrace
         requires ready { IsReady self }
         requires reads_back { reading_of (canonical_text (recorded self)) ≡ Ok (recorded self) }
