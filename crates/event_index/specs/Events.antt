@@ -8,7 +8,7 @@ use Rattle.rapid_text.specs.declared.event.Op.{Op}
 abbrev pub op_at : List Event → ℕ → Option Op
 op_at T e = option_map (λ v. v.op) (slice_get T e)
 
--- which thread does it
+-- the thread of the event
 abbrev pub thread_at : List Event → ℕ → Option ℕ
 thread_at T e = option_map (λ v. v.thread) (slice_get T e)
 
@@ -16,15 +16,15 @@ abbrev pub passes_by : (Event → Bool) → Option Event → Bool
 passes_by test None = false
 passes_by test (Some v) = test v
 
--- whether there is such an event, and it passes the test
+-- whether event e exists and passes the test
 abbrev pub passes_at : (Event → Bool) → List Event → ℕ → Bool
 passes_at test T e = passes_by test (slice_get T e)
 
--- whether it is one of the thread
+-- whether the event is of the thread
 abbrev pub is_of_thread : List Event → ℕ → ℕ → Bool
 is_of_thread T t e = passes_at (λ v. v.thread == t) T e
 
--- whether it reads the variable, writes it, forks the thread, joins it
+-- whether the event reads the variable, writes it, forks the thread, joins it
 abbrev pub is_read_at : List Event → ℕ → ℕ → Bool
 is_read_at T x e = passes_at (λ v. is_read x v.op) T e
 

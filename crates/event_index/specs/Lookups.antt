@@ -1,6 +1,6 @@
--- What the look-ups of an index answer. `T` is the events of a trace, named by their numbers.
--- The last writer is that of Mathur, Kini and Viswanathan, "What happens-after the first race?"
--- (OOPSLA 2018); the end of a section and the base are this project's own.
+-- What the look-ups of an index return. `T` is the events of a trace, named by their numbers. The last writer is that
+-- of Mathur, Kini and Viswanathan, "What happens-after the first race?" (OOPSLA 2018). The end of a section and the
+-- base are this project's own.
 use Rattle.std.specs.Prelude.{ℕ, Bool, ◌+◌, ◌-◌, ◌==◌, ◌&&◌, nat_lt, List, reverse, length, take, filter, find, count_by, slice_get, Option, Some, None}
 use Rattle.std.specs.List.{range_with_len}
 use Rattle.rapid_text.specs.Operations.{is_release}
@@ -10,7 +10,7 @@ use Rattle.rapid_text.specs.declared.event.Op.TheVariants.{Read, Acquire}
 use Rattle.trace_rules.specs.Rules.{hold_count}
 use Rattle.event_index.specs.Events.{op_at, passes_at, is_of_thread, is_write_at, is_fork_at}
 
--- the numbers of the events before e, rising
+-- the numbers of the events before e, in rising order
 abbrev pub before : ℕ → List ℕ
 before e = range_with_len 0 e
 
@@ -26,11 +26,11 @@ abbrev pub place_by : List Event → ℕ → Option Event → ℕ
 place_by T e None = 0
 place_by T e (Some v) = count_before T e v.thread
 
--- the place of the event in its thread: how many events of the thread stand before it
+-- the place of the event in its thread: the number of events of that thread before it
 abbrev pub place_of : List Event → ℕ → ℕ
 place_of T e = place_by T e (slice_get T e)
 
--- the last write of the variable among these events, which stand in the order in which they happen
+-- the last write of the variable among the events es, which are in the order of the trace
 abbrev pub last_write : List Event → ℕ → List ℕ → Option ℕ
 last_write T x es = find (is_write_at T x) (reverse es)
 
@@ -38,7 +38,7 @@ abbrev pub last_writer_by : List Event → ℕ → Option Op → Option ℕ
 last_writer_by T e (Some (Read x)) = last_write T x (before e)
 last_writer_by T e op = None
 
--- the write that the read e sees in the trace, or none; none too where e is no read
+-- the write that the read e sees in the trace, or None; also None if e is not a read
 abbrev pub last_writer : List Event → ℕ → Option ℕ
 last_writer T e = last_writer_by T e (op_at T e)
 
@@ -54,7 +54,7 @@ abbrev pub base_by : List Event → ℕ → Option Event → Option ℕ
 base_by T e None = None
 base_by T e (Some v) = or_else (find (is_of_thread T v.thread) (reverse (before e))) (fork_of T v.thread)
 
--- the base of the event: the one before it in its thread; for the first the fork of the thread, or none
+-- the base of the event: the event before it in its thread; for the first event the fork of the thread, or None
 abbrev pub base_of : List Event → ℕ → Option ℕ
 base_of T e = base_by T e (slice_get T e)
 
@@ -71,12 +71,12 @@ abbrev pub section_of : List Event → ℕ → ℕ → Option Event → Option �
 section_of T i e None = None
 section_of T i e (Some v) = section_by T i e v.thread v.op
 
--- the release among the first i events that ends the critical section of the acquire e: the first by its thread after which
--- the thread holds the lock as often as it did before e
+-- the release among the first i events that ends the critical section of the acquire e: the first by its thread after
+-- which the thread holds the lock as often as before e
 abbrev pub end_before : List Event → ℕ → ℕ → Option ℕ
 end_before T i e = section_of T i e (slice_get T e)
 
--- the release that ends the critical section of the acquire e, or none; none too where e is no acquire
+-- the release that ends the critical section of the acquire e, or None; also None if e is not an acquire
 abbrev pub section_end : List Event → ℕ → Option ℕ
 section_end T = end_before T (length T)
 

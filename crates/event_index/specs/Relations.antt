@@ -1,5 +1,5 @@
--- What two events have to do with each other: whether they conflict, and whether they are independent.
--- A conflict is that of Mathur, Kini and Viswanathan (OOPSLA 2018); independence is this project's own.
+-- Two relations of events: conflict and independence. Conflict is that of Mathur, Kini and Viswanathan (OOPSLA 2018);
+-- independence is this project's own.
 use Rattle.std.specs.Prelude.{◌≡◌, ◌≢◌, ℕ, ◌==◌, Bool, true, false, not, ◌&&◌, ◌||◌, List, slice_get, Option, Some}
 use Rattle.rapid_text.specs.Operations.{is_read, is_write, is_acquire, is_release, is_fork, is_join}
 use Rattle.rapid_text.specs.declared.event.Event.{Event}
@@ -10,7 +10,7 @@ use Rattle.rapid_text.specs.declared.event.Op.TheVariants.{Read, Write, Acquire,
 abbrev pub is_access : ℕ → Op → Bool
 is_access x op = is_read x op || is_write x op
 
--- whether the operation takes the lock or lets it go
+-- whether the operation acquires the lock or releases it
 abbrev pub is_on_lock : ℕ → Op → Bool
 is_on_lock l op = is_acquire l op || is_release l op
 
@@ -30,9 +30,8 @@ pub record IsConflicting (T : List Event) (a b : ℕ) : Type 0 where
   pub second : slice_get T b ≡ Some w
   pub clash : Clash v w
 
--- Two events that may change places wherever they stand side by side: of different threads, with no
--- conflict, not on one lock, neither a fork or join of the other's thread, and not the fork and the
--- join of one thread.
+-- Two events that may swap wherever they are adjacent. They are of different threads, do not conflict, and are not on
+-- one lock. Neither forks or joins the other's thread, and they are not the fork and the join of one thread.
 pub record AreApart (v w : Event) : Type 0 where
   pub threads : v.thread ≢ w.thread
   pub no_clash : ¬ Clash v w
@@ -84,10 +83,10 @@ abbrev pub pass_both : (Event → Event → Bool) → Option Event → Option Ev
 pass_both test (Some v) (Some w) = test v w
 pass_both test v w = false
 
--- whether there are such events, and they conflict
+-- whether both events exist, and they conflict
 abbrev pub is_conflict : List Event → ℕ → ℕ → Bool
 is_conflict T a b = pass_both is_clash (slice_get T a) (slice_get T b)
 
--- whether there are such events, and they are independent
+-- whether both events exist, and they are independent
 abbrev pub is_independent : List Event → ℕ → ℕ → Bool
 is_independent T a b = pass_both is_apart (slice_get T a) (slice_get T b)

@@ -1,4 +1,4 @@
-//! The events of all threads in one row, thread by thread.
+//! The events of all threads in one list, thread by thread.
 ghost use Rattle.std.specs.Prelude.{◌+◌, ◌<◌, length, IfOk};
 ghost use Rattle.rapid_text.specs.Recording.{IsWellFormed};
 ghost use Rattle.event_index.specs.Lookups.{place_of};
@@ -7,8 +7,8 @@ ghost use Rattle.event_index.specs.Layout.{IsFilled, total_of, AreStarts, TellsE
 use rapid_text::{OutOfMemory, RawTrace};
 use std::alloc::Global;
 
-/// Where the events of each thread begin in the row, and at the end of the list where the row ends.
-/// `counts` tells how many events each thread has.
+/// The index in the list at which the events of each thread begin, and after these the length of the list. `counts`
+/// has each thread's number of events.
 pub(crate) fn starts_of(
     alloc: Global,
     raw: &RawTrace,
@@ -28,7 +28,7 @@ pub(crate) fn starts_of(
     Ok(starts)
 }
 
-/// The row: each event stands its place in its thread behind the start of its thread.
+/// The list: an event's index is the start of its thread plus the event's place in its thread.
 pub(crate) fn grouped_of(
     alloc: Global,
     raw: &RawTrace,
@@ -46,7 +46,7 @@ pub(crate) fn grouped_of(
     Ok(grouped)
 }
 
-// Puts the event where it belongs, beside the events before it.
+// Puts the event at its index. The events before it are already there.
 fn put(grouped: &mut Vec<u32>, raw: &RawTrace, places: &[u32], starts: &[u32], event: u32)
     requires well_formed { IsWellFormed raw.now }
     requires event { event < length raw.now.events }

@@ -33,7 +33,7 @@ impl Model for Indexed {
 }
 
 impl Indexed {
-    /// Makes the tables in passes over the events. Where memory is refused the trace comes back.
+    /// Makes the tables in passes over the events. If memory runs out, returns the trace.
     pub fn new(alloc: Global, trace: Trace) -> Result<Indexed, (Trace, OutOfMemory)>
         ensures ok { IfOk result (λ indexed. indexed ≡ trace) }
         ensures returned { IfErr result (λ refused. refused.0 ≡ trace) }
@@ -44,7 +44,7 @@ impl Indexed {
         }
     }
 
-    /// The trace that it was made of.
+    /// The trace of this index.
     pub fn trace(&self) -> &Trace
         ensures same { result.now ≡ self.now }
         ensures well_formed { IsWellFormed self.now }
@@ -87,7 +87,7 @@ impl Indexed {
         self.trace.raw().locks()
     }
 
-    /// The event with this number.
+    /// The event with this number, counted from 0.
     pub fn event(&self, event: u32) -> Event
         requires { event < length self.now.events }
         ensures found { slice_get self.now.events event ≡ Some result }
@@ -98,7 +98,7 @@ impl Indexed {
         self.trace.raw().event(event)
     }
 
-    /// The event with this number, or None where the trace has none.
+    /// The event with this number, or None if the trace has no such event.
     pub fn get(&self, event: u32) -> Option<Event>
         ensures found { result ≡ slice_get self.now.events event }
         ensures named { IfSome result (IsNamed self.now) }
@@ -126,7 +126,7 @@ impl Indexed {
         self.trace.raw().variable_name(variable)
     }
 
-    /// The place of the event in its thread, from 0.
+    /// The place of the event in its thread, counted from 0.
     pub fn place(&self, event: u32) -> u32
         requires { event < length self.now.events }
         ensures place { result ≡ place_of self.now.events event }
@@ -148,7 +148,8 @@ impl Indexed {
         &self.tables.grouped[start..end]
     }
 
-    /// The write that the read sees; None for a read with no write before it, and for what is no read.
+    /// The write that the read sees. None if no write of the variable comes before the read, or if the event is not a
+    /// read.
     pub fn last_writer(&self, event: u32) -> Option<u32>
         requires { event < length self.now.events }
         ensures writer { result ≡ last_writer self.now.events event }
@@ -166,7 +167,7 @@ impl Indexed {
         self.tables.forks[thread as usize]
     }
 
-    /// The event before it in its thread; for the first the fork of its thread, or None.
+    /// The event before this one in its thread. For a thread's first event: the fork of the thread, or None.
     pub fn base(&self, event: u32) -> Option<u32>
         requires { event < length self.now.events }
         ensures base { result ≡ base_of self.now.events event }
@@ -175,8 +176,8 @@ impl Indexed {
         self.tables.bases[event as usize]
     }
 
-    /// The release that ends the critical section of an acquire: the first at which the thread holds the
-    /// lock as often as before the acquire. None where there is none, and for what is no acquire.
+    /// The release that ends the critical section of an acquire: the first release after which the thread holds the
+    /// lock as often as before the acquire. None if the section does not end, or if the event is not an acquire.
     pub fn section(&self, event: u32) -> Option<u32>
         requires { event < length self.now.events }
         ensures section { result ≡ section_end self.now.events event }
@@ -185,7 +186,7 @@ impl Indexed {
         self.tables.sections[event as usize]
     }
 
-    /// Whether the two events are of different threads and access one variable, at least one writing it.
+    /// Whether the two events are of different threads and access one variable, at least one of them with a write.
     pub fn conflict(&self, first: u32, second: u32) -> bool
         requires first { first < length self.now.events }
         requires second { second < length self.now.events }
@@ -195,9 +196,9 @@ impl Indexed {
         clash(raw.event(first), raw.event(second))
     }
 
-    /// Whether the two events may change places wherever they stand side by side: of different threads,
-    /// with no conflict, not on one lock, neither a fork or join of the other's thread, and not the fork
-    /// and the join of one thread.
+    /// Whether the two events may swap wherever they are adjacent. They are of different threads, do not conflict,
+    /// and are not on one lock. Neither forks or joins the other's thread, and they are not the fork and the join of
+    /// one thread.
     pub fn independent(&self, first: u32, second: u32) -> bool
         requires first { first < length self.now.events }
         requires second { second < length self.now.events }

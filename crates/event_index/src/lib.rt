@@ -1,5 +1,5 @@
-//! The tables of an accepted trace: places, writers, forks, sections, and what two events have to do
-//! with each other.
+//! The tables of an accepted trace: places, writers, forks and critical sections. Also tests whether two events
+//! conflict or are independent.
 #![tactic(auto)]
 
 mod grouping;

@@ -1,4 +1,4 @@
-//! The lists of events that a caller owns.
+//! Lists of events that their caller owns.
 
 use rapid_text::Items;
 

@@ -1,18 +1,18 @@
-//! What two events have to do with each other: whether they clash, and whether they are apart.
+//! Relations of two events: whether they clash, and whether they are apart.
 ghost use Rattle.std.specs.Prelude.{◌≡◌};
 ghost use Rattle.event_index.specs.Relations.{is_clash, is_apart, is_access, is_on_lock, is_on_thread, is_clash_of_ops, is_tie_of_ops};
 ghost use Rattle.rapid_text.specs.Operations.{is_write, is_fork, is_join};
 
 use rapid_text::{Event, Op};
 
-/// Whether they are of different threads and access one variable, at least one writing it.
+/// Whether the events are of different threads and access one variable, at least one of them with a write.
 pub(crate) fn clash(first: Event, second: Event) -> bool
     ensures { result ≡ is_clash first second }
 {
     first.thread != second.thread && ops_clash(first.op, second.op)
 }
 
-/// Whether they are of different threads and may change places wherever they stand side by side.
+/// Whether the events may swap wherever they are adjacent. They are then of different threads.
 pub(crate) fn apart(first: Event, second: Event) -> bool
     ensures { result ≡ is_apart first second }
 {

@@ -1,4 +1,4 @@
-//! Tables that are made in one pass over the events, with what each thread or variable had last.
+//! Tables that one pass over the events makes, with the last event so far of each thread or variable.
 ghost use Rattle.std.specs.Prelude.{◌≡◌, ◌+◌, ◌<◌, length, IfOk};
 ghost use Rattle.rapid_text.specs.Recording.{IsWellFormed};
 ghost use Rattle.event_index.specs.Lookups.{place_of, last_writer, before, fork_of, base_of};
@@ -7,7 +7,7 @@ ghost use Rattle.event_index.specs.Layout.{IsTable, fork_before, last_before, to
 use rapid_text::{Op, OutOfMemory, RawTrace};
 use std::alloc::Global;
 
-/// For each thread the event that forks it.
+/// The event that forks each thread, or None.
 pub(crate) fn forks_of(alloc: Global, raw: &RawTrace) -> Result<Vec<Option<u32>>, OutOfMemory>
     ensures { IfOk result (λ forks. TellsThreads fork_of raw.now forks.items) }
 {
@@ -18,7 +18,7 @@ pub(crate) fn forks_of(alloc: Global, raw: &RawTrace) -> Result<Vec<Option<u32>>
     Ok(forks)
 }
 
-// Takes the event into the forks of the events before it.
+// Adds the event to the table of forks, which has the forks before it.
 fn note_fork(forks: &mut Vec<Option<u32>>, raw: &RawTrace, event: u32)
     requires event { event < length raw.now.events }
     requires table { IsTable (fork_before raw.now.events event) (length raw.now.threads) forks.old.items }
@@ -30,7 +30,7 @@ fn note_fork(forks: &mut Vec<Option<u32>>, raw: &RawTrace, event: u32)
     }
 }
 
-/// For each event the write that it sees.
+/// The write that each event sees, or None.
 pub(crate) fn writers_of(alloc: Global, raw: &RawTrace) -> Result<Vec<Option<u32>>, OutOfMemory>
     ensures { IfOk result (λ writers. TellsEvents last_writer raw.now writers.items) }
 {
@@ -42,7 +42,7 @@ pub(crate) fn writers_of(alloc: Global, raw: &RawTrace) -> Result<Vec<Option<u32
     Ok(writers)
 }
 
-// The write that the event sees. Takes the event into the last writes of the events before it.
+// The write that the event sees. Adds the event to the last writes, which are those before it.
 fn seen_by(last: &mut Vec<Option<u32>>, raw: &RawTrace, event: u32) -> Option<u32>
     requires event { event < length raw.now.events }
     requires table { AreLastWrites raw.now event last.old.items }
@@ -59,7 +59,7 @@ fn seen_by(last: &mut Vec<Option<u32>>, raw: &RawTrace, event: u32) -> Option<u3
     }
 }
 
-/// For each event its place in its thread, and for each thread how many events it has.
+/// The place of each event in its thread, and the number of events of each thread.
 pub(crate) fn places_of(alloc: Global, raw: &RawTrace) -> Result<(Vec<u32>, Vec<u32>), OutOfMemory>
     ensures places { IfOk result (λ made. TellsEvents place_of raw.now made.0.items) }
     ensures counts { IfOk result (λ made. TellsThreads total_of raw.now made.1.items) }
@@ -72,7 +72,7 @@ pub(crate) fn places_of(alloc: Global, raw: &RawTrace) -> Result<(Vec<u32>, Vec<
     Ok((places, counts))
 }
 
-// The place of the event in its thread. Takes the event into the counts of the events before it.
+// The place of the event in its thread. Adds the event to the counts, which are those before it.
 fn count_in(counts: &mut Vec<u32>, raw: &RawTrace, event: u32) -> u32
     requires well_formed { IsWellFormed raw.now }
     requires event { event < length raw.now.events }
@@ -86,7 +86,7 @@ fn count_in(counts: &mut Vec<u32>, raw: &RawTrace, event: u32) -> u32
     place
 }
 
-/// For each event its base.
+/// The base of each event, or None.
 pub(crate) fn bases_of(
     alloc: Global,
     raw: &RawTrace,
@@ -103,7 +103,7 @@ pub(crate) fn bases_of(
     Ok(bases)
 }
 
-// The base of the event. Takes the event into the last events of the threads before it.
+// The base of the event. Adds the event to the last events of the threads, which are those before it.
 fn base_at(
     last: &mut Vec<Option<u32>>,
     raw: &RawTrace,

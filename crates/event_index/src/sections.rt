@@ -1,4 +1,4 @@
-//! Where the critical section of each acquire ends: one pass, with a stack of open acquires for each lock.
+//! Finds the end of each acquire's critical section, in one pass with a stack of open acquires for each lock.
 ghost use Rattle.std.specs.Prelude.{◌≡◌, ◌+◌, ◌<◌, length, replicate, IfOk, None};
 ghost use Rattle.rapid_text.specs.declared.event.Op.TheVariants.{Acquire, Release};
 ghost use Rattle.trace_rules.specs.Rules.{IsDisciplined};
@@ -9,18 +9,18 @@ ghost use Rattle.event_index.specs.Open.{AreOpen, HasOp};
 use rapid_text::{Op, OutOfMemory, RawTrace};
 use std::alloc::Global;
 
-/// What is known after some events: where the sections that ended among them end, and which are open.
+/// What the pass knows after some events: the ends of the sections that have ended, and the sections that are open.
 #[derive(Drop)]
 pub(crate) struct Open {
-    // For each acquire the release that ends its section; None while it is open.
+    // For each acquire the release that ends its section; None while the section is open, and for other events.
     ends: Vec<Option<u32>>,
-    // For each lock the last acquire of it that is open, and for each open acquire the one that was open
-    // before it on the same lock.
+    // For each lock its last open acquire. For each open acquire, the acquire of the same lock that was open before
+    // it.
     top: Vec<Option<u32>>,
     outer: Vec<Option<u32>>,
 }
 
-/// For each event the release that ends its critical section.
+/// For each acquire the release that ends its critical section; None for other events.
 pub(crate) fn sections_of(alloc: Global, raw: &RawTrace) -> Result<Vec<Option<u32>>, OutOfMemory>
     requires { IsDisciplined raw.now.events }
     ensures { IfOk result (λ sections. TellsEvents section_end raw.now sections.items) }
@@ -32,7 +32,7 @@ pub(crate) fn sections_of(alloc: Global, raw: &RawTrace) -> Result<Vec<Option<u3
     Ok(known.ends)
 }
 
-// What is known before the first event.
+// What the pass knows before the first event.
 fn nothing_open(alloc: Global, raw: &RawTrace) -> Result<Open, OutOfMemory>
     ensures { IfOk result (λ known. AreOpen raw.now 0 known) }
 {
@@ -49,7 +49,7 @@ fn none_for(alloc: Global, count: usize) -> Result<Vec<Option<u32>>, OutOfMemory
     Ok(vec![in alloc; None; count]?)
 }
 
-// Takes the event into what is known.
+// Adds the event to what the pass knows.
 fn take_in(known: &mut Open, raw: &RawTrace, event: u32)
     requires disciplined { IsDisciplined raw.now.events }
     requires event { event < length raw.now.events }
@@ -63,7 +63,7 @@ fn take_in(known: &mut Open, raw: &RawTrace, event: u32)
     }
 }
 
-// Takes an acquire of the lock into what is known.
+// Adds an acquire of the lock to what the pass knows.
 fn begin(known: &mut Open, raw: &RawTrace, event: u32, lock: u32)
     requires disciplined { IsDisciplined raw.now.events }
     requires event { event < length raw.now.events }
@@ -76,7 +76,7 @@ fn begin(known: &mut Open, raw: &RawTrace, event: u32, lock: u32)
     known.top[lock as usize] = Some(event);
 }
 
-// Takes a release of the lock into what is known: it ends the section of the last open acquire.
+// Adds a release of the lock to what the pass knows: it ends the section of the last open acquire.
 fn end(known: &mut Open, raw: &RawTrace, event: u32, lock: u32)
     requires disciplined { IsDisciplined raw.now.events }
     requires event { event < length raw.now.events }

@@ -1,4 +1,4 @@
-//! The tables of a trace, made together.
+//! The tables of a trace.
 ghost use Rattle.std.specs.Prelude.{IfOk};
 ghost use Rattle.trace_rules.specs.Rules.{IsDisciplined};
 ghost use Rattle.event_index.specs.Layout.{AreTables};
@@ -9,18 +9,18 @@ use crate::sections::sections_of;
 use rapid_text::{OutOfMemory, RawTrace};
 use std::alloc::Global;
 
-/// What the look-ups read.
+/// The tables that the look-ups read.
 #[derive(Drop)]
 pub(crate) struct Tables {
-    // For each event its place in its thread, its base, the write that it sees, the end of its section.
+    // For each event its place in its thread, its base, the write that it sees, and the end of its section.
     pub(crate) places: Vec<u32>,
     pub(crate) bases: Vec<Option<u32>>,
     pub(crate) writers: Vec<Option<u32>>,
     pub(crate) sections: Vec<Option<u32>>,
     // For each thread the event that forks it.
     pub(crate) forks: Vec<Option<u32>>,
-    // The events of all threads, thread by thread, and where those of each thread begin; one more at
-    // the end.
+    // The events of all threads, thread by thread, and the index at which those of each thread begin; last, their
+    // number.
     pub(crate) grouped: Vec<u32>,
     pub(crate) starts: Vec<u32>,
 }
