@@ -1,4 +1,4 @@
--- How kept lists lie. No public clause cites this module.
+-- How fields represent kept lists. No public clause cites this module.
 use Rattle.std.specs.Prelude.{◌≡◌, ℕ, ◌+◌, ◌<◌, ◌≤◌, List, length, slice_index}
 use Rattle.shb_clocks.specs.Kept.{Lists}
 use Rattle.shb_clocks.specs.declared.kept.Kept.TheInside.{Inside}
@@ -6,7 +6,7 @@ use Rattle.shb_clocks.specs.declared.kept.Kept.TheInside.{Inside}
 abbrev pub lists : Inside → Lists
 lists s = record { width = s.width; wholes = s.wholes.items; rises = s.rises.items }
 
--- a list begins at each place that a next one may be told by, and the first rises are none
+-- there is a whole list at each index in `latest`, and the first rises are all zeros
 pub record AreKept (width : ℕ) (wholes rises latest : List ℕ) : Type 0 where
   pub some_wholes : width ≤ length wholes
   pub some_rises : width ≤ length rises

@@ -15,7 +15,7 @@ use Rattle.shb_clocks.specs.declared.rivals.Rivals.TheVariants.{Nowhere}
 abbrev pub IsWithoutPartner : List Event → ℕ → Type 0
 IsWithoutPartner T a = (b : ℕ) → ¬ IsCandidate T a b
 
--- a mark for each event; from `from` on an event without mark has no partner
+-- a mark for each event; from `from` on, an event without a mark has no partner
 pub record AreMarks (T : List Event) (from : ℕ) (marks : List Bool) : Type 0 where
   pub len : length marks ≡ length T
   pub none : (a : ℕ) → from ≤ a → slice_get marks a ≡ Some false → IsWithoutPartner T a
@@ -32,13 +32,13 @@ pub record IsAccess (T : List Event) (x b : ℕ) : Type 0 where
   pub found : slice_get T b ≡ Some v
   pub variable : linked_variable false v.op ≡ Some x
 
--- What the next write of a variable and its rivals tell of its accesses from `from` on.
+-- What the next write of a variable and its rivals say about the variable's accesses from `from` on.
 pub record AreRivals (T : List Event) (from x next : ℕ) (rivals : Rivals) : Type 0 where
   pub events : AreEvents T rivals
-  -- SHB keeps an event before the bases of all accesses from the next write on that it keeps before that of the
-  -- write and those of the rivals
+  -- SHB keeps an event a before the bases of all accesses of the variable from the next write on, if it keeps a
+  -- before the base of that write and before the bases of the rivals
   pub beyond : (b a : ℕ) → IsAccess T x b → next ≤ b → ¬ IsApart T a next → IsClear T rivals a → ¬ IsApart T a b
-  -- and before that of each read up to that write that is apart from the write that it sees
+  -- likewise before the base of each earlier read of the variable that is apart from the write that it sees
   pub between :
       (b w a : ℕ) → IsAccess T x b → from ≤ b → b < next → last_writer T b ≡ Some w → IsApart T w b → IsClear T rivals a → ¬ IsApart T a b
 
@@ -52,8 +52,8 @@ pub record LieAhead (r : Recording) (from : ℕ) (next_writes : List ℕ) (rival
 abbrev pub AreAhead : Recording → ℕ → Ahead → Type 0
 AreAhead r from ahead = LieAhead r from ahead.next_writes.items ahead.rivals.items
 
--- What the new rivals tell of all that is no later than e: SHB keeps it before the bases of the next write and its
--- rivals.
+-- What the new rivals say about each event a that is no later than e. If SHB keeps a before the bases of the new
+-- rivals, it keeps a before the bases of the next write and of the old rivals.
 pub record LooksAhead (T : List Event) (e x : ℕ) (next_writes : List ℕ) (rivals : List Rivals) (new : Rivals) : Type 0 where
   pub events : AreEvents T new
   pub write :

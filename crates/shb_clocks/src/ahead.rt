@@ -1,4 +1,5 @@
-//! What lies ahead of an event: each variable's next write and its rivals, found from the end of the trace on.
+//! The accesses that follow an event: each variable's next write and its rivals, found from the end of the trace
+//! backwards.
 ghost use Rattle.std.specs.Prelude.{◌≡◌, ◌+◌, ◌<◌, length, IfOk, Some, false};
 ghost use Rattle.rapid_text.specs.declared.event.Op.TheVariants.{Read};
 ghost use Rattle.event_index.specs.Events.{op_at};
@@ -10,17 +11,17 @@ use event_index::Indexed;
 use rapid_text::{Op, OutOfMemory};
 use std::alloc::Global;
 
-/// For each variable its first write from some event on, and its rivals: the later accesses which that write is apart
-/// from, and those before it that read a write which they are apart from.
+/// For each variable its first write from some event on, and its rivals. A rival is a later access that this write is
+/// apart from (`IsApart`), or a read before the write that is apart from the write that it sees.
 #[derive(Drop)]
 pub(crate) struct Ahead {
-    // Where no write follows, the number of events stands.
+    // If no write follows, the entry is the number of events.
     pub(crate) next_writes: Vec<u32>,
     pub(crate) rivals: Vec<Rivals>,
 }
 
 impl Ahead {
-    /// Nothing lies ahead of the end of the trace.
+    /// The state at the end of the trace, where no event follows. Fails if memory runs out.
     pub(crate) fn new(alloc: Global, indexed: &Indexed) -> Result<Ahead, OutOfMemory>
         ensures { IfOk result (AreAhead indexed.now (length indexed.now.events)) }
     {
@@ -31,7 +32,7 @@ impl Ahead {
         })
     }
 
-    /// Whether the event may have a partner; from then on it lies ahead.
+    /// Whether the event may have a partner. Afterwards the event itself counts as one that follows.
     pub(crate) fn pass(&mut self, clocks: &Clocks, indexed: &Indexed, event: u32) -> bool
         requires trace { clocks.now ≡ indexed.now }
         requires event { event < length indexed.now.events }
@@ -55,7 +56,7 @@ impl Ahead {
         }
     }
 
-    // Those of the next write and the rivals that the access is apart from.
+    // The next write and the rivals of the variable, as far as the access is apart from them.
     fn seen_by(&self, clocks: &Clocks, indexed: &Indexed, event: u32, variable: u32) -> Rivals
         requires trace { clocks.now ≡ indexed.now }
         requires event { event < length indexed.now.events }
@@ -72,7 +73,7 @@ impl Ahead {
         }
     }
 
-    // A read that is apart from the write that it sees is a rival.
+    // A read that is apart from the write that it sees becomes a rival.
     fn note_read(&mut self, clocks: &Clocks, indexed: &Indexed, event: u32, variable: u32)
         requires trace { clocks.now ≡ indexed.now }
         requires event { event < length indexed.now.events }

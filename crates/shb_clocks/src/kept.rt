@@ -1,4 +1,4 @@
-//! Lists of counts, kept in few bytes.
+//! Lists of counts in few bytes.
 ghost use Rattle.std.specs.Prelude.{◌≡◌, ◌+◌, ◌^◌, ◌<◌, ◌≤◌, ℕ, length, IfOk, IsTrue, slice_index, max};
 ghost use Rattle.shb_clocks.specs.Kept.{IsPlace, IsMore, count_in, IsRaisedBy, CountsRow, IsNearAt, IsNear, AreRises, IsSumOf, IsRaisedToSum};
 
@@ -6,20 +6,20 @@ use rapid_text::OutOfMemory;
 use std::alloc::Global;
 use std::marker::Model;
 
-/// Lists of counts by thread, all of one length. Each stands whole, or as what it counts more than one that stands
-/// whole: a byte for each thread, while no count is more than 255 greater.
+/// Lists of counts by thread, all of one length. Each list is kept whole, or as its increases over a whole list.
+/// Increases take a byte for each thread, so none of them may exceed 255.
 #[derive(Drop)]
 pub struct Kept {
     width: usize,
-    // Some counts for each thread, one after the other.
+    // The whole lists, one after the other, with a count for each thread.
     wholes: Vec<u32>,
-    // The same, of what is counted more. The first say that nothing is.
+    // The increases, likewise. The first list of them is all zeros.
     rises: Vec<u8>,
-    // For each thread where the counts stand that its last list is told by.
+    // For each thread the index of the whole list that its next list is compared with.
     latest: Vec<usize>,
 }
 
-/// Where the counts of a list stand that is whole, and where what is counted more than these.
+/// The index of a list's whole counts, and the index of its increases over them.
 #[derive(Clone, Copy)]
 pub struct Place {
     pub whole: usize,
@@ -39,7 +39,7 @@ impl Model for Kept {
 }
 
 impl Kept {
-    /// No lists, of so many counts each.
+    /// No lists yet; each will have `width` counts. Fails if memory runs out.
     pub(crate) fn new(alloc: Global, width: u32) -> Result<Kept, OutOfMemory>
         ensures width { IfOk result (λ made. made.width ≡ width) }
     {
@@ -52,7 +52,7 @@ impl Kept {
         })
     }
 
-    /// The count of a thread.
+    /// The count of the thread in the list at this place.
     pub(crate) fn count(&self, place: Place, thread: u32) -> u32
         requires place { IsPlace self.now place }
         requires thread { thread < self.now.width }
@@ -62,7 +62,7 @@ impl Kept {
         self.wholes[place.whole + thread] + self.rises[place.rise + thread] as u32
     }
 
-    /// Makes the numbers the counts.
+    /// Copies the list into the row.
     pub(crate) fn copy(&self, place: Place, row: &mut [u32])
         requires place { IsPlace self.now place }
         requires width { length row.old ≡ self.now.width }
@@ -74,7 +74,7 @@ impl Kept {
         copy_each(row, wholes, rises);
     }
 
-    /// Raises each of the numbers to the count of its thread.
+    /// Raises each count of the row to the list's count, if that is larger.
     pub(crate) fn raise(&self, place: Place, row: &mut [u32])
         requires place { IsPlace self.now place }
         requires width { length row.old ≡ self.now.width }
@@ -86,7 +86,7 @@ impl Kept {
         raise_each(row, wholes, rises);
     }
 
-    /// Keeps one list more, for an event of this thread.
+    /// Adds the row as a list, for an event of this thread. Fails if memory runs out.
     pub(crate) fn add(&mut self, thread: u32, row: &[u32]) -> Result<Place, OutOfMemory>
         requires width { length row.now ≡ self.old.width }
         ensures more { IsMore self.old self.new }
@@ -101,7 +101,7 @@ impl Kept {
         }
     }
 
-    // Keeps one list more, which stands whole.
+    // Adds the row as a whole list.
     fn add_whole(&mut self, thread: u32, row: &[u32]) -> Result<Place, OutOfMemory>
         requires width { length row.now ≡ self.old.width }
         ensures more { IsMore self.old self.new }
@@ -116,7 +116,7 @@ impl Kept {
         Ok(Place { whole, rise: 0 })
     }
 
-    // Keeps one list more, as what it counts more than those that stand whole.
+    // Adds the row as its increases over the whole list at index `whole`.
     fn add_rises(&mut self, whole: usize, row: &[u32]) -> Result<Place, OutOfMemory>
         requires width { length row.now ≡ self.old.width }
         requires whole { whole + self.old.width ≤ length self.old.wholes }
@@ -133,7 +133,7 @@ impl Kept {
     }
 }
 
-// Whether no number is less than the other, or more than 255 greater.
+// Whether each count of the row is at least that of the whole list, and at most 255 larger.
 fn are_near(row: &[u32], wholes: &[u32]) -> bool
     requires { length row.now ≡ length wholes.now }
     ensures { IsTrue result → IsNear wholes.now row.now }
@@ -147,7 +147,7 @@ fn are_near(row: &[u32], wholes: &[u32]) -> bool
     less == 0 && more < 256
 }
 
-// Makes each rise what the row has more.
+// Sets each increase to the row's count minus the whole list's count.
 fn put_rises(rises: &mut [u8], row: &[u32], wholes: &[u32])
     requires rises { length rises.old ≡ length row.now }
     requires wholes { length wholes.now ≡ length row.now }
@@ -160,7 +160,7 @@ fn put_rises(rises: &mut [u8], row: &[u32], wholes: &[u32])
     }
 }
 
-// Makes each number the sum of the two.
+// Sets each count of the row to the sum of the two.
 fn copy_each(row: &mut [u32], wholes: &[u32], rises: &[u8])
     requires wholes { length row.old ≡ length wholes.now }
     requires rises { length row.old ≡ length rises.now }
@@ -173,8 +173,8 @@ fn copy_each(row: &mut [u32], wholes: &[u32], rises: &[u8])
     }
 }
 
-// Raises each number to the sum of the two. Of slices: no place is read anew for each number, so that the compiler may
-// raise several at a time.
+// Raises each count of the row to the sum of the two, if that is larger. It works on slices, whose addresses do not
+// change between counts, so the compiler may raise several counts at a time.
 fn raise_each(row: &mut [u32], wholes: &[u32], rises: &[u8])
     requires wholes { length row.old ≡ length wholes.now }
     requires rises { length row.old ≡ length rises.now }

@@ -1,4 +1,4 @@
-//! The order SHB of a trace's events, and the candidates for races that it leaves.
+//! The order SHB of a trace's events, and the race candidates that it leaves.
 #![tactic(auto)]
 
 mod ahead;

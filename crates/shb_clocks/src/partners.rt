@@ -1,4 +1,5 @@
-//! Which events may have a partner, a later event that makes a candidate with them: found from the end of the trace on.
+//! Marks the events that may have a partner: a later event that makes a candidate with them. It starts from the end
+//! of the trace.
 ghost use Rattle.std.specs.Prelude.{◌≡◌, IfOk};
 ghost use Rattle.shb_clocks.specs.Partners.{AreMarks};
 
@@ -8,7 +9,7 @@ use event_index::Indexed;
 use rapid_text::OutOfMemory;
 use std::alloc::Global;
 
-/// For each event whether it may have a partner. Where the mark is false there is none.
+/// For each event, whether it may have a partner. An event with the mark `false` has none.
 pub(crate) fn marks_of(
     alloc: Global,
     clocks: &Clocks,

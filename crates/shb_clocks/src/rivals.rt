@@ -1,4 +1,4 @@
-//! The rivals of a variable: few of its later accesses that tell whether an earlier one has a partner.
+//! The rivals of a variable: a few of its later accesses that decide whether an earlier one has a partner.
 ghost use Rattle.std.specs.Prelude.{◌≡◌, ◌<◌, ℕ, length, IfSome, false, List};
 ghost use Rattle.rapid_text.specs.declared.event.Event.{Event};
 ghost use Rattle.shb_clocks.specs.declared.rivals.Rivals.TheVariants.{Two};
@@ -7,8 +7,8 @@ ghost use Rattle.shb_clocks.specs.Rivals.{IsClear, AreEvents, StandsFor, Adds, N
 use crate::clocks::Clocks;
 use event_index::Indexed;
 
-/// Later accesses of a variable that an earlier one may be apart from, at most two, each for all of its thread
-/// that follow it there. With more, there are many, and none is kept.
+/// At most two later accesses of a variable that an earlier access may be apart from. Each rival represents all
+/// accesses that follow it in its thread. `Many` means that there are more, and keeps none.
 #[derive(Clone, Copy)]
 pub(crate) enum Rivals {
     Nowhere,
@@ -18,7 +18,7 @@ pub(crate) enum Rivals {
 }
 
 impl Rivals {
-    /// Whether there is any.
+    /// Whether there is any rival. If not, SHB keeps every event before the bases of the rivals.
     pub(crate) fn are_any(self) -> bool
         ensures { result ≡ false → (T : List Event) → (a : ℕ) → IsClear T self a }
     {
@@ -28,7 +28,7 @@ impl Rivals {
         }
     }
 
-    /// These and the event.
+    /// These rivals and the event.
     pub(crate) fn with_event(self, indexed: &Indexed, event: u32) -> Rivals
         requires event { event < length indexed.now.events }
         requires rivals { AreEvents indexed.now.events self }
@@ -45,7 +45,8 @@ impl Rivals {
         }
     }
 
-    /// Those that the event is apart from: what is ordered no later than the event is apart from no other of these.
+    /// The rivals that the event is apart from. An event that is ordered no later is apart from no other of these
+    /// rivals.
     pub(crate) fn narrowed(self, clocks: &Clocks, indexed: &Indexed, event: u32) -> Rivals
         requires trace { clocks.now ≡ indexed.now }
         requires event { event < length indexed.now.events }
@@ -67,7 +68,7 @@ impl Rivals {
     }
 }
 
-// Two rivals and a third event.
+// Two rivals and a third event. If two of the three are of one thread, two remain; otherwise there are many.
 fn with_third(indexed: &Indexed, first: u32, second: u32, event: u32) -> Rivals
     requires first { first < length indexed.now.events }
     requires second { second < length indexed.now.events }
@@ -83,7 +84,7 @@ fn with_third(indexed: &Indexed, first: u32, second: u32, event: u32) -> Rivals
     }
 }
 
-// Those of two rivals that the event is apart from.
+// The rivals, of two, that the event is apart from.
 fn narrowed_two(clocks: &Clocks, indexed: &Indexed, event: u32, first: u32, second: u32) -> Rivals
     requires trace { clocks.now ≡ indexed.now }
     requires event { event < length indexed.now.events }
@@ -104,7 +105,8 @@ fn narrowed_two(clocks: &Clocks, indexed: &Indexed, event: u32, first: u32, seco
     }
 }
 
-// The earlier of two events of one thread: what is apart from one of the two is apart from it.
+// The earlier of two events of one thread. An event that is apart from one of the two is apart from it. None if they
+// are of different threads.
 fn one_for_both(indexed: &Indexed, first: u32, second: u32) -> Option<u32>
     requires first { first < length indexed.now.events }
     requires second { second < length indexed.now.events }
