@@ -1,4 +1,4 @@
--- The keys of the table of latest events: a variable or a lock, each by its number.
+-- The keys of the table of latest events: the number of a variable or of a lock.
 use Rattle.std.specs.Prelude.{◌≡◌, Bool, true, false, nat_eq}
 use Rattle.std.specs.Cmp.{IsEquivalence, nat_eq_equiv}
 use Rattle.std.proofs.Common.{refl}
@@ -6,7 +6,7 @@ use Rattle.std.proofs.lemmas.Bool.{false≢true}
 use Rattle.schedule.specs.declared.latest.Key.{Key}
 use Rattle.schedule.specs.declared.latest.Key.TheVariants.{Variable, Lock}
 
--- the same variable, or the same lock
+-- whether both are the same variable, or the same lock
 abbrev pub key_eq : Key → Key → Bool
 key_eq (Variable x) (Variable y) = nat_eq x y
 key_eq (Lock l) (Lock m) = nat_eq l m

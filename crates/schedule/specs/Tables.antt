@@ -1,6 +1,6 @@
--- What the tables of a schedule hold, as functions of its list. No public clause cites this module.
--- A write sets its variable; an acquire sets its lock, and a release frees it. `T` is the events of the
--- trace, `P` the list, `q` a variable or a lock.
+-- The contents of a schedule's tables, as functions of its list. No public clause cites this module. A write sets its
+-- variable; an acquire sets its lock, and a release frees it. `T` is the events of the trace, `P` the list, `q` a
+-- variable or a lock.
 use Rattle.std.specs.Prelude.{◌≡◌, ℕ, ◌+◌, ◌-◌, Bool, false, List, length, take, reverse, find, count_by, slice_get, slice_index, option_map, Option, Some, None, if◌then◌else◌}
 use Rattle.rapid_text.specs.declared.event.Event.{Event}
 use Rattle.rapid_text.specs.declared.event.Op.{Op}
@@ -25,7 +25,7 @@ abbrev pub frees_op : Key → Op → Bool
 frees_op q (Release l) = key_eq (Lock l) q
 frees_op q op = false
 
--- whether the event does
+-- whether the event sets q, frees it
 abbrev pub sets : List Event → Key → ℕ → Bool
 sets T q e = passes_at (λ v. sets_op q v.op) T e
 
@@ -39,12 +39,12 @@ last_set T P q = find (sets T q) (reverse P)
 abbrev pub latest_by : Option ℕ → ℕ → ℕ → Option Latest
 latest_by last set freed = option_map (λ e. record { event = e; depth = set - freed }) last
 
--- what is kept of q: nothing where no event set it, else the last that did, and how much oftener q was set
--- than freed, which of a lock is the number of holds that its last taker has
+-- the entry of q: none if no event set it; otherwise the last event that set it, and the sets minus the frees, which
+-- for a lock is the number of holds of the thread that acquired it last
 abbrev pub latest_of : List Event → List ℕ → Key → Option Latest
 latest_of T P q = latest_by (last_set T P q) (count_by (sets T q) P) (count_by (frees T q) P)
 
--- what stands at the operation's own key, where it sets one
+-- the last event that set the operation's key, if the operation sets a key
 abbrev pub shadow_of_op : (Key → Option ℕ) → Op → Option ℕ
 shadow_of_op last (Write x) = last (Variable x)
 shadow_of_op last (Acquire l) = last (Lock l)
@@ -54,24 +54,24 @@ abbrev pub shadow_by : (Key → Option ℕ) → Option Event → Option ℕ
 shadow_by last None = None
 shadow_by last (Some v) = shadow_of_op last v.op
 
--- the event that e shadows after P: for a write the last write of its variable, for an acquire the last one
--- of its lock
+-- the event that e shadows after P: for a write the last write of its variable, for an acquire the last acquire of
+-- its lock
 abbrev pub shadow_at : List Event → List ℕ → ℕ → Option ℕ
 shadow_at T P e = shadow_by (last_set T P) (slice_get T e)
 
--- the same of the event at a place of the list
+-- the same for the event at an index of the list
 abbrev pub shadow_of : List Event → List ℕ → ℕ → Option ℕ
 shadow_of T P i = shadow_at T (take i P) (slice_index P i)
 
--- the tables are those of the list: the place of each thread, which is how many of its events are there; the
--- latest of each variable and lock; and for each place what its event shadows
+-- The tables are those of the list: each thread's number of events in the list, the entry of each variable and lock,
+-- and for each index the event that the event there shadows.
 pub record AreTables (T : List Event) (P : List ℕ) (s : Tables) : Type 0 where
   pub order : AreByThread s.counts.items
   pub counts : (t : ℕ) → count_in s.counts.items t ≡ count_by (is_of_thread T t) P
   pub latest : (q : Key) → held s.latest q ≡ latest_of T P q
   pub shadows : IsTable (shadow_of T P) (length P) s.shadows.items
 
--- what an operation makes of what is kept at a key, and what taking it back does
+-- the effects of an operation on a key's entry, and of undoing it
 abbrev pub event_of : Option Latest → Option ℕ
 event_of o = option_map (λ m. m.event) o
 

@@ -1,24 +1,24 @@
-//! How many events of each thread a list has.
+//! The number of events of each thread in a list.
 ghost use Rattle.std.specs.Prelude.{◌≡◌, ℕ, ◌≤◌, ◌+◌, ◌-◌, ◌==◌, IfOk, IfErr};
 ghost use Rattle.rapid_text.specs.Limits.{event_limit};
 ghost use Rattle.schedule.specs.Counts.{count_in, AreByThread, IsPlaceOf, IsGapFor, CountsUp, CountsDown};
 
 use std::alloc::AllocError;
 
-/// How many events of a thread the list has.
+/// The number of events of a thread in the list.
 #[derive(Clone, Copy)]
 pub(crate) struct ThreadCount {
     pub(crate) thread: u32,
     pub(crate) count: u32,
 }
 
-/// Where the entry of the thread stands, or else where one would.
+/// The index of the thread's entry, or else the index at which its entry would be.
 fn place_of(counts: &[ThreadCount], thread: u32) -> Result<usize, usize>
     requires { AreByThread counts.now }
     ensures place { IfOk result (IsPlaceOf counts.now thread) }
     ensures gap { IfErr result (IsGapFor counts.now thread) }
 {
-    // Where all lower threads have entries, that of this one stands at its number.
+    // If all lower threads have entries, the entry of this thread is at its number.
     let at = thread as usize;
     if at < counts.len() && counts[at].thread == thread {
         return Ok(at);
@@ -26,7 +26,7 @@ fn place_of(counts: &[ThreadCount], thread: u32) -> Result<usize, usize>
     counts.binary_search_by_key(&thread, |entry| entry.thread)
 }
 
-/// The count of the thread, which is 0 where it has no entry.
+/// The count of the thread, which is 0 if it has no entry.
 pub(crate) fn count_at(counts: &[ThreadCount], thread: u32) -> u32
     requires { AreByThread counts.now }
     ensures { result ≡ count_in counts.now thread }
@@ -37,7 +37,7 @@ pub(crate) fn count_at(counts: &[ThreadCount], thread: u32) -> u32
     }
 }
 
-/// Makes sure that the thread has an entry, and tells where. All counts stay.
+/// Makes sure that the thread has an entry, and returns its index. All counts stay.
 pub(crate) fn make_room(counts: &mut Vec<ThreadCount>, thread: u32) -> Result<usize, AllocError>
     requires { AreByThread counts.old.items }
     ensures order { AreByThread counts.new.items }
@@ -56,7 +56,7 @@ pub(crate) fn make_room(counts: &mut Vec<ThreadCount>, thread: u32) -> Result<us
     }
 }
 
-/// Counts an event more of the thread whose entry stands there.
+/// Counts one more event of the thread, whose entry is at `at`.
 pub(crate) fn count_up(counts: &mut Vec<ThreadCount>, thread: u32, at: usize)
     requires order { AreByThread counts.old.items }
     requires place { IsPlaceOf counts.old.items thread at }
@@ -68,7 +68,7 @@ pub(crate) fn count_up(counts: &mut Vec<ThreadCount>, thread: u32, at: usize)
     counts[at] = ThreadCount { thread, count };
 }
 
-/// Counts an event less of the thread. Its entry stays, so that the event fits in again.
+/// Counts one event less of the thread. Its entry stays, so the event fits in again without memory.
 pub(crate) fn count_down(counts: &mut Vec<ThreadCount>, thread: u32)
     requires { AreByThread counts.old.items }
     ensures order { AreByThread counts.new.items }

@@ -10,7 +10,7 @@ use crate::latest_table::LatestTable;
 use rapid_text::Op;
 use std::alloc::AllocError;
 
-/// What events set: a variable by writes, a lock by acquires.
+/// What events set: a write sets its variable, an acquire sets its lock.
 #[derive(Clone, Copy, Hash)]
 pub(crate) enum Key {
     Variable(u32),
@@ -41,7 +41,7 @@ impl Eq for Key {
     ghost laws = { key_eq_equiv };
 }
 
-/// The last event that set a key, and how much oftener the key was set than freed.
+/// The last event that set a key, and how often the key was set minus how often it was freed.
 #[derive(Clone, Copy)]
 pub(crate) struct Latest {
     pub(crate) event: u32,
@@ -58,7 +58,7 @@ pub(crate) fn latest_event(latest: &LatestTable, key: Key) -> Option<u32>
     }
 }
 
-/// What the operation will shadow.
+/// The event that the operation will shadow: the last one that set the operation's key.
 pub(crate) fn shadow_of(latest: &LatestTable, op: Op) -> Option<u32>
     ensures { result ≡ shadow_of_op (λ q. event_of (held latest.now q)) op }
 {
@@ -92,7 +92,7 @@ fn lower(latest: &mut LatestTable, key: Key)
     latest.change(key, lowered(kept));
 }
 
-/// What is kept of a lock that was freed once more.
+/// The entry of a lock after one more release.
 fn lowered(kept: Option<Latest>) -> Option<Latest>
     ensures { result ≡ lowered kept }
 {
@@ -109,7 +109,7 @@ fn raise(latest: &mut LatestTable, key: Key)
     latest.change(key, raised(kept));
 }
 
-/// What is kept of a lock that was freed once less.
+/// The entry of a lock after one release less.
 fn raised(kept: Option<Latest>) -> Option<Latest>
     requires { depth_of kept ≤ event_limit }
     ensures { result ≡ raised kept }
@@ -126,7 +126,7 @@ fn uncover(latest: &mut LatestTable, key: Key, shadow: Option<u32>)
     latest.change(key, uncovered(shadow, kept));
 }
 
-/// What is kept of a key where the event that set it last, and shadows this one, is taken off.
+/// The entry of a key after its last event is removed; that event shadows `shadow`.
 fn uncovered(shadow: Option<u32>, kept: Option<Latest>) -> Option<Latest>
     ensures { result ≡ uncovered shadow kept }
 {
@@ -155,7 +155,7 @@ pub(crate) fn step(latest: &mut LatestTable, op: Op, event: u32) -> Result<(), A
     }
 }
 
-/// Takes back what the operation did, where it shadows this event.
+/// Undoes the operation, whose event shadows `shadow`.
 pub(crate) fn step_back(latest: &mut LatestTable, op: Op, shadow: Option<u32>)
     requires { (q : Key) → depth_of (held latest.old q) ≤ event_limit }
     ensures { (q : Key) → held latest.new q ≡ stepped_back op shadow q (held latest.old q) }

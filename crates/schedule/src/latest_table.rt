@@ -1,4 +1,4 @@
-//! The table of the latest events: a list of its first keys, and a map of the others.
+//! The table of the latest events: a list with the first keys, and a map with the others.
 ghost use Rattle.std.specs.Prelude.{◌≡◌, Some, None, OnOk, OnErr, IfOk, IfSome, IfNone};
 ghost use Rattle.std.specs.HashMap.{get};
 ghost use Rattle.std.specs.Map.{lookup};
@@ -10,20 +10,20 @@ use crate::latest::{Key, Latest};
 use std::alloc::{AllocError, Global};
 use std::collections::HashMap;
 
-/// How many keys are found one by one. So few are found quicker so than by a hash, and copied in one piece.
+/// The number of keys in the list. A search finds so few keys faster than a hash does, and one copy moves them all.
 const NEAR: usize = 16;
 
-/// What is kept of the variables and locks that a list's events set.
+/// The latest event of each variable and lock that a list's events set.
 #[derive(Drop)]
 pub(crate) struct LatestTable {
-    // The first keys. The place of a key stays if nothing is kept of it any more.
+    // The first keys. A key keeps its index even if it has no entry any more.
     near: Vec<(Key, Option<Latest>)>,
-    // The others.
+    // The other keys.
     far: HashMap<Key, Latest>,
 }
 
 impl LatestTable {
-    /// The empty table. It takes no memory: `alloc` is kept for later.
+    /// The empty table. It allocates nothing; later growth uses `alloc`.
     pub(crate) fn new(alloc: Global) -> LatestTable
         ensures { (q : Key) → held result q ≡ None }
     {
@@ -33,7 +33,7 @@ impl LatestTable {
         }
     }
 
-    /// What is kept of the key.
+    /// The entry of the key, or None.
     pub(crate) fn get(&self, key: Key) -> Option<Latest>
         ensures { result ≡ held self.now key }
     {
@@ -43,7 +43,7 @@ impl LatestTable {
         }
     }
 
-    /// Keeps this of the key.
+    /// Sets the entry of the key. If memory runs out, all entries stay.
     pub(crate) fn put(&mut self, key: Key, latest: Latest) -> Result<(), AllocError>
         ensures ok { OnOk result (SetsLatest self.old self.new key (Some latest)) }
         ensures err { OnErr result ((q : Key) → held self.new q ≡ held self.old q) }
@@ -59,7 +59,7 @@ impl LatestTable {
         put_far(&mut self.far, key, latest)
     }
 
-    /// Keeps this of the key if anything is kept of it. It takes no memory.
+    /// Sets or removes the entry of the key, if it has one. It needs no memory.
     pub(crate) fn change(&mut self, key: Key, latest: Option<Latest>)
         ensures { SetsLatest self.old self.new key (changed latest (held self.old key)) }
     {
@@ -71,14 +71,14 @@ impl LatestTable {
         self.near[at] = (key, changed(latest, kept));
     }
 
-    /// Gives back room that the table grew by and has no use for. What it holds stays.
+    /// Frees memory that the table has reserved and does not use. All entries stay.
     pub(crate) fn trim(&mut self)
         ensures { (q : Key) → held self.new q ≡ held self.old q }
     {
         self.far.shrink_to_fit();
     }
 
-    /// A table of its own that holds the same, with no room for more.
+    /// A copy of the table, without room for more. Fails if memory runs out.
     pub(crate) fn copied(&self, alloc: Global) -> Result<LatestTable, AllocError>
         ensures { IfOk result (λ copy. (q : Key) → held copy q ≡ held self.now q) }
     {
@@ -88,7 +88,7 @@ impl LatestTable {
     }
 }
 
-/// The place of the key.
+/// The index of the key in the list.
 fn place_of(near: &[(Key, Option<Latest>)], key: Key) -> Option<usize>
     ensures some { IfSome result (IsPlaceOf near.now key) }
     ensures none { IfNone result (lookup (key_eq key) near.now ≡ None) }
@@ -101,7 +101,7 @@ fn place_of(near: &[(Key, Option<Latest>)], key: Key) -> Option<usize>
     None
 }
 
-/// What is kept of a key after a change, if anything was.
+/// The entry of a key after a change: `latest`, if it had an entry.
 fn changed(latest: Option<Latest>, kept: Option<Latest>) -> Option<Latest>
     ensures { result ≡ changed latest kept }
 {

@@ -1,4 +1,4 @@
-//! One correct reordering of a trace, which grows event by event.
+//! One correct reordering of a trace, which grows one event at a time.
 #![tactic(auto)]
 
 mod counts;

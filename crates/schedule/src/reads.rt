@@ -1,4 +1,4 @@
-//! What a list of events says of threads, variables and locks, read from its tables.
+//! What a list of events implies for threads, variables and locks, read from its tables.
 ghost use Rattle.std.specs.Prelude.{◌≡◌, ◌<◌, ◌&&◌, length, Some};
 ghost use Rattle.event_index.specs.Lookups.{last_write};
 ghost use Rattle.schedule.specs.Refusals.{is_in, is_forked, same_option, next_of, other_holder, is_ended};
@@ -23,7 +23,7 @@ pub(crate) fn is_in(indexed: &Indexed, tables: &Tables, events: &[u32], event: u
     indexed.place(event) < count_at(&tables.counts, found.thread)
 }
 
-/// Whether the event follows, in its thread, those of the list.
+/// Whether the event is the next one of its thread after the list.
 pub(crate) fn is_next(
     indexed: &Indexed,
     tables: &Tables,
@@ -43,7 +43,7 @@ pub(crate) fn is_next(
     }
 }
 
-/// Whether the thread's fork is in the list; true too where nothing forks it.
+/// Whether the thread's fork is in the list. True also if no event forks the thread.
 pub(crate) fn is_forked(indexed: &Indexed, tables: &Tables, events: &[u32], thread: u32) -> bool
     requires thread { thread < length indexed.now.threads }
     requires tables { AreTables indexed.now.events events.now tables.now }
@@ -71,7 +71,7 @@ pub(crate) fn last_write(
     latest_event(&tables.latest, Key::Variable(variable))
 }
 
-/// Whether all events of the thread are in the list, and its fork where one forks it.
+/// Whether all events of the thread are in the list, and also its fork if it has one.
 pub(crate) fn is_ended(indexed: &Indexed, tables: &Tables, events: &[u32], thread: u32) -> bool
     requires thread { thread < length indexed.now.threads }
     requires tables { AreTables indexed.now.events events.now tables.now }
@@ -83,8 +83,8 @@ pub(crate) fn is_ended(indexed: &Indexed, tables: &Tables, events: &[u32], threa
     all_in && is_forked(indexed, tables, events, thread)
 }
 
-/// The thread other than this one that holds the lock after the list, or None. Only the thread that
-/// took a lock last can hold it.
+/// The thread other than this one that holds the lock after the list, or None. Only the thread that acquired the lock
+/// last can hold it.
 pub(crate) fn other_holder(
     indexed: &Indexed,
     tables: &Tables,

@@ -13,7 +13,7 @@ use crate::tables::Tables;
 use event_index::Indexed;
 use rapid_text::{Event, Op};
 
-/// The first cause for which the event may not follow the list, or None where it may.
+/// The first cause why the event may not come after the list, or None if it may.
 #[tactic(auto, unfolding(crate::specs::Refusals::refusal_of))]
 pub(crate) fn refusal_of(
     indexed: &Indexed,
@@ -37,7 +37,7 @@ pub(crate) fn refusal_of(
     refusal_of_op(indexed, tables, events, event, found)
 }
 
-/// The cause that the event's operation gives.
+/// The cause that comes from the event's operation, or None.
 fn refusal_of_op(
     indexed: &Indexed,
     tables: &Tables,
@@ -59,7 +59,7 @@ fn refusal_of_op(
     }
 }
 
-/// A read is refused where it would see another writer than in the trace.
+/// Refuses a read that would see another write than in the trace.
 fn read_refusal(
     indexed: &Indexed,
     tables: &Tables,
@@ -79,7 +79,7 @@ fn read_refusal(
     Some(Disabled::WrongWriter { needs, has })
 }
 
-/// An acquire is refused where another thread holds the lock.
+/// Refuses an acquire if another thread holds the lock.
 fn acquire_refusal(
     indexed: &Indexed,
     tables: &Tables,
@@ -98,7 +98,7 @@ fn acquire_refusal(
     }
 }
 
-/// A join is refused where the thread has not ended in the list.
+/// Refuses a join if the thread has not ended in the list.
 fn join_refusal(indexed: &Indexed, tables: &Tables, events: &[u32], thread: u32) -> Option<Disabled>
     requires thread { thread < length indexed.now.threads }
     requires tables { AreTables indexed.now.events events.now tables.now }

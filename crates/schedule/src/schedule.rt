@@ -25,12 +25,12 @@ use std::alloc::{AllocError, Global};
 use std::marker::Model;
 use std::snapshot::Snapshot;
 
-/// One correct reordering of a trace, or of a part of it.
+/// A correct reordering of a trace, or of a part of it.
 #[derive(Drop)]
 pub struct Schedule {
     trace: Snapshot<Indexed>,
     events: Vec<u32>,
-    // In a box, since rows of schedules are moved about.
+    // In a box, since rows of schedules are moved about in memory.
     tables: Box<Tables>,
 }
 
@@ -58,16 +58,16 @@ impl Schedule {
     pub fn events(&self) -> &[u32]
         ensures same { result.now ≡ self.now.events }
         ensures reordering { IsCorrectReordering (recorded self.now) self.now.events }
-        // No event stands there twice, so they are at most as many as those of the trace.
+        // No event is in it twice, so it is no longer than the trace.
         ensures within { length self.now.events ≤ length (recorded self.now) }
-        // The trace is one that was accepted.
+        // The trace keeps the rules.
         ensures well_formed { IsWellFormed self.now.trace }
         ensures disciplined { IsDisciplined (recorded self.now) }
     {
         self.events.as_slice()
     }
 
-    /// The schedule with no events.
+    /// The schedule without events. Fails if memory runs out.
     pub fn empty(alloc: Global, indexed: &Indexed) -> Result<Schedule, OutOfMemory>
         ensures trace { IfOk result (λ s. s.trace ≡ indexed.now) }
         ensures events { IfOk result (λ s. s.events ≡ []) }
@@ -75,7 +75,7 @@ impl Schedule {
         Schedule::with_room(alloc, indexed, 0)
     }
 
-    /// The schedule with no events, where this many fit in before its list needs memory again.
+    /// The schedule without events, whose list has room for `len` events. Fails if memory runs out.
     fn with_room(alloc: Global, indexed: &Indexed, len: usize) -> Result<Schedule, OutOfMemory>
         ensures trace { IfOk result (λ s. s.trace ≡ indexed.now) }
         ensures events { IfOk result (λ s. s.events ≡ []) }
@@ -97,8 +97,8 @@ impl Schedule {
         })
     }
 
-    /// The schedule of these events where they are a correct reordering; else the first place whose event may
-    /// not come next, and why. Memory may be wanting before that place is reached.
+    /// The schedule of these events if they are a correct reordering. Otherwise error 31: the first index whose event
+    /// may not come next, and why. Error 27 means out of memory, which may hide such an index.
     pub fn from_list(
         alloc: Global,
         indexed: &Indexed,
@@ -106,11 +106,11 @@ impl Schedule {
     ) -> Result<Schedule, ListRefusal>
         ensures trace { IfOk result (λ s. s.trace ≡ indexed.now) }
         ensures events { IfOk result (λ s. s.events ≡ events.now) }
-        // It is made only of a correct reordering, and refused as none only at the first fault of the list.
+        // A schedule is a correct reordering. Unless memory runs out, the refusal is the first fault of the list.
         ensures reordering { OnOk result (IsCorrectReordering indexed.now.events events.now) }
         ensures refused { IfErr result (IsListRefusal indexed.now.events events.now) }
     {
-        // A correct reordering has at most the events of the trace.
+        // A correct reordering has at most as many events as the trace.
         let most = events.len().min(indexed.len() as usize);
         let Ok(mut schedule) = Schedule::with_room(alloc, indexed, most) else {
             return Err(ListRefusal::OutOfMemory);
@@ -129,14 +129,14 @@ impl Schedule {
         Ok(schedule)
     }
 
-    /// Whether the event may come next, or the first cause why it may not.
+    /// Whether the event may come next; if not, the first cause, 21 to 26.
     pub fn enabled(&self, indexed: &Indexed, event: u32) -> Result<(), Disabled>
         requires { self.now.trace ≡ indexed.now }
-        // It may exactly where the schedule and then the event are a correct reordering.
+        // It may exactly if the schedule followed by the event is a correct reordering.
         ensures exact { IsOk result ↔ IsEnabled (recorded self.now) self.now.events event }
         ensures none { OnOk result (refusal_of (recorded self.now) self.now.events event ≡ None) }
         ensures cause { IfErr result (λ c. refusal_of (recorded self.now) self.now.events event ≡ Some c) }
-        // A held lock is told with the one thread that holds it.
+        // For a held lock, the cause names the one thread that holds it.
         ensures holder { IfErr result (NamesHolder (recorded self.now) self.now.events event) }
     {
         match refusal_of(indexed, &self.tables, &self.events, event) {
@@ -145,13 +145,14 @@ impl Schedule {
         }
     }
 
-    /// Appends the event where it may come next.
+    /// Appends the event if it may come next. Otherwise fails with the first cause, 21 to 26, or with 27 if memory
+    /// runs out.
     pub fn extend(&mut self, indexed: &Indexed, event: u32) -> Result<(), ExtendRefusal>
         requires { self.old.trace ≡ indexed.now }
         ensures trace { self.new.trace ≡ self.old.trace }
         ensures ok { OnOk result (self.new.events ≡ self.old.events ++ event ∷ []) }
         ensures err { OnErr result (self.new ≡ self.old) }
-        // The event is appended only where it is enabled, and refused as `enabled` refuses it.
+        // `extend` appends the event only if it is enabled, and refuses it with the same cause as `enabled`.
         ensures enabled { OnOk result (IsEnabled (recorded self.old) self.old.events event) }
         ensures none { OnOk result (refusal_of (recorded self.old) self.old.events event ≡ None) }
         ensures refused { IfErr result (IsRefusalOf (recorded self.old) self.old.events event) }
@@ -169,8 +170,7 @@ impl Schedule {
         Ok(())
     }
 
-    /// Takes the last event off and gives it, or gives None where the schedule has no events. It takes no
-    /// memory.
+    /// Removes the last event and returns it, or returns None if the schedule has no events. It needs no memory.
     pub fn retract(&mut self, indexed: &Indexed) -> Option<u32>
         requires { self.old.trace ≡ indexed.now }
         ensures trace { self.new.trace ≡ self.old.trace }
@@ -185,11 +185,10 @@ impl Schedule {
         Some(event)
     }
 
-    /// Whether the events at this place and the next may change places, or why they may not: what `swap`
-    /// answers there.
+    /// Whether the events at indices `at` and `at + 1` may swap; if not, why. `swap` returns the same result.
     pub fn exchangeable(&self, indexed: &Indexed, at: u32) -> Result<(), SwapRefusal>
         requires { self.now.trace ≡ indexed.now }
-        // They may exactly where both are there and they are independent.
+        // They may exactly if both exist and are independent.
         ensures exact { IsOk result ↔ MayExchange (recorded self.now) self.now.events at }
         ensures no_pair { (result ≡ Err NoSuchPair) ↔ (length self.now.events ≤ at + 1) }
         // The same as a function, for definitions that compute with it.
@@ -202,14 +201,15 @@ impl Schedule {
         }
     }
 
-    /// Exchanges the events at this place and the next, where they are independent. It takes no memory.
+    /// Swaps the events at indices `at` and `at + 1` if they are independent. Otherwise fails with 28 or 29. It needs
+    /// no memory.
     pub fn swap(&mut self, indexed: &Indexed, at: u32) -> Result<(), SwapRefusal>
         requires { self.old.trace ≡ indexed.now }
         ensures trace { self.new.trace ≡ self.old.trace }
         ensures ok { OnOk result (self.new.events ≡ exchanged self.old.events at) }
         ensures err { OnErr result (self.new ≡ self.old) }
-        // It is refused for the place exactly where no event stands at the next one, and else exactly where
-        // the two events are not independent.
+        // It fails with `NoSuchPair` exactly if there is no event at `at + 1`. Otherwise it fails exactly if the two
+        // events are not independent.
         ensures exact { IsOk result ↔ MayExchange (recorded self.old) self.old.events at }
         ensures no_pair { (result ≡ Err NoSuchPair) ↔ (length self.old.events ≤ at + 1) }
         // The same as a function, for definitions that compute with it.
@@ -225,7 +225,8 @@ impl Schedule {
         Ok(())
     }
 
-    /// A schedule of the same trace with the first `len` events of this one.
+    /// A schedule of the same trace with the first `len` events of this one. Fails with 30 if this one is shorter,
+    /// and with 27 if memory runs out.
     pub fn prefix(
         &self,
         alloc: Global,
@@ -235,7 +236,7 @@ impl Schedule {
         requires { self.now.trace ≡ indexed.now }
         ensures trace { IfOk result (λ s. s.trace ≡ self.now.trace) }
         ensures ok { IfOk result (λ s. s.events ≡ take len self.now.events) }
-        // It is refused for its length exactly where this schedule has fewer events.
+        // It fails with `TooShort` exactly if this schedule has fewer events.
         ensures too_short { (result ≡ Err TooShort) ↔ (length self.now.events < len) }
     {
         let len = len as usize;
@@ -256,7 +257,7 @@ impl Schedule {
         })
     }
 
-    // The tables of the first `len` events. Those of all events are copied, since that is quicker than to make them anew.
+    // The tables of the first `len` events. For all events the tables are copied, which is faster than making them.
     fn front_tables(
         &self,
         alloc: Global,
@@ -273,7 +274,7 @@ impl Schedule {
         tables_of(alloc, indexed, &self.events()[..len])
     }
 
-    /// The event of the thread that follows those in the schedule, or None where all of them are there.
+    /// The next event of the thread after the schedule, or None if the schedule has all its events.
     pub fn next_of(&self, indexed: &Indexed, thread: u32) -> Option<u32>
         requires trace { self.now.trace ≡ indexed.now }
         requires thread { thread < thread_count self.now }
@@ -287,8 +288,8 @@ impl Schedule {
             .copied()
     }
 
-    /// Whether the two events conflict and both are ready: not in the schedule, but all earlier events of
-    /// their threads are, and their threads' forks. False also where one of them is no event.
+    /// Whether the two events conflict and both are ready: not in the schedule, but all earlier events of their
+    /// threads are, and their threads' forks. False also if the trace lacks one of them.
     pub fn shows(&self, indexed: &Indexed, first: u32, second: u32) -> bool
         requires { self.now.trace ≡ indexed.now }
         ensures shows { IsTrue result ↔ Shows (recorded self.now) self.now.events first second }

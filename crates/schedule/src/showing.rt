@@ -1,4 +1,4 @@
-//! Whether an event could come next after a list of events but for its operation.
+//! Whether an event could come next after a list of events, regardless of its operation.
 ghost use Rattle.std.specs.Prelude.{◌≡◌, ◌↔◌, IsTrue};
 ghost use Rattle.schedule.specs.Reordering.{IsCorrectReordering};
 ghost use Rattle.schedule.specs.Tables.{AreTables};
@@ -8,8 +8,8 @@ use crate::reads::{is_forked, is_next};
 use crate::tables::Tables;
 use event_index::Indexed;
 
-/// Whether the event is ready: not in the list, but all earlier events of its thread are, and its
-/// thread's fork.
+/// Whether the event is ready: it is not in the list, but all earlier events of its thread are, and the thread's
+/// fork.
 pub(crate) fn is_ready(indexed: &Indexed, tables: &Tables, events: &[u32], event: u32) -> bool
     requires tables { AreTables indexed.now.events events.now tables.now }
     requires reordering { IsCorrectReordering indexed.now.events events.now }

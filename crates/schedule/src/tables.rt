@@ -1,4 +1,4 @@
-//! What a schedule keeps beside its list, so that no call goes over the list.
+//! The tables that a schedule keeps beside its list, so that few calls go over the list.
 ghost use Rattle.std.specs.Prelude.{ℕ, List, [], ◌∷◌, ◌++◌, OnOk, OnErr, IfOk};
 ghost use Rattle.rapid_text.specs.declared.event.Event.{Event};
 ghost use Rattle.schedule.specs.Reordering.{IsCorrectReordering, IsEnabled};
@@ -13,15 +13,16 @@ use std::alloc::{AllocError, Global};
 /// The tables of a list of events.
 #[derive(Drop)]
 pub(crate) struct Tables {
-    // How many events the list has of each thread of which it has or had one, in the order of the threads.
+    // The number of events of each thread in the list. A thread without an event may have an entry, if it had an
+    // event before.
     pub(crate) counts: Vec<ThreadCount>,
     // The latest event of each variable and lock that the list sets.
     pub(crate) latest: LatestTable,
-    // For each place of the list, the event that the one there shadows.
+    // For each index of the list, the event that the event there shadows.
     pub(crate) shadows: Vec<Option<u32>>,
 }
 
-/// The tables of the empty list, where this many events fit in before their places need memory again.
+/// The tables of the empty list, with room for `len` events. Fails if memory runs out.
 pub(crate) fn tables_with_room(
     alloc: Global,
     indexed: &Indexed,
@@ -40,7 +41,7 @@ pub(crate) fn tables_with_room(
     })
 }
 
-/// Makes the tables those of the list with this event after it.
+/// Updates the tables of a list for this event after it.
 pub(crate) fn note(
     tables: &mut Tables,
     indexed: &Indexed,
@@ -69,7 +70,7 @@ pub(crate) fn note(
     Ok(())
 }
 
-/// Makes the tables of a list and this event after it those of the list. It takes no memory.
+/// Updates the tables of a list and this event after it, back to those of the list. It needs no memory.
 pub(crate) fn forget(tables: &mut Tables, indexed: &Indexed, events: &[u32], event: u32)
     requires enabled { IsEnabled indexed.now.events events.now event }
     requires tables { AreTables indexed.now.events (events.now ++ event ∷ []) tables.old }
@@ -84,14 +85,14 @@ pub(crate) fn forget(tables: &mut Tables, indexed: &Indexed, events: &[u32], eve
     count_down(&mut tables.counts, found.thread);
 }
 
-/// Gives back room that the table of latest events grew by and has no use for. What the tables hold stays.
+/// Frees memory that the table of latest events has reserved and does not use. The entries stay.
 pub(crate) fn trim(tables: &mut Tables)
     ensures { (T : List Event) (P : List ℕ) → AreTables T P tables.old → AreTables T P tables.new }
 {
     tables.latest.trim();
 }
 
-/// Tables of their own that hold the same, with no room for more places.
+/// A copy of the tables, without room for more events. Fails if memory runs out.
 pub(crate) fn copied(alloc: Global, tables: &Tables) -> Result<Box<Tables>, AllocError>
     ensures { (T : List Event) (P : List ℕ) → AreTables T P tables.now
         → IfOk result (λ copy. AreTables T P copy.value) }
@@ -107,7 +108,7 @@ pub(crate) fn copied(alloc: Global, tables: &Tables) -> Result<Box<Tables>, Allo
     Ok(copy)
 }
 
-/// The tables of a list, with no room for more places.
+/// The tables of a list, without room for more events. Fails if memory runs out.
 pub(crate) fn tables_of(
     alloc: Global,
     indexed: &Indexed,
