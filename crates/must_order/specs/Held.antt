@@ -7,8 +7,8 @@ use Rattle.trace_rules.specs.Rules.{hold_count}
 use Rattle.event_index.specs.Events.{op_at, thread_at}
 use Rattle.must_order.specs.MustBefore.{IsHeldBefore, IsSharedBefore}
 
--- Event e's thread holds the lock before e since acquire p: it does not hold it before p, and holds it at each place from there
--- up to e. So of nested acquires p is the outermost.
+-- Event e's thread holds the lock l before e since the acquire p. It does not hold l before p, and holds it all the
+-- time from p up to e. So p is the outermost of nested acquires.
 pub record IsHeldFrom (T : List Event) (e l p : ℕ) : Type 0 where
   pub thread : ℕ
   pub of : thread_at T e ≡ Some thread
@@ -18,7 +18,7 @@ pub record IsHeldFrom (T : List Event) (e l p : ℕ) : Type 0 where
   pub free : hold_count (take p T) thread l ≡ 0
   pub held : (k : ℕ) → p < k → k ≤ e → 0 < hold_count (take k T) thread l
 
--- The locks below n that e's thread holds before e, rising.
+-- The locks below n that e's thread holds before e, in rising order.
 pub record AreLocksHeld (T : List Event) (e n : ℕ) (locks : List ℕ) : Type 0 where
   pub rising : AllPairs ◌<◌ locks
   pub held : All (λ l. (l < n) × IsHeldBefore T e l) locks
@@ -28,10 +28,10 @@ pub record AreLocksHeld (T : List Event) (e n : ℕ) (locks : List ℕ) : Type 0
 abbrev pub AreHeldAt : Recording → ℕ → List ℕ → Type 0
 AreHeldAt r e locks = AreLocksHeld r.events e (length r.locks) locks
 
--- both threads hold the lock at their events
+-- l is a lock, and both threads hold it before their events
 abbrev pub IsGuard : Recording → ℕ → ℕ → ℕ → Type 0
 IsGuard r a b l = (l < length r.locks) × IsSharedBefore r.events a b l
 
--- they hold no lock both
+-- no lock is held by both threads before their events
 abbrev pub HasNoGuard : Recording → ℕ → ℕ → Type 0
 HasNoGuard r a b = (k : ℕ) → k < length r.locks → ¬ IsSharedBefore r.events a b k

@@ -1,5 +1,5 @@
--- Which acquires find their lock free, and what is kept of them in a pass over the events. No public clause cites this
--- module. `T` is the events of a trace.
+-- Which acquires begin an outermost section, and what the pass keeps of them. No public clause cites this module. `T`
+-- is the events of a trace.
 use Rattle.std.specs.Prelude.{◌≡◌, ◌≢◌, ℕ, Bool, true, false, ◌==◌, ◌&&◌, ◌<◌, ◌≤◌, Vec, List, [], length, take, filter, reverse, find, slice_get, slice_index, Option, Some, None, option_map, All, Contains}
 use Rattle.std.specs.Global.{Global}
 use Rattle.rapid_text.specs.Operations.{is_acquire}
@@ -17,7 +17,7 @@ abbrev pub outer_by : List Event → ℕ → ℕ → Option Event → Bool
 outer_by T l e None = false
 outer_by T l e (Some v) = is_acquire l v.op && hold_count (take e T) v.thread l == 0
 
--- whether the event acquires the lock, and its thread does not hold it before
+-- whether event e acquires the lock, and its thread does not hold it before e
 abbrev pub is_outer : List Event → ℕ → ℕ → Bool
 is_outer T l e = outer_by T l e (slice_get T e)
 
@@ -25,7 +25,7 @@ is_outer T l e = outer_by T l e (slice_get T e)
 abbrev pub last_outer : List Event → ℕ → ℕ → Option ℕ
 last_outer T l j = find (is_outer T l) (reverse (before j))
 
--- event p, one of the first i, acquires a lock
+-- event p is one of the first i, and acquires a lock
 abbrev pub IsAcquireBelow : List Event → ℕ → ℕ → Type 0
 IsAcquireBelow T i p = (p < i) × (l : ℕ) × (op_at T p ≡ Some (Acquire l))
 
@@ -33,7 +33,7 @@ IsAcquireBelow T i p = (p < i) × (l : ℕ) × (op_at T p ≡ Some (Acquire l))
 abbrev pub IsOpenAt : List Event → ℕ → ℕ → Type 0
 IsOpenAt T i p = (r : ℕ) → section_end T p ≡ Some r → i ≤ r
 
--- What is kept of the first i events: for each lock the acquires that found it free, and of all of them those whose
+-- What the pass keeps after the first i events: the outermost acquires of each lock, and those of all locks whose
 -- section is open.
 pub record AreSections (r : Recording) (i : ℕ) (s : Sections) : Type 0 where
   pub len : length s.by_lock.items ≡ length r.locks
@@ -42,39 +42,40 @@ pub record AreSections (r : Recording) (i : ℕ) (s : Sections) : Type 0 where
   pub acquires : All (IsAcquireBelow r.events i) s.held.items
   pub all : (p l : ℕ) → p < i → is_outer r.events l p ≡ true → IsOpenAt r.events i p → Contains s.held.items p
 
--- an acquire and the end of its section, which has to end before e: the row counts the one, and not the other
+-- an acquire and the end of its section, which has to end before e: the row counts the acquire and not the end
 abbrev pub IsOwed : List Event → ℕ → (ℕ → ℕ) → ℕ × ℕ → Type 0
 IsOwed T e row o = EndsFirst T o.0 o.1 e × IsCounted T row o.0 × ¬ IsCounted T row o.1
 
--- the row counts the ends of the sections of the lock, of the lock and the thread, that have to end before e
+-- the row counts the end of each section of the lock (of the lock and the thread) that has to end before e, if it
+-- counts the beginning
 abbrev pub IsSettledOn : List Event → ℕ → (ℕ → ℕ) → ℕ → Type 0
 IsSettledOn T e row l = (p r : ℕ) (s : EndsFirst T p r e) → s.lock ≡ l → IsCounted T row p → IsCounted T row r
 
 abbrev pub IsSettledBy : List Event → ℕ → (ℕ → ℕ) → ℕ → ℕ → Type 0
 IsSettledBy T e row l u = (p r : ℕ) (s : EndsFirst T p r e) → s.lock ≡ l → s.owner ≡ u → IsCounted T row p → IsCounted T row r
 
--- the same of the lock that p acquires, where e lies in the section of p
+-- the same for the lock that p acquires, if e is in the section of p
 abbrev pub IsSettledWithin : List Event → ℕ → (ℕ → ℕ) → ℕ → Type 0
 IsSettledWithin T e row p =
     (l t : ℕ) → op_at T p ≡ Some (Acquire l) → thread_at T p ≡ Some t → thread_at T e ≡ Some t → IsOpenAt T e p → IsSettledOn T e row l
 
--- event e ends the section of the acquire at this place among those that are kept
+-- event e ends the section of the acquire at this index of `held`
 abbrev pub EndsHeld : List Event → Sections → ℕ → ℕ → Type 0
 EndsHeld T s e at = (at < length s.held.items) × (section_end T (slice_index s.held.items at) ≡ Some e)
 
--- it ends none of their sections
+-- event e ends no section of these acquires
 abbrev pub EndsNone : List Event → Sections → ℕ → Type 0
 EndsNone T s e = (k : ℕ) → k < length s.held.items → section_end T (slice_index s.held.items k) ≢ Some e
 
--- if e acquires a lock, the row counts the ends of its sections that have to end before e
+-- if e acquires a lock, the row counts the ends of that lock's sections that have to end before e
 abbrev pub IsSettledAt : List Event → ℕ → (ℕ → ℕ) → Type 0
 IsSettledAt T e row = (l : ℕ) → op_at T e ≡ Some (Acquire l) → IsSettledOn T e row l
 
--- e lies in a section of the lock
+-- e is in a section of the lock, or begins one
 abbrev pub LiesInSection : List Event → ℕ → ℕ → Type 0
 LiesInSection T e l = (t : ℕ) → thread_at T e ≡ Some t → IsInSection T e t l
 
--- the first lists are empty
+-- the first `count` lists are empty
 abbrev pub AreEmptyLists : List (Vec ℕ Global) → ℕ → Type 0
 AreEmptyLists lists count = (m : ℕ) → m < count → option_map (λ w. w.items) (slice_get lists m) ≡ Some []
 
@@ -86,10 +87,10 @@ EndsLater T p t last o = (o.0 ≡ p) × (thread_at T p ≡ Some t) × (section_e
 abbrev pub EndsBy : List Event → ℕ → ℕ → ℕ → Type 0
 EndsBy T p t last = thread_at T p ≡ Some t → (r : ℕ) → section_end T p ≡ Some r → r ≤ last
 
--- e lies in the section that its thread began at p
+-- e is in the section that its thread began at p
 abbrev pub LiesIn : List Event → ℕ → ℕ → Type 0
 LiesIn T p e = (thread_at T p ≡ thread_at T e) × IsOpenAt T e p
 
--- it does not, if p is of its thread
+-- if p is of e's thread, e is not in the section of p
 abbrev pub LiesOutside : List Event → ℕ → ℕ → Type 0
 LiesOutside T p e = thread_at T p ≡ thread_at T e → ¬ IsOpenAt T e p

@@ -1,4 +1,4 @@
--- What holds of the fields of each `Must`. No public clause cites this module.
+-- What holds for the fields of each `Must`. No public clause cites this module.
 use Rattle.std.specs.Prelude.{◌≡◌, length}
 use Rattle.rapid_text.specs.Recording.{IsWellFormed}
 use Rattle.trace_rules.specs.Rules.{IsDisciplined}
@@ -9,7 +9,7 @@ use Rattle.must_order.specs.Joins.{AreJoins}
 use Rattle.must_order.specs.Layout.{AreCounts}
 use Rattle.must_order.specs.Sections.{AreSections}
 
--- what holds of the fields of all rows
+-- what holds for these fields
 pub record IsSound (s : Inside) : Type 0 where
   pub well_formed : IsWellFormed s.trace.value
   pub disciplined : IsDisciplined s.trace.value.events

@@ -13,7 +13,7 @@ use shb_clocks::Clocks;
 use std::alloc::Global;
 use std::marker::Model;
 
-/// A trace with its orders: SHB and must-before, both of this trace. Contracts see its recording.
+/// A trace with both its orders, SHB and must-before. A contract sees its recording.
 #[derive(Drop)]
 pub struct Analysis<'a> {
     indexed: &'a Indexed,
@@ -33,7 +33,7 @@ impl<'a> Model for Analysis<'a> {
 }
 
 impl<'a> Analysis<'a> {
-    /// The orders of this trace.
+    /// Computes both orders of the trace. Fails if memory runs out.
     pub fn new(alloc: Global, indexed: &'a Indexed) -> Result<Analysis<'a>, OutOfMemory>
         ensures { IfOk result (λ analysis. analysis ≡ indexed.now) }
     {
@@ -43,7 +43,7 @@ impl<'a> Analysis<'a> {
         }
     }
 
-    // The same, if must-before is known.
+    // The same if must-before is already computed.
     fn with_clocks(
         alloc: Global,
         indexed: &'a Indexed,
@@ -83,7 +83,7 @@ impl<'a> Analysis<'a> {
         &self.must
     }
 
-    /// Whether two events are a candidate pair.
+    /// Whether two events are a candidate pair, in either order.
     pub fn is_candidate(&self, first: u32, second: u32) -> bool
         requires first { first < length self.now.events }
         requires second { second < length self.now.events }
@@ -92,7 +92,7 @@ impl<'a> Analysis<'a> {
         self.clocks.candidate(self.indexed, first, second)
     }
 
-    /// Whether the first event is the base of the second, or must-before it.
+    /// Whether the first event is the base of the second, or must-before that base.
     pub fn is_forced(&self, first: u32, second: u32) -> bool
         requires first { first < length self.now.events }
         requires second { second < length self.now.events }
@@ -101,7 +101,7 @@ impl<'a> Analysis<'a> {
         self.must.is_forced(self.indexed, first, second)
     }
 
-    /// The least lock that both threads hold, before the one event and before the other. None if there is no such lock.
+    /// The least lock that both threads hold before their events. None if they share no lock.
     pub fn guard(&self, first: u32, second: u32) -> Option<u32>
         requires first { first < length self.now.events }
         requires second { second < length self.now.events }
@@ -112,7 +112,8 @@ impl<'a> Analysis<'a> {
         self.must.guard(self.indexed, first, second)
     }
 
-    /// The acquire since which the event's thread holds the lock. None if it does not hold it before the event.
+    /// The acquire since which the event's thread holds the lock. None if the thread does not hold it before the
+    /// event.
     pub fn held_since(&self, event: u32, lock: u32) -> Option<u32>
         requires event { event < length self.now.events }
         requires lock { lock < length self.now.locks }
@@ -130,7 +131,7 @@ impl<'a> Analysis<'a> {
         self.must.locks_held(alloc, self.indexed, event)
     }
 
-    /// Why the first event is must-before the second. None if it is not.
+    /// Why the first event is must-before the second, as chains of steps. None if it is not must-before it.
     pub fn reasons(
         &self,
         alloc: Global,

@@ -1,41 +1,41 @@
-//! Why an event is must-before another, told as chains of steps.
+//! Chains of steps that show why an event is must-before another.
 
-/// Why the first event of a step comes before its second, with nothing between them.
+/// Why the first event of a step comes before its second event.
 #[derive(Clone, Copy, PartialEq, Eq, Debug)]
 pub enum Reason {
-    /// It is the event before it in its thread.
+    /// The first event is the one before the second in its thread.
     Later,
-    /// It forks its thread, and the second is the first event there.
+    /// The first event forks the thread of the second, which is that thread's first event.
     Forked,
-    /// It is the write that the second reads.
+    /// The first event is the write that the second reads.
     Written,
-    /// It is of the thread that the second joins.
+    /// The first event is of the thread that the second joins.
     Joined,
-    /// It forks the thread that the second joins.
+    /// The first event forks the thread that the second joins.
     ForkJoined,
-    /// It ends the section of this acquire. The second lies in a section of the same lock, or begins one, and the
-    /// acquire comes before it.
+    /// The first event ends the section of this acquire. The second is in a section of the same lock, or begins one,
+    /// and the acquire comes before it.
     Ended(u32),
 }
 
-/// One step of a chain, from an event to a later one.
+/// One step of a chain, from an event to a later one. Events are numbers, counted from 0.
 #[derive(Clone, Copy, PartialEq, Eq, Debug)]
 pub struct Step {
-    /// Where the step begins.
+    /// The first event of the step.
     pub from: u32,
-    /// Where it leads.
+    /// The second event of the step.
     pub to: u32,
-    /// Why.
+    /// Why the first comes before the second.
     pub reason: Reason,
 }
 
-/// Steps that lead from one event to another. There is none where the two are one.
+/// Steps that lead from one event to another. There are none if both are the same.
 #[derive(Drop)]
 pub struct Chain {
-    /// Where the chain begins.
+    /// The event that the chain leads from.
     pub first: u32,
-    /// Where it leads.
+    /// The event that the chain leads to.
     pub last: u32,
-    /// Its steps, each from where the one before it leads.
+    /// The steps in order. Each begins at the event where the one before it ends.
     pub steps: Vec<Step>,
 }

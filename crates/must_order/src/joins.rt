@@ -1,4 +1,4 @@
-//! The joins that the rule of sections asked for, in the order in which they were made.
+//! The joins that the rule of sections needed, in the order in which they were made.
 ghost use Rattle.std.specs.Prelude.{◌≡◌, ◌<◌, ◌+◌, IfOk, OnOk};
 ghost use Rattle.must_order.specs.Joins.{AreJoinsOf, IsLedBy, AreLed, AddsJoin};
 ghost use Rattle.must_order.specs.MustBefore.{EndsFirst};
@@ -7,7 +7,8 @@ use event_index::Indexed;
 use rapid_text::OutOfMemory;
 use std::alloc::Global;
 
-/// The row of a release was joined to that of an event: the section of the acquire has to end before the event.
+/// The row of a release was joined to the row of an event, since the section of the acquire has to end before the
+/// event.
 #[derive(Clone, Copy)]
 pub(crate) struct Join {
     pub(crate) event: u32,
@@ -15,7 +16,7 @@ pub(crate) struct Join {
     pub(crate) release: u32,
 }
 
-/// All joins, and for each event where its joins begin; where they end stands at the next event.
+/// All joins. For each event, `starts` has the index of its first join; its joins end at the start of the next event.
 #[derive(Drop)]
 pub(crate) struct Joins {
     pub(crate) list: Vec<Join>,
@@ -23,7 +24,7 @@ pub(crate) struct Joins {
 }
 
 impl Joins {
-    /// Before the first event.
+    /// The state before the first event. Fails if memory runs out.
     pub(crate) fn new(alloc: Global, indexed: &Indexed) -> Result<Joins, OutOfMemory>
         ensures { IfOk result (λ joins. AreJoinsOf indexed.now.events 0 joins) }
     {
@@ -35,7 +36,7 @@ impl Joins {
         })
     }
 
-    /// One join more of the event.
+    /// Adds a join of the event. Fails if memory runs out.
     pub(crate) fn add(
         &mut self,
         indexed: &Indexed,
@@ -59,7 +60,7 @@ impl Joins {
         Ok(())
     }
 
-    /// The event has no more joins.
+    /// Ends the joins of the event. Fails if memory runs out.
     pub(crate) fn end(&mut self, indexed: &Indexed, event: u32) -> Result<(), OutOfMemory>
         requires known { AreJoinsOf indexed.now.events event self.old }
         requires led { AreLed indexed.now.events self.old event }

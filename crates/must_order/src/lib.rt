@@ -1,5 +1,5 @@
-//! Must-before: which events stand before an event in every correct reordering that has it, and which pairs
-//! of events no correct reordering shows.
+//! Must-before: which events come before an event in every correct reordering that has it, and which pairs of events
+//! no correct reordering shows.
 #![tactic(auto)]
 
 mod analysis;

@@ -21,17 +21,17 @@ use std::alloc::Global;
 use std::marker::Model;
 use std::snapshot::Snapshot;
 
-/// For each event of a trace, how many events of each thread are must-before it or are it.
+/// For each event of a trace, the number of events of each thread that are must-before it or are it.
 #[derive(Drop)]
 pub struct Must {
     trace: Snapshot<Indexed>,
-    // For each event its thread.
+    // The thread of each event.
     threads: Vec<u32>,
-    // What each event counts of each thread, in rows that events share.
+    // The counts of each event, in rows that events share.
     counts: SharedRows,
     // The joins by which the rows were made.
     joins: Joins,
-    // The sections of all events.
+    // The acquires that begin sections.
     sections: Sections,
 }
 
@@ -48,7 +48,8 @@ impl Model for Must {
 }
 
 impl Must {
-    /// Makes the rows in one pass over the events. They know whose they are, and need the index no more.
+    /// Makes the rows in one pass over the events. They keep their trace for proofs alone, so the index may be
+    /// dropped.
     pub fn new(alloc: Global, indexed: &Indexed) -> Result<Must, OutOfMemory>
         ensures ok { IfOk result (λ must. must ≡ indexed.now) }
     {
@@ -65,8 +66,8 @@ impl Must {
         }
     }
 
-    /// Whether the first event is the second, or stands before it in every correct reordering for the reasons of
-    /// must-before.
+    /// Whether the first event is the second or is must-before it: it then comes before it in every correct
+    /// reordering.
     pub fn before(&self, first: u32, second: u32) -> bool
         requires first { first < length self.now.events }
         requires second { second < length self.now.events }
@@ -76,8 +77,8 @@ impl Must {
         self.counts.count(first, thread) <= self.counts.count(second, thread)
     }
 
-    /// The rows by which it tells: what each event counts of a thread are so many of the thread's first events, those that are
-    /// must-before it or are it.
+    /// The rows of counts. An event's count of a thread is the number of that thread's events that are must-before
+    /// the event or are it. These are the thread's first events.
     pub fn rows(&self) -> &SharedRows
         ensures len { len_of result.now ≡ length self.now.events }
         ensures width { width_of result.now ≡ length self.now.threads }
@@ -86,7 +87,7 @@ impl Must {
         &self.counts
     }
 
-    /// Whether the first event is the second's base, or must-before it.
+    /// Whether the first event is the second's base, or must-before that base.
     pub fn is_forced(&self, indexed: &Indexed, first: u32, second: u32) -> bool
         requires trace { self.now ≡ indexed.now }
         requires first { first < length self.now.events }
@@ -99,7 +100,7 @@ impl Must {
         }
     }
 
-    /// The least lock that the first event's thread holds before it, and the second's before it.
+    /// The least lock that both threads hold before their events. None if they share no lock.
     pub fn guard(&self, indexed: &Indexed, first: u32, second: u32) -> Option<u32>
         requires trace { self.now ≡ indexed.now }
         requires first { first < length self.now.events }
@@ -111,8 +112,8 @@ impl Must {
         guard_of(&self.sections, indexed, first, second)
     }
 
-    /// The acquire since which the event's thread holds the lock before it: of nested acquires the outermost. Where its
-    /// section ends, `Indexed::section` tells.
+    /// The acquire since which the event's thread holds the lock: the outermost of nested acquires. None if the
+    /// thread does not hold the lock before the event. `Indexed::section` returns the end of the acquire's section.
     pub fn held_since(&self, indexed: &Indexed, event: u32, lock: u32) -> Option<u32>
         requires trace { self.now ≡ indexed.now }
         requires event { event < length self.now.events }
@@ -123,7 +124,7 @@ impl Must {
         self.sections.holder(indexed, event, lock)
     }
 
-    /// The locks that the event's thread holds before it, in rising number.
+    /// The locks that the event's thread holds before it, in rising order of their numbers.
     pub fn locks_held(
         &self,
         alloc: Global,
@@ -137,9 +138,10 @@ impl Must {
         locks_of(alloc, &self.sections, indexed, event)
     }
 
-    /// Why the first event is must-before the second, as chains: the first chain leads from the one to the other. Each
-    /// other leads from the beginning of a section to an event that has to come after that section's end, and
-    /// justifies a step of a chain before it. None where the first event is not must-before the second.
+    /// Why the first event is must-before the second, as chains. The first chain leads from the first event to the
+    /// second. Each other chain leads from the beginning of a section to an event that has to come after the
+    /// section's end, and justifies a step of an earlier chain. None if the first event is not must-before the
+    /// second.
     pub fn reasons(
         &self,
         alloc: Global,
@@ -161,7 +163,7 @@ impl Must {
         Ok(Some(chains))
     }
 
-    /// What is known of a conflicting pair, whose earlier event is the first: the first of the kinds that fits.
+    /// The kind of a conflicting pair, whose earlier event is `first`: the first kind that fits.
     pub fn kind(&self, indexed: &Indexed, clocks: &Clocks, first: u32, second: u32) -> Kind
         requires trace { self.now ≡ indexed.now }
         requires clocks { clocks.now ≡ indexed.now }

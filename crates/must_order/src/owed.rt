@@ -1,4 +1,4 @@
-//! The sections that have to end before an event, and that a row does not count to their end.
+//! The sections that have to end before an event although its row does not count their ends.
 ghost use Rattle.std.specs.Prelude.{◌≡◌, ◌≢◌, ◌<◌, ◌+◌, length, None, Some, IfSome, slice_index};
 ghost use Rattle.trace_rules.specs.Rules.{IsDisciplined};
 ghost use Rattle.event_index.specs.Events.{thread_at};
@@ -11,7 +11,8 @@ use event_index::Indexed;
 use rapid_text::Op;
 
 impl Sections {
-    /// An acquire and the end of its section, which has to end before the event: the row counts the one and not the other.
+    /// An acquire and the end of its section, which has to end before the event: the row counts the acquire and not
+    /// the end.
     pub(crate) fn owed(&self, indexed: &Indexed, row: &[u32], event: u32) -> Option<(u32, u32)>
         requires rules { IsDisciplined indexed.now.events }
         requires event { event < length indexed.now.events }
@@ -30,7 +31,7 @@ impl Sections {
         self.owed_at(indexed, row, event)
     }
 
-    /// The same of the lock that the event acquires, if it does.
+    /// The same for the lock that the event acquires, if it acquires one.
     pub(crate) fn owed_at(&self, indexed: &Indexed, row: &[u32], event: u32) -> Option<(u32, u32)>
         requires event { event < length indexed.now.events }
         requires known { AreSections indexed.now event self.now }
@@ -50,7 +51,7 @@ impl Sections {
         }
     }
 
-    // The same of the lock of an acquire, if the event lies in its section.
+    // The same for the lock of the acquire `begun`, if the event is in its section.
     fn owed_within(
         &self,
         indexed: &Indexed,
@@ -84,7 +85,7 @@ impl Sections {
         }
     }
 
-    // The same of one lock, in a section of which the event lies.
+    // The same for one lock, if the event is in a section of it.
     fn owed_on(&self, indexed: &Indexed, row: &[u32], event: u32, lock: u32) -> Option<(u32, u32)>
         requires event { event < length indexed.now.events }
         requires known { AreSections indexed.now event self.now }
@@ -104,7 +105,7 @@ impl Sections {
         None
     }
 
-    // The same of one lock and one thread.
+    // The same for one lock and one thread.
     fn owed_by(
         &self,
         indexed: &Indexed,
@@ -155,7 +156,8 @@ fn last_counted(indexed: &Indexed, row: &[u32], event: u32, thread: u32) -> u32
     indexed.thread_events(thread)[row[thread as usize] as usize - 1]
 }
 
-// The acquire and the end of its section, where it is one of the thread and ends after the event `last`.
+// The acquire and the end of its section, if the acquire is of the thread and its section ends after the event
+// `last`.
 fn end_after(indexed: &Indexed, begun: u32, thread: u32, last: u32) -> Option<(u32, u32)>
     requires begun { begun < length indexed.now.events }
     ensures found { IfSome result (EndsLater indexed.now.events begun thread last) }

@@ -1,4 +1,4 @@
-//! The chains that tell why an event is must-before another, each walked back from its end.
+//! The chains that show why an event is must-before another. Each chain is built backwards from its end.
 ghost use Rattle.std.specs.Prelude.{◌≡◌, ◌≢◌, ◌⊎◌, ◌+◌, ◌<◌, ◌≤◌, ◌↔◌, ℕ, None, Some, length, IfOk, OnOk, IfSome, IsTrue, All, [], slice_get, slice_index};
 ghost use Rattle.event_index.specs.Lookups.{base_of};
 ghost use Rattle.must_order.specs.Chains.{IsReason, IsChain, AreReasons};
@@ -15,7 +15,7 @@ use event_index::Indexed;
 use rapid_text::{Op, OutOfMemory};
 use std::alloc::Global;
 
-// The step to the event from its base.
+// The step to the event from its base, or None.
 fn base_step(indexed: &Indexed, event: u32) -> Option<Step>
     requires event { event < length indexed.now.events }
     ensures some { IfSome result (StepsFrom (base_of indexed.now.events event) event) }
@@ -36,7 +36,7 @@ fn base_step(indexed: &Indexed, event: u32) -> Option<Step>
     })
 }
 
-// Why the source of the event comes before it.
+// Why the event's source comes before it.
 fn source_reason(indexed: &Indexed, event: u32, source: u32) -> Reason
     requires event { event < length indexed.now.events }
     requires within { source < length indexed.now.events }
@@ -58,7 +58,7 @@ fn source_reason(indexed: &Indexed, event: u32, source: u32) -> Reason
     }
 }
 
-// The step to the event from its source.
+// The step to the event from its source, or None.
 fn source_step(indexed: &Indexed, event: u32) -> Option<Step>
     requires event { event < length indexed.now.events }
     ensures some { IfSome result (StepsFrom (source_of indexed.now.events event) event) }
@@ -75,7 +75,7 @@ fn source_step(indexed: &Indexed, event: u32) -> Option<Step>
     })
 }
 
-// The step to the event from its base or its source, where the first event is must-before that.
+// The step to the event from its base or its source, if the first event is must-before that one or is it.
 fn link_back(must: &Must, indexed: &Indexed, first: u32, event: u32) -> Option<Step>
     requires trace { must.now ≡ indexed.now }
     requires first { first < length indexed.now.events }
@@ -99,7 +99,7 @@ fn link_back(must: &Must, indexed: &Indexed, first: u32, event: u32) -> Option<S
     None
 }
 
-// Whether the join is of this event, and the first event is must-before the release that it joined.
+// Whether the join is one of this event, and the first event is must-before the join's release or is it.
 fn leads_through(must: &Must, indexed: &Indexed, join: Join, first: u32, event: u32) -> bool
     requires trace { must.now ≡ indexed.now }
     requires first { first < length indexed.now.events }
@@ -112,7 +112,7 @@ fn leads_through(must: &Must, indexed: &Indexed, join: Join, first: u32, event: 
     must.before(first, join.release)
 }
 
-// Which of the event's joins below `high` joined a release that the first event is must-before.
+// The index of one of the event's joins below `high` whose release the first event is must-before.
 fn join_back(
     must: &Must,
     joins: &Joins,
@@ -138,7 +138,7 @@ fn join_back(
     unreachable!()
 }
 
-// One step back from the event, towards the first. Where it ends a section, the join is marked.
+// One step back from the event, towards the first event. If the step is the end of a section, its join is marked.
 fn step_back(
     must: &Must,
     joins: &Joins,
@@ -175,7 +175,7 @@ fn step_back(
     }
 }
 
-// The chain from the first event to the last, by joins of the last below `limit`. Joins on which it rests are marked.
+// The chain from the first event to the last, which uses only joins below `limit`. The joins that it uses are marked.
 fn chain_of(
     alloc: Global,
     must: &Must,
@@ -212,7 +212,7 @@ fn chain_of(
     Ok(Chain { first, last, steps })
 }
 
-// The chain to the event of a join, where that join is marked.
+// Adds the chain to the event of join `at`, if that join is marked.
 fn justify(
     alloc: Global,
     must: &Must,
@@ -247,7 +247,7 @@ fn justify(
     Ok(())
 }
 
-/// The chains that tell why the first event is must-before the last.
+/// The chains that show why the first event is must-before the last. Fails if memory runs out.
 pub(crate) fn chains_of(
     alloc: Global,
     must: &Must,
@@ -270,7 +270,7 @@ pub(crate) fn chains_of(
     }
 }
 
-// Adds them to the empty list.
+// Adds these chains to the empty list.
 fn add_chains(
     alloc: Global,
     must: &Must,
@@ -301,7 +301,7 @@ fn add_chains(
     )
 }
 
-// The same, where the joins on which chains rest are marked.
+// The same, with marks for the joins that chains use.
 fn add_marked(
     alloc: Global,
     must: &Must,

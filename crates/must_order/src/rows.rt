@@ -1,4 +1,4 @@
-//! The rows of counts, made in one pass over the events.
+//! Makes the rows of counts in one pass over the events.
 ghost use Rattle.std.specs.Prelude.{◌≡◌, ◌↔◌, ◌+◌, ◌<◌, ◌≤◌, length, IfOk, OnOk, IfSome, IsTrue, true, false, None};
 ghost use Rattle.rapid_text.specs.Recording.{IsWellFormed};
 ghost use Rattle.trace_rules.specs.Rules.{IsDisciplined};
@@ -14,7 +14,7 @@ use rapid_text::{Op, OutOfMemory};
 use shb_clocks::SharedRows;
 use std::alloc::Global;
 
-/// For each event its thread.
+/// The thread of each event.
 pub(crate) fn threads_of(alloc: Global, indexed: &Indexed) -> Result<Vec<u32>, OutOfMemory>
     ensures threads { IfOk result (λ threads. AreAllThreads indexed.now.events threads.items) }
     ensures well_formed { IsWellFormed indexed.now }
@@ -28,8 +28,7 @@ pub(crate) fn threads_of(alloc: Global, indexed: &Indexed) -> Result<Vec<u32>, O
     Ok(threads)
 }
 
-/// For each event the counts of what is must-before it, the joins by which they were made, and the sections of all
-/// events.
+/// The counts of each event, the joins that made them, and the acquires that begin sections.
 #[derive(Drop)]
 pub(crate) struct Rows {
     pub(crate) counts: SharedRows,
@@ -37,7 +36,7 @@ pub(crate) struct Rows {
     pub(crate) sections: Sections,
 }
 
-/// The rows of all events.
+/// The rows of all events. Fails if memory runs out.
 pub(crate) fn rows_of(alloc: Global, indexed: &Indexed) -> Result<Rows, OutOfMemory>
     ensures width { IfOk result (λ rows. rows.counts.width ≡ length indexed.now.threads) }
     ensures len { IfOk result (λ rows. len_of rows.counts ≡ length indexed.now.events) }
@@ -53,7 +52,7 @@ pub(crate) fn rows_of(alloc: Global, indexed: &Indexed) -> Result<Rows, OutOfMem
 }
 
 impl Rows {
-    // Before the first event.
+    // The state before the first event.
     fn new(alloc: Global, indexed: &Indexed) -> Result<Rows, OutOfMemory>
         ensures width { IfOk result (λ rows. rows.counts.width ≡ length indexed.now.threads) }
         ensures len { IfOk result (λ rows. len_of rows.counts ≡ 0) }
@@ -68,7 +67,7 @@ impl Rows {
         })
     }
 
-    // Takes in all events.
+    // Adds all events.
     fn add_all(&mut self, alloc: Global, indexed: &Indexed) -> Result<(), OutOfMemory>
         requires width { self.old.counts.width ≡ length indexed.now.threads }
         requires len { len_of self.old.counts ≡ 0 }
@@ -86,7 +85,8 @@ impl Rows {
         self.add_by(indexed, &mut row, &mut spare)
     }
 
-    // The same, by two lists that are empty: a loop that owns them would prove at each way out how they are dropped.
+    // The same with two scratch rows that the caller owns. A loop that owned them would have to prove each exit's
+    // drops.
     fn add_by(
         &mut self,
         indexed: &Indexed,
@@ -124,8 +124,8 @@ impl Rows {
     }
 }
 
-// Gives the event its row: that of its base, where they are of one thread and count alike but for it; else one of its
-// own. `spare` is room for a row.
+// Gives the event its row. It shares the row of its base if both are of one thread and have the same counts of the
+// other threads. Otherwise it begins a row. `spare` is scratch space for a row.
 fn keep_row(
     counts: &mut SharedRows,
     spare: &mut Vec<u32>,
@@ -156,7 +156,7 @@ fn keep_row(
     Ok(())
 }
 
-// The base, where it is of the thread, and counts of the others what the row does.
+// The base, if it is of the thread and has the row's counts of the other threads; otherwise None.
 fn alike_base(
     counts: &SharedRows,
     spare: &mut Vec<u32>,
@@ -186,7 +186,7 @@ fn alike_base(
     }
 }
 
-// Whether the event counts of all threads but its own what the row does.
+// Whether the event has the row's counts of all threads except its own.
 fn are_alike(
     counts: &SharedRows,
     spare: &mut Vec<u32>,
@@ -212,7 +212,7 @@ fn are_equal(one: &[u32], other: &[u32]) -> bool
     one == other
 }
 
-/// The last event that comes before this one for what this one does.
+/// The last event that comes before this one because of what this one does, or None (`specs/Layout.antt`).
 pub(crate) fn source_at(indexed: &Indexed, event: u32) -> Option<u32>
     requires event { event < length indexed.now.events }
     ensures source { result ≡ source_of indexed.now.events event }
@@ -232,8 +232,8 @@ pub(crate) fn source_at(indexed: &Indexed, event: u32) -> Option<u32>
     }
 }
 
-// Begins the row of the event: in its own thread all events up to it, in another those that its base or its source
-// counts.
+// Begins the row of the event. For its own thread it counts all events up to it. For another it has the larger of the
+// counts of its base and its source.
 fn begin_row(row: &mut Vec<u32>, counts: &SharedRows, indexed: &Indexed, event: u32)
     requires event { event < length indexed.now.events }
     requires row { length row.old.items ≡ length indexed.now.threads }
@@ -284,7 +284,7 @@ fn close_row(
     Ok(())
 }
 
-// The same as `Sections::owed`, of a row that was just begun: only what the event learns can be owed.
+// The same as `Sections::owed` for a row that was just begun, where only what the event learns can be missing.
 fn first_owed(row: &[u32], indexed: &Indexed, event: u32, sections: &Sections) -> Option<(u32, u32)>
     requires rules { IsDisciplined indexed.now.events }
     requires event { event < length indexed.now.events }
@@ -302,7 +302,7 @@ fn first_owed(row: &[u32], indexed: &Indexed, event: u32, sections: &Sections) -
     sections.owed_at(indexed, row, event)
 }
 
-// Whether the event has a source in another thread. Else only the lock that it acquires can ask for more than its
+// Whether the event has a source in another thread. If not, only the lock that it acquires can require more than its
 // base did.
 fn learns(indexed: &Indexed, event: u32) -> bool
     requires event { event < length indexed.now.events }
@@ -314,7 +314,7 @@ fn learns(indexed: &Indexed, event: u32) -> bool
     }
 }
 
-// Makes the row what the event counts; nothing where there is no such event.
+// Sets the row to the counts of the event; to zeros if there is no event.
 fn copy_row(row: &mut Vec<u32>, counts: &SharedRows, event: Option<u32>)
     requires width { length row.old.items ≡ counts.now.width }
     requires within { IfSome event (λ e. e < len_of counts.now) }
@@ -327,7 +327,7 @@ fn copy_row(row: &mut Vec<u32>, counts: &SharedRows, event: Option<u32>)
     }
 }
 
-// Raises each count of the row to that of the event.
+// Raises each count of the row to the event's count, if that is larger.
 fn raise_row(row: &mut Vec<u32>, counts: &SharedRows, event: Option<u32>)
     requires width { length row.old.items ≡ counts.now.width }
     requires within { IfSome event (λ e. e < len_of counts.now) }

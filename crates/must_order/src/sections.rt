@@ -1,4 +1,4 @@
-//! The sections of locks among the events seen so far.
+//! The critical sections among the events seen so far.
 ghost use Rattle.std.specs.Prelude.{◌≡◌, ◌<◌, ◌≤◌, ◌+◌, ℕ, [], true, false, length, None, Some, IfOk, OnOk, IfSome, IsTrue, ◌↔◌};
 ghost use Rattle.rapid_text.specs.declared.event.Op.TheVariants.{Acquire, Release};
 ghost use Rattle.trace_rules.specs.Rules.{IsDisciplined};
@@ -11,17 +11,17 @@ use event_index::Indexed;
 use rapid_text::{Op, OutOfMemory};
 use std::alloc::Global;
 
-/// The acquires that found their lock free.
+/// The acquires whose thread did not hold the lock before.
 #[derive(Drop)]
 pub(crate) struct Sections {
-    // For each lock, in the order of the trace.
+    // For each lock its acquires, in the order of the trace.
     pub(crate) by_lock: Vec<Vec<u32>>,
-    // Those whose section is open.
+    // The acquires whose section is open.
     pub(crate) held: Vec<u32>,
 }
 
 impl Sections {
-    /// Before the first event.
+    /// The state before the first event. Fails if memory runs out.
     pub(crate) fn new(alloc: Global, indexed: &Indexed) -> Result<Sections, OutOfMemory>
         ensures { IfOk result (AreSections indexed.now 0) }
     {
@@ -35,7 +35,7 @@ impl Sections {
         }
     }
 
-    /// Takes the event in.
+    /// Adds the event. Fails if memory runs out.
     pub(crate) fn note(&mut self, indexed: &Indexed, event: u32) -> Result<(), OutOfMemory>
         requires event { event < length indexed.now.events }
         requires known { AreSections indexed.now event self.old }
@@ -54,7 +54,7 @@ impl Sections {
         }
     }
 
-    /// Whether both threads hold the lock, before the first event and before the second.
+    /// Whether both threads hold the lock before their events.
     pub(crate) fn is_shared(&self, indexed: &Indexed, first: u32, second: u32, lock: u32) -> bool
         requires known { AreSections indexed.now (length indexed.now.events) self.now }
         requires first { first < length indexed.now.events }
@@ -68,7 +68,7 @@ impl Sections {
         false
     }
 
-    /// The acquire since which the event's thread holds the lock before it.
+    /// The acquire since which the event's thread holds the lock before the event, or None.
     pub(crate) fn holder(&self, indexed: &Indexed, event: u32, lock: u32) -> Option<u32>
         requires known { AreSections indexed.now (length indexed.now.events) self.now }
         requires event { event < length indexed.now.events }
@@ -86,7 +86,7 @@ impl Sections {
         }
     }
 
-    // Adds the lock, where the event's thread holds it before the event.
+    // Appends the lock to `locks`, if the event's thread holds it before the event.
     pub(crate) fn add_held(
         &self,
         indexed: &Indexed,
@@ -119,7 +119,7 @@ impl Sections {
         }
     }
 
-    // Takes in an acquire.
+    // Adds an acquire.
     fn begin(&mut self, indexed: &Indexed, event: u32, lock: u32) -> Result<(), OutOfMemory>
         requires rules { IsDisciplined indexed.now.events }
         requires event { event < length indexed.now.events }
@@ -135,7 +135,7 @@ impl Sections {
         Ok(())
     }
 
-    // Takes in a release.
+    // Adds a release.
     fn end(&mut self, indexed: &Indexed, event: u32)
         requires event { event < length indexed.now.events }
         requires releases { (l : ℕ) × (op_at indexed.now.events event ≡ Some (Release l)) }
@@ -147,14 +147,14 @@ impl Sections {
         }
     }
 
-    // Where the acquire stands whose section the event ends.
+    // The index in `held` of the acquire whose section the event ends, or None.
     fn ended_by(&self, indexed: &Indexed, event: u32) -> Option<usize>
         requires known { AreSections indexed.now event self.now }
         requires event { event < length indexed.now.events }
         ensures found { IfSome result (EndsHeld indexed.now.events self.now event) }
         ensures none { result ≡ None → EndsNone indexed.now.events self.now event }
     {
-        // The section that began last mostly ends first.
+        // The section that began last usually ends first.
         let mut at = self.held.len();
         while at > 0 {
             at -= 1;
@@ -165,7 +165,7 @@ impl Sections {
         None
     }
 
-    // Whether the lock is free before the event, which acquires it.
+    // Whether no thread holds the lock before the event, which acquires it.
     fn is_free(&self, indexed: &Indexed, event: u32, lock: u32) -> bool
         requires rules { IsDisciplined indexed.now.events }
         requires event { event < length indexed.now.events }
@@ -183,7 +183,8 @@ impl Sections {
         }
     }
 
-    /// The last of the first `end` events that found the lock free. `seen` is how many events were taken in.
+    /// The last acquire among the first `end` events whose thread did not hold the lock before. `seen` is the number
+    /// of events added.
     pub(crate) fn last_before(
         &self,
         indexed: &Indexed,
@@ -207,7 +208,7 @@ impl Sections {
     }
 }
 
-// Adds so many empty lists.
+// Adds `count` empty lists.
 fn add_lists(alloc: Global, lists: &mut Vec<Vec<u32>>, count: u32) -> Result<(), OutOfMemory>
     requires { lists.old.items ≡ [] }
     ensures len { OnOk result (length lists.new.items ≡ count) }
@@ -231,7 +232,7 @@ pub(crate) fn is_open_at(indexed: &Indexed, acquire: u32, event: u32) -> bool
     }
 }
 
-// Whether the event lies in the section of the acquire.
+// Whether the event is in the section of the acquire.
 fn is_held_from(indexed: &Indexed, begun: u32, event: u32) -> bool
     requires begun { begun < length indexed.now.events }
     requires event { event < length indexed.now.events }
