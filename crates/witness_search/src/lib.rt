@@ -1,4 +1,4 @@
-//! Schedules that show a candidate for a race.
+//! Finds schedules that show a pair of conflicting events.
 #![tactic(auto)]
 
 mod refusal;

@@ -16,7 +16,7 @@ use rapid_text::OutOfMemory;
 use schedule::{ExtendRefusal, Schedule};
 use std::alloc::Global;
 
-// The pair that a search is to show, and for each event of the trace whether it is wanted for that.
+// The pair that a search is to show. For each event of the trace, `wanted` tells whether the search wants it.
 #[derive(Drop)]
 pub(crate) struct Aim {
     pub(crate) first: u32,
@@ -24,9 +24,9 @@ pub(crate) struct Aim {
     pub(crate) wanted: Vec<bool>,
 }
 
-/// Looks for a schedule that shows the pair: from `start` on it takes, again and again, the first event of
-/// the trace that is wanted, may come next, and is neither of the two; at most `budget` of them. That it
-/// finds a schedule wherever there is one is not claimed.
+/// Searches for a schedule that shows the pair. From `start` on, each step appends the first event of the trace that
+/// is wanted, is enabled, and is neither of the two. There are at most `budget` steps. The search may miss a schedule
+/// that exists. Fails if memory runs out.
 pub fn greedy(
     alloc: Global,
     indexed: &Indexed,
@@ -36,15 +36,16 @@ pub fn greedy(
     budget: u32,
 ) -> Result<Option<EventList>, OutOfMemory>
     requires trace { start.now.trace ≡ indexed.now }
-    // Of two events that do not conflict, or are no events, there is none.
+    // There is no such schedule for two events that do not conflict, or that the trace lacks.
     ensures no_conflict { IfOk result
         (λ found. ¬ IsConflicting indexed.now.events first second → found ≡ None) }
     ensures answer { IfOk result
         (λ found. IsConflicting indexed.now.events first second
         → IsGreedyAnswer indexed.now.events start.now.events first second budget found) }
-    // Memory is wanted only for two that conflict.
+    // Memory can run out only for two events that conflict.
     ensures refused { OnErr result (IsConflicting indexed.now.events first second) }
-    // What is found is a correct reordering that shows the pair, goes on from `start`, and is not much longer.
+    // The result is a correct reordering that shows the pair, begins with `start`, and is at most `budget` events
+    // longer.
     ensures reordering { IfOk result
         (λ found. IfSome found (IsCorrectReordering indexed.now.events)) }
     ensures shows { IfOk result
@@ -70,7 +71,7 @@ pub fn greedy(
     Ok(Some(events))
 }
 
-// Whether the two are events and conflict.
+// Whether both events exist and conflict.
 fn conflict(indexed: &Indexed, first: u32, second: u32) -> bool
     ensures first { result ≡ true → first < length indexed.now.events }
     ensures second { result ≡ true → second < length indexed.now.events }
@@ -98,7 +99,7 @@ fn copied(alloc: Global, indexed: &Indexed, start: &Schedule) -> Result<Schedule
     Ok(schedule)
 }
 
-// Takes steps until the pair is shown, or there is none to take. Answers whether it is shown.
+// Takes steps until the schedule shows the pair, or no step is possible. Returns whether it shows the pair.
 fn search(
     schedule: &mut Schedule,
     indexed: &Indexed,
@@ -141,7 +142,8 @@ fn take_step(schedule: &mut Schedule, indexed: &Indexed, event: u32) -> Result<(
     }
 }
 
-// The least event that may be taken. Only the next event of a thread may, so it looks at one of each.
+// The least event that the search may take. Only the next event of a thread may be enabled, so it looks at one for
+// each thread.
 fn next_step(schedule: &Schedule, indexed: &Indexed, aim: &Aim) -> Option<u32>
     requires trace { schedule.now.trace ≡ indexed.now }
     requires marks { length aim.now.wanted.items ≡ length indexed.now.events }
@@ -155,7 +157,7 @@ fn next_step(schedule: &Schedule, indexed: &Indexed, aim: &Aim) -> Option<u32>
     least
 }
 
-// The next event of the thread, where it may be taken.
+// The next event of the thread, if the search may take it.
 fn step_of(schedule: &Schedule, indexed: &Indexed, aim: &Aim, thread: u32) -> Option<u32>
     requires trace { schedule.now.trace ≡ indexed.now }
     requires marks { length aim.now.wanted.items ≡ length indexed.now.events }
@@ -173,7 +175,7 @@ fn step_of(schedule: &Schedule, indexed: &Indexed, aim: &Aim, thread: u32) -> Op
     }
 }
 
-// Whether the event is wanted, none of the pair, and enabled.
+// Whether the event is wanted, neither of the pair, and enabled.
 fn is_step(schedule: &Schedule, indexed: &Indexed, aim: &Aim, event: u32) -> bool
     requires trace { schedule.now.trace ≡ indexed.now }
     requires marks { length aim.now.wanted.items ≡ length indexed.now.events }
@@ -195,7 +197,7 @@ fn is_enabled(indexed: &Indexed, schedule: &Schedule, event: u32) -> bool
     schedule.enabled(indexed, event).is_ok()
 }
 
-// The lesser of the two, or the one that is there.
+// The lesser of the two, or the one that exists.
 fn lesser(left: Option<u32>, right: Option<u32>) -> Option<u32>
     ensures { result ≡ lesser left right }
 {

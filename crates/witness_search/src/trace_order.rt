@@ -1,5 +1,5 @@
-//! The least list in the order of the trace that shows a pair, after U. Mathur, A. Pavlogiannis and
-//! M. Viswanathan, "Optimal prediction of synchronization-preserving races" (POPL 2021).
+//! The least list in the order of the trace that shows a pair, after U. Mathur, A. Pavlogiannis and M. Viswanathan,
+//! "Optimal prediction of synchronization-preserving races" (POPL 2021).
 
 mod acquires;
 mod closing;

@@ -6,17 +6,17 @@ use event_index::Indexed;
 use rapid_text::{Op, OutOfMemory};
 use std::alloc::Global;
 
-// Events that were found, each once.
+// The events that were found, each once.
 #[derive(Drop)]
 pub(crate) struct Wanted {
     // In the order in which they were found.
     pub(crate) events: Vec<u32>,
-    // For each event of the trace whether it is among them.
+    // For each event of the trace, whether it was found.
     pub(crate) marks: Vec<bool>,
 }
 
-/// For each event whether it is wanted for the pair. It takes a step for each event that is, and for what
-/// that event asks for.
+/// For each event, whether it is wanted for the pair. It takes a step for each wanted event, and for each event that
+/// this one requires.
 pub(crate) fn wanted_for(
     alloc: Global,
     indexed: &Indexed,
@@ -43,7 +43,7 @@ pub(crate) fn wanted_for(
 }
 
 impl Wanted {
-    // Takes in the event where there is one, and where it was not found before.
+    // Adds the event, if there is one and it was not found before.
     fn take_in(&mut self, event: Option<u32>) -> Result<(), OutOfMemory>
         requires found { AreFound self.old.events.items self.old.marks.items }
         requires within { IfSome event (λ e. e < length self.old.marks.items) }
@@ -62,7 +62,7 @@ impl Wanted {
         Ok(())
     }
 
-    // Takes in the events that are looked for at this one.
+    // Adds the events that this one requires directly.
     fn take_in_sought(&mut self, indexed: &Indexed, event: u32) -> Result<(), OutOfMemory>
         requires event { event < length indexed.now.events }
         requires len { length self.old.marks.items ≡ length indexed.now.events }
@@ -78,9 +78,9 @@ impl Wanted {
     }
 }
 
-// The event that this one asks for by what it does: a read for the write that it sees, an acquire for the
-// release that ends its section, a join for the last event of the thread, or else its fork. The thread's other
-// events, and its fork, are asked for by that one and the bases before it.
+// The event that this one requires because of what it does. A read requires the write that it sees, and an acquire
+// the release that ends its section. A join requires the last event of the thread, or else its fork. That event and
+// the bases before it require the thread's other events and its fork.
 fn partner_of(indexed: &Indexed, event: u32) -> Option<u32>
     requires { event < length indexed.now.events }
     ensures partner { result ≡ partner_of indexed.now.events event }

@@ -1,4 +1,4 @@
--- What a search by counts starts from, and what it wants. No public clause cites this module.
+-- The start of a search by counts, and what it wants. No public clause cites this module.
 use Rattle.std.specs.Prelude.{◌≡◌, ℕ, ◌≤◌, length, slice_index}
 use Rattle.rapid_text.specs.Recording.{Recording}
 use Rattle.event_index.specs.Lookups.{events_of}
@@ -7,7 +7,7 @@ use Rattle.witness_search.specs.trace_order.Laws.{IsBaseOf}
 use Rattle.witness_search.specs.trace_order.Layout.{IsNeededRow}
 use Rattle.witness_search.specs.declared.trace_order.enabling.Aim.{Aim}
 
--- the start counts what is needed for b, and the other row what is wanted for the pair
+-- the start counts what b needs before it, and the other row counts what is wanted for the pair
 pub record IsAimFor (r : Recording) (a b : ℕ) (aim : Aim) : Type 0 where
   pub first : aim.first ≡ a
   pub second : aim.second ≡ b

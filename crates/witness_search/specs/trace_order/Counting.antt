@@ -1,5 +1,5 @@
--- A search that goes on from a row, and makes no list. No public clause but that of `turned_size` cites this module. `T` is
--- the events of a trace; a row tells for each thread how many of its events are counted.
+-- A search that starts from a row and makes no list. Of the public clauses only those of `turned_size` cite this
+-- module. `T` is the events of a trace. A row counts, for each thread, its first events.
 use Rattle.std.specs.Prelude.{◌≡◌, ◌≢◌, ◌⊎◌, ◌↔◌, ℕ, ◌<◌, ◌≤◌, ◌+◌, nat_lt, Bool, false, Vec, List, length, map, count_by, slice_get, slice_index, Option, Some, None, IfSome, AllPairs, Contains}
 use Rattle.std.specs.Global.{Global}
 use Rattle.rapid_text.specs.Recording.{Recording}
@@ -23,35 +23,35 @@ use Rattle.witness_search.specs.trace_order.Orders.{IsTurned}
 use Rattle.witness_search.specs.trace_order.Sizes.{HasSize}
 use Rattle.schedule.specs.Shows.{Shows}
 
--- A row of wanted events in the making: it counts the bases of the pair, what it counts is wanted, and with each event it
--- counts what is must-before that one.
+-- A row of wanted events in progress. It counts the bases of the pair, and all that it counts is wanted. With each
+-- event it counts what is must-before that event.
 pub record IsSeeking (T : List Event) (a b : ℕ) (row : ℕ → ℕ) : Type 0 where
   pub starts : (c : ℕ) → IsBaseOfPair T a b c → IsCounted T row c
   pub sound : (e : ℕ) → IsCounted T row e → IsWanted T a b e
   pub down : IsDownClosed T row
   pub within : (t : ℕ) → row t ≤ length (events_of T t)
 
--- the row counts the wanted events
+-- the row counts exactly the wanted events
 abbrev pub IsWantedRow : List Event → ℕ → ℕ → (ℕ → ℕ) → Type 0
 IsWantedRow T a b row = (e : ℕ) → IsCounted T row e ↔ IsWanted T a b e
 
--- r ends a section that the row counts the beginning of, and is not counted
+-- r ends a section whose beginning the row counts, and the row does not count r
 pub record IsAhead (T : List Event) (row : ℕ → ℕ) (r : ℕ) : Type 0 where
   pub start : ℕ
   pub has : IsCounted T row start
   pub ends : section_end T start ≡ Some r
   pub missing : ¬ IsCounted T row r
 
--- of the thread's events the row counts the ends of their sections
+-- for the thread's counted acquires, the row counts the ends of their sections
 abbrev pub IsEndedIn : List Event → (ℕ → ℕ) → ℕ → Type 0
 IsEndedIn T row t = (p k : ℕ) → thread_at T p ≡ Some t → IsCounted T row p → section_end T p ≡ Some k → IsCounted T row k
 
--- thread u holds the lock where it stands: the row counts a beginning of a section, and not its end
+-- thread u holds the lock after the row's events: the row counts the beginning of a section, and not its end
 abbrev pub IsHolding : List Event → (ℕ → ℕ) → ℕ → ℕ → Type 0
 IsHolding T row l u =
     (p : ℕ) × IsTaken T l u p × IsCounted T row p × ((k : ℕ) → section_end T p ≡ Some k → ¬ IsCounted T row k)
 
--- another thread does
+-- a thread other than t holds the lock
 abbrev pub IsHeldByOther : List Event → (ℕ → ℕ) → ℕ → ℕ → Type 0
 IsHeldByOther T row l t = (u : ℕ) × (u ≢ t) × IsHolding T row l u
 
@@ -63,7 +63,7 @@ counts_by T row e (Some v) = nat_lt (place_of T e) (row v.thread)
 abbrev pub counts : List Event → (ℕ → ℕ) → ℕ → Bool
 counts T row e = counts_by T row e (slice_get T e)
 
--- for each event whether the row counts it
+-- for each event, whether the row counts it
 abbrev pub marks_of : List Event → (ℕ → ℕ) → List Bool
 marks_of T row = map (counts T row) (before (length T))
 
@@ -71,8 +71,8 @@ marks_of T row = map (counts T row) (before (length T))
 abbrev pub counted_events : List Event → (ℕ → ℕ) → List ℕ
 counted_events T row = kept (counts T row) (length T)
 
--- The search has come to P, a correct reordering that goes on from the events that `start` counts: the row is P's, and what
--- is noted of a variable is its last write in P; where nothing is noted no step wrote it.
+-- The state of a search is P, a correct reordering. The row counts the events of P. A variable's noted write is its
+-- last write in P. For a variable without a note, the last write in P is that among the events that `start` counts.
 pub record IsAt (T : List Event) (start row : ℕ → ℕ) (last : ℕ → Option (Option ℕ)) (P : List ℕ) : Type 0 where
   pub correct : IsCorrectReordering T P
   pub counts : (t : ℕ) → row t ≡ count_by (is_of_thread T t) P
@@ -81,20 +81,20 @@ pub record IsAt (T : List Event) (start row : ℕ → ℕ) (last : ℕ → Optio
   pub noted : (x : ℕ) (o : Option ℕ) → last x ≡ Some o → last_write T x P ≡ o
   pub other : (x : ℕ) → last x ≡ None → last_write T x P ≡ last_write T x (counted_events T start)
 
--- what is noted once event e is taken: the variable that it writes, or nothing new
+-- the notes after event e is taken: e is noted for the variable that it writes; other notes stay
 abbrev pub IsNoted : List Event → ℕ → (ℕ → Option (Option ℕ)) → (ℕ → Option (Option ℕ)) → Type 0
 IsNoted T e last next =
     ((x : ℕ) × (op_at T e ≡ Some (Write x)) × (next x ≡ Some (Some e)) × ((y : ℕ) → y ≢ x → next y ≡ last y))
     ⊎ (((x : ℕ) → op_at T e ≢ Some (Write x)) × ((y : ℕ) → next y ≡ last y))
 
--- more may be noted: the last writes of variables that nothing was noted of, among the events that the start counts
+-- notes may be added: for variables without a note, their last writes among the events that the start counts
 pub record IsKept (T : List Event) (start : ℕ → ℕ) (last next : ℕ → Option (Option ℕ)) : Type 0 where
   pub noted :
       (x : ℕ) (o : Option ℕ) → next x ≡ Some o
       → (last x ≡ Some o) ⊎ ((last x ≡ None) × (o ≡ last_write T x (counted_events T start)))
   pub none : (x : ℕ) → next x ≡ None → last x ≡ None
 
--- event e is counted in its thread
+-- the new row counts event e in its thread, and nothing else is new
 pub record IsUp (T : List Event) (e : ℕ) (row new : ℕ → ℕ) : Type 0 where
   pub thread : ℕ
   pub of : thread_at T e ≡ Some thread
@@ -109,12 +109,12 @@ pub record IsTurnedOfSize (T : List Event) (a b budget : ℕ) (told : ℕ × ℕ
   pub shows : Shows T list a b
   pub size : HasSize T list told.0 told.1
 
--- what was found, if anything was, is of such a size
+-- the result of the search, if there is one, has such a size
 abbrev pub SizeIfTurned : List Event → ℕ → ℕ → ℕ → Option (ℕ × ℕ) → Type 0
 SizeIfTurned T a b budget found = IfSome found (IsTurnedOfSize T a b budget)
 
--- Of so many steps so many are left when the search from the least list after which b is ready can take no more: by those that it takes, the list
--- grows by an event each.
+-- The search from the least list after which b is ready takes at most `budget` steps, and `left` of them are not
+-- taken. Each step that it takes adds one event to the list.
 pub record IsLeft (T : List Event) (a b budget left : ℕ) : Type 0 where
   pub start : List ℕ
   pub are_needed : AreNeeded T (IsBaseOf T b) start
@@ -122,11 +122,11 @@ pub record IsLeft (T : List Event) (a b budget left : ℕ) : Type 0 where
   pub are_wanted : AreWanted T a b wanted
   pub steps : length (after_steps T a b wanted start budget) + left ≡ length start + budget
 
--- if the two conflict, so many steps are left
+-- if the two conflict, `left` steps are not taken
 abbrev pub IsLeftOf : List Event → ℕ → ℕ → ℕ → ℕ → Type 0
 IsLeftOf T a b budget left = IsConflicting T a b → IsLeft T a b budget left
 
--- what event e does may be done after P
+-- the operation of event e is possible after P
 pub record IsFree (T : List Event) (P : List ℕ) (e : ℕ) : Type 0 where
   pub writer : SeesItsWriter T P e
   pub lock : FindsLockFree T P e

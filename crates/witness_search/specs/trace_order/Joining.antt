@@ -1,5 +1,5 @@
--- Rows that are joined until they count what is needed. No public clause cites this module. `T` is the events of a
--- trace; a row tells for each thread how many of its events are counted.
+-- Rows that are joined until they count all needed events. No public clause cites this module. `T` is the events of a
+-- trace. A row counts, for each thread, its first events.
 use Rattle.std.specs.Prelude.{◌≡◌, ◌⊎◌, ℕ, ◌≤◌, List, length, Option, Some, Contains}
 use Rattle.rapid_text.specs.declared.event.Event.{Event}
 use Rattle.event_index.specs.Events.{thread_at}
@@ -10,11 +10,11 @@ use Rattle.witness_search.specs.trace_order.Acquires.{IsTaken}
 use Rattle.witness_search.specs.trace_order.InOrder.{EndsBetween, IsNeeded}
 use Rattle.witness_search.specs.declared.trace_order.lasting.Latest.{Latest}
 
--- with each event the row counts what is must-before it
+-- with each event, the row counts what is must-before it
 abbrev pub IsDownClosed : List Event → (ℕ → ℕ) → Type 0
 IsDownClosed T row = (a e : ℕ) → IsMustBefore T a e → IsCounted T row e → IsCounted T row a
 
--- the new row counts what the row counts, these events and what is must-before them, and no more
+-- the new row counts what the old row counts, these events and what is must-before them, and nothing else
 pub record Joins (T : List Event) (these : ℕ → Type 0) (row new : ℕ → ℕ) : Type 0 where
   pub grows : (t : ℕ) → row t ≤ new t
   pub has : (d : ℕ) → these d → IsCounted T new d
@@ -22,7 +22,7 @@ pub record Joins (T : List Event) (these : ℕ → Type 0) (row new : ℕ → �
   pub down : IsDownClosed T row → IsDownClosed T new
   pub within : ((t : ℕ) → row t ≤ length (events_of T t)) → (t : ℕ) → new t ≤ length (events_of T t)
 
--- what the row counts is needed; it counts the start, and with each event what is must-before it
+-- all that the row counts is needed; it counts the start, and with each event what is must-before it
 pub record IsJoined (T : List Event) (start : ℕ → Type 0) (row : ℕ → ℕ) : Type 0 where
   pub starts : (c : ℕ) → start c → IsCounted T row c
   pub sound : (a : ℕ) → IsCounted T row a → IsNeeded T start a
@@ -47,20 +47,20 @@ pub record IsLastCounted (T : List Event) (row : ℕ → ℕ) (events : List ℕ
   pub counted : IsCounted T row p
   pub last : (q : ℕ) → Contains events q → IsCounted T row q → q ≤ p
 
--- m took the lock while it was free, and is counted
+-- m's thread did not hold the lock before m, and the row counts m
 pub record IsCountedTaken (T : List Event) (row : ℕ → ℕ) (l : ℕ) (m : Latest) : Type 0 where
   pub taken : IsTaken T l m.thread m.event
   pub counted : IsCounted T row m.event
 
--- no counted event of the lane is later than m
+-- no counted event of the lane is later than the latest acquire
 abbrev pub IsUpToLatest : List Event → (ℕ → ℕ) → Option Latest → List ℕ → Type 0
 IsUpToLatest T row latest events = (q : ℕ) → Contains events q → IsCounted T row q → (m : Latest) × (latest ≡ Some m) × (q ≤ m.event)
 
--- the row counts the ends of the sections of these events that it counts
+-- if the row counts one of these events, it counts the end of its section
 abbrev pub AreEnded : List Event → (ℕ → ℕ) → List ℕ → Type 0
 AreEnded T row events = (p r : ℕ) → Contains events p → IsCounted T row p → section_end T p ≡ Some r → IsCounted T row r
 
--- r has to be counted, since the row counts two acquires of a lock, and is not
+-- the row has to count r, since it counts two acquires of a lock, and does not
 pub record IsDue (T : List Event) (row : ℕ → ℕ) (r : ℕ) : Type 0 where
   pub first : ℕ
   pub second : ℕ
@@ -69,6 +69,6 @@ pub record IsDue (T : List Event) (row : ℕ → ℕ) (r : ℕ) : Type 0 where
   pub also : IsCounted T row second
   pub missing : ¬ IsCounted T row r
 
--- between acquires of the lock that the row counts it counts the end of the section of the earlier
+-- for each two counted acquires of the lock by different threads, the row counts the end of the earlier section
 abbrev pub IsClosedOn : List Event → (ℕ → ℕ) → ℕ → Type 0
 IsClosedOn T row l = (p r e : ℕ) (s : EndsBetween T p r e) → s.lock ≡ l → IsCounted T row p → IsCounted T row e → IsCounted T row r

@@ -1,4 +1,4 @@
-//! For each lock and thread the acquires that found the lock free.
+//! For each lock and thread, the acquires whose thread did not hold the lock before.
 ghost use Rattle.std.specs.Prelude.{◌≡◌, ◌<◌, ◌+◌, ◌-◌, length, true, false, AllPairs, IfOk, OnOk, Some};
 ghost use Rattle.rapid_text.specs.declared.event.Op.TheVariants.{Acquire};
 ghost use Rattle.event_index.specs.Events.{op_at, thread_at};
@@ -15,22 +15,22 @@ use std::alloc::Global;
 use std::marker::Model;
 use std::snapshot::Snapshot;
 
-/// What lists in order are looked up in: the acquires of a trace that found their lock free, by locks and threads; its
-/// writes by variables; and how far its sections reach. Memory follows the number of events.
+/// Tables from which lists in order are computed: for each lock and thread the acquires whose thread did not hold the
+/// lock before, the writes of each variable, and how far sections reach. Memory follows the number of events.
 #[derive(Drop)]
 pub struct Acquires {
     trace: Snapshot<Indexed>,
-    // For each lock its lanes, by rising thread.
+    // For each lock its lanes, in rising order of their threads.
     pub(crate) by_lock: Vec<Vec<Lane>>,
-    // The locks that have several.
+    // The locks that have more than one lane.
     pub(crate) shared: Vec<u32>,
-    // For each variable its writes, rising.
+    // For each variable its writes, in the order of the trace.
     pub(crate) writes: Vec<Vec<u32>>,
-    // For each event the last of it and of the ends of the sections that its thread began up to it.
+    // For each event, the last of the event and the ends of all sections that its thread began up to it.
     pub(crate) reach: Vec<u32>,
 }
 
-/// The acquires of one lock by one thread that found it free, in the order of the trace.
+/// The acquires of one lock by one thread that did not hold it before, in the order of the trace.
 #[derive(Drop)]
 pub(crate) struct Lane {
     pub(crate) thread: u32,
@@ -50,7 +50,8 @@ impl Model for Acquires {
 }
 
 impl Acquires {
-    /// Goes over the events once. They know whose they are, and need the index no more.
+    /// Makes the tables in one pass over the events. They keep their trace for proofs alone, so the index may be
+    /// dropped.
     pub fn new(alloc: Global, indexed: &Indexed) -> Result<Acquires, OutOfMemory>
         ensures ok { IfOk result (λ acquires. acquires ≡ indexed.now) }
     {
@@ -107,7 +108,7 @@ fn add_thread(
     Ok(())
 }
 
-// Adds the event, where it is an acquire that found its lock free.
+// Adds the event, if it is an acquire whose thread did not hold the lock before.
 fn add_event(
     alloc: Global,
     by_lock: &mut Vec<Vec<Lane>>,
@@ -134,7 +135,7 @@ fn add_event(
     Ok(())
 }
 
-// Adds the acquire to the lane of its thread, which is the last or a new one.
+// Adds the acquire to the lane of its thread, which is the last lane or a new one.
 fn add_acquire(
     alloc: Global,
     lanes: &mut Vec<Lane>,
@@ -157,7 +158,7 @@ fn add_acquire(
     Ok(())
 }
 
-// Where the lane of the thread stands, made where there is none.
+// The index of the thread's lane. If there is none, the function adds one.
 fn lane_for(
     alloc: Global,
     lanes: &mut Vec<Lane>,
@@ -181,7 +182,7 @@ fn lane_for(
     Ok(count)
 }
 
-// Whether the last lane is one of the thread.
+// Whether the last lane is that of the thread.
 fn is_last_of(lanes: &[Lane], thread: u32) -> bool
     ensures some { result ≡ true → 0 < length lanes.now }
     ensures last { result ≡ true → IsOneOf lanes.now (length lanes.now - 1) thread }
@@ -193,7 +194,7 @@ fn is_last_of(lanes: &[Lane], thread: u32) -> bool
     lanes[lanes.len() - 1].thread == thread
 }
 
-// Whether the acquire found its lock free, by those of its thread before it that did.
+// Whether the thread of the acquire did not hold the lock before, judged by its earlier outermost acquires.
 fn is_free(events: &[u32], indexed: &Indexed, thread: u32, event: u32, lock: u32) -> bool
     requires event { event < length indexed.now.events }
     requires of { thread_at indexed.now.events event ≡ Some thread }
@@ -213,7 +214,7 @@ fn is_free(events: &[u32], indexed: &Indexed, thread: u32, event: u32, lock: u32
     }
 }
 
-// The locks that have several lanes.
+// The locks that have more than one lane.
 fn shared_of(alloc: Global, by_lock: &[Vec<Lane>], locks: u32) -> Result<Vec<u32>, OutOfMemory>
     requires len { length by_lock.now ≡ locks }
     ensures { IfOk result (λ made. AreShared by_lock.now made.items) }

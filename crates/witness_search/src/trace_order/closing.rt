@@ -1,4 +1,4 @@
-//! The events that are needed, as a count a thread: they are closed along threads.
+//! The needed events as one count for each thread, since with an event its thread's earlier events are needed.
 ghost use Rattle.std.specs.Prelude.{◌≡◌, ◌≢◌, ◌<◌, ◌≤◌, ℕ, length, IfOk, IfSome, None, OnOk, Some, slice_index, replicate};
 ghost use Rattle.rapid_text.specs.declared.event.Op.TheVariants.{Acquire};
 ghost use Rattle.event_index.specs.Events.{op_at, thread_at};
@@ -11,7 +11,7 @@ use event_index::Indexed;
 use rapid_text::{Op, OutOfMemory};
 use std::alloc::Global;
 
-/// For each thread how many of its events are needed, by a list in the order of the trace that has the two events.
+/// For each thread, the number of its events that a list in the order of the trace needs if it has the two events.
 pub(crate) fn needed_row(
     alloc: Global,
     indexed: &Indexed,
@@ -31,7 +31,7 @@ pub(crate) fn needed_row(
     }
 }
 
-// Counts in the row what is needed, where it counts nothing yet.
+// Sets the row to the needed events. It is all zeros before.
 fn close(
     alloc: Global,
     row: &mut Vec<u32>,
@@ -53,7 +53,7 @@ fn close(
     Ok(())
 }
 
-// The same, where no event is visited and no lock taken.
+// The same, before any event is visited and any lock acquired.
 fn close_by(
     row: &mut Vec<u32>,
     visited: &mut Vec<u32>,
@@ -100,7 +100,7 @@ fn nones(alloc: Global, count: usize) -> Result<Vec<Option<u32>>, OutOfMemory>
     Ok(vec![in alloc; None; count]?)
 }
 
-// The event of the thread at this place.
+// The event at this place of the thread.
 fn event_in(indexed: &Indexed, thread: u32, place: u32) -> u32
     requires thread { thread < length indexed.now.threads }
     requires place { place < length (events_of indexed.now.events thread) }
@@ -111,7 +111,7 @@ fn event_in(indexed: &Indexed, thread: u32, place: u32) -> u32
     indexed.thread_events(thread)[place as usize]
 }
 
-// A thread with events that are counted and were not visited; the one named where it has some.
+// A thread with counted events that were not visited; `near`, if it has some. None if there is no such thread.
 fn behind(row: &[u32], visited: &[u32], threads: u32, near: u32) -> Option<u32>
     requires row { length row.now ≡ threads }
     requires visited { length visited.now ≡ threads }
@@ -129,7 +129,7 @@ fn behind(row: &[u32], visited: &[u32], threads: u32, near: u32) -> Option<u32>
     None
 }
 
-// Counts the event, and with it those before it in its thread.
+// Counts the event and those before it in its thread.
 fn take_in(row: &mut Vec<u32>, indexed: &Indexed, event: Option<u32>)
     requires within { IfSome event (λ e. e < length indexed.now.events) }
     requires len { length row.old.items ≡ length indexed.now.threads }
@@ -142,7 +142,7 @@ fn take_in(row: &mut Vec<u32>, indexed: &Indexed, event: Option<u32>)
     }
 }
 
-// Takes in what the event asks for: its base, its source, and what its section asks for.
+// Counts what the event requires: its base, its source, and the section end that an acquire requires.
 fn visit(row: &mut Vec<u32>, latest: &mut Vec<Option<u32>>, indexed: &Indexed, event: u32)
     requires event { event < length indexed.now.events }
     requires len { length row.old.items ≡ length indexed.now.threads }
@@ -159,7 +159,7 @@ fn visit(row: &mut Vec<u32>, latest: &mut Vec<Option<u32>>, indexed: &Indexed, e
     }
 }
 
-/// The lock that the event acquires, if it does.
+/// The lock that the event acquires, or None.
 pub(crate) fn lock_of(indexed: &Indexed, event: u32) -> Option<u32>
     requires event { event < length indexed.now.events }
     ensures acquires { IfSome result (λ l. op_at indexed.now.events event ≡ Some (Acquire l)) }
@@ -176,8 +176,8 @@ pub(crate) fn lock_of(indexed: &Indexed, event: u32) -> Option<u32>
     }
 }
 
-// The last event that comes before this one for what this one does: its writer, or the end of the thread that it
-// joins.
+// The last event that comes before this one because of what this one does: the write that it sees, or the end of the
+// thread that it joins.
 fn source_at(indexed: &Indexed, event: u32) -> Option<u32>
     requires event { event < length indexed.now.events }
     ensures source { result ≡ source_of indexed.now.events event }
@@ -196,7 +196,7 @@ fn source_at(indexed: &Indexed, event: u32) -> Option<u32>
     }
 }
 
-// Of the last acquire of the lock that was visited and this one, takes in the end of the section of the earlier.
+// Counts the end of the section of the earlier one of this acquire and the last visited acquire of the lock.
 fn visit_acquire(
     row: &mut Vec<u32>,
     latest: &mut Vec<Option<u32>>,
@@ -218,15 +218,15 @@ fn visit_acquire(
     latest[lock as usize] = Some(step.last);
 }
 
-// What an acquire asks for, and which acquire of its lock is the last then.
+// The section end that an acquire requires, and the last acquire of its lock afterwards.
 #[derive(Clone, Copy)]
 struct Step {
     owed: Option<u32>,
     last: u32,
 }
 
-// `last` is the last acquire of the event's lock that was visited. Of the two the earlier has to end, but where the
-// event lies in its section.
+// `last` is the last visited acquire of the event's lock. The section of the earlier of the two has to end, unless
+// the event is in it.
 fn step_of(indexed: &Indexed, last: Option<u32>, event: u32) -> Step
     requires event { event < length indexed.now.events }
     requires named { IfSome last (λ m. m < length indexed.now.events) }

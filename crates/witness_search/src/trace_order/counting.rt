@@ -1,4 +1,4 @@
-//! A search beyond the order of the trace that makes no list: where it stands is a count a thread.
+//! A search beyond the order of the trace that makes no list: its state is a count for each thread.
 ghost use Rattle.std.specs.Prelude.{◌≡◌, ◌<◌, ◌≤◌, ◌+◌, length, nat_eq, IfSome, OnOk, Ok, None, Option, Some, true, false};
 ghost use Rattle.std.specs.HashMap.{get};
 ghost use Rattle.event_index.specs.Relations.{IsConflicting};
@@ -16,8 +16,8 @@ use event_index::Indexed;
 use rapid_text::OutOfMemory;
 use std::collections::HashMap;
 
-/// Takes steps until the pair is shown, or there is none to take; no more than are left. Answers whether it is shown; where it is not,
-/// as many fewer are left as were taken.
+/// Takes at most `left` steps until the pair is shown or no step is possible. Returns whether it is shown. If not,
+/// `left` falls by the number of steps taken. Fails if memory runs out.
 pub(crate) fn search(
     reached: &mut Reached,
     indexed: &Indexed,
@@ -61,7 +61,7 @@ pub(crate) fn search(
     Ok(is_shown(indexed, aim, reached.row.as_slice()))
 }
 
-// Whether the pair is shown.
+// Whether the row shows the pair.
 fn is_shown(indexed: &Indexed, aim: &Aim, row: &[u32]) -> bool
     requires conflict { IsConflicting indexed.now.events aim.now.first aim.now.second }
     requires first { aim.now.first < length indexed.now.events }
@@ -75,7 +75,7 @@ fn is_shown(indexed: &Indexed, aim: &Aim, row: &[u32]) -> bool
     is_ready(indexed, row, aim.second)
 }
 
-// Counts the event, which is the next of its thread, and notes what it writes.
+// Counts the event, which is the next of its thread, and notes its write if it is one.
 fn take_step(reached: &mut Reached, indexed: &Indexed, event: u32) -> Result<(), OutOfMemory>
     requires event { event < length indexed.now.events }
     requires row { length reached.old.row.items ≡ length indexed.now.threads }
@@ -89,7 +89,7 @@ fn take_step(reached: &mut Reached, indexed: &Indexed, event: u32) -> Result<(),
     Ok(())
 }
 
-// Notes what the event writes.
+// Notes the event as the last write of its variable, if it is a write.
 fn note(
     last: &mut HashMap<u32, Option<u32>>,
     indexed: &Indexed,
@@ -116,7 +116,8 @@ fn count_up(row: &mut Vec<u32>, indexed: &Indexed, event: u32)
     row[thread] += 1;
 }
 
-// The least event that may be taken. Only the next event of a thread may, so it looks at one of each.
+// The least event that the search may take. Only the next event of a thread may be enabled, so it looks at one for
+// each thread.
 fn next_step(indexed: &Indexed, acquires: &Acquires, aim: &Aim, reached: &Reached) -> Option<u32>
     requires acquires { acquires.now ≡ indexed.now }
     requires start { length aim.now.start.items ≡ length indexed.now.threads }
@@ -133,7 +134,7 @@ fn next_step(indexed: &Indexed, acquires: &Acquires, aim: &Aim, reached: &Reache
     least
 }
 
-// The next event of the thread, where it may be taken.
+// The next event of the thread, if the search may take it.
 fn step_of(
     indexed: &Indexed,
     acquires: &Acquires,
@@ -164,7 +165,7 @@ fn step_of(
     }
 }
 
-// The lesser of the two, or the one that is there.
+// The lesser of the two, or the one that exists.
 fn lesser(left: Option<u32>, right: Option<u32>) -> Option<u32>
     ensures { result ≡ lesser left right }
 {

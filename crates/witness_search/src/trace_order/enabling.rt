@@ -1,4 +1,4 @@
-//! Which events may come next where a search stands.
+//! Which events are enabled at a state of a search.
 ghost use Rattle.std.specs.Prelude.{◌≡◌, ◌<◌, ◌↔◌, length, IsTrue, None, Option, Some};
 ghost use Rattle.std.specs.HashMap.{get};
 ghost use Rattle.event_index.specs.Events.{thread_at};
@@ -17,7 +17,8 @@ use event_index::Indexed;
 use rapid_text::Op;
 use std::collections::HashMap;
 
-/// The pair that a search is to show, what it starts from, and what it wants, each as a count a thread.
+/// The pair that a search is to show. `start` and `wanted` count the events of each thread that the search starts
+/// from and wants.
 #[derive(Drop)]
 pub(crate) struct Aim {
     pub(crate) first: u32,
@@ -26,15 +27,15 @@ pub(crate) struct Aim {
     pub(crate) wanted: Vec<u32>,
 }
 
-/// Where a search stands: for each thread how many of its events are there, and the last write of each variable that
-/// was looked for or written since the start.
+/// The state of a search: for each thread the number of its events so far, and the last write of each variable that
+/// was looked up or written since the start.
 #[derive(Drop)]
 pub(crate) struct Reached {
     pub(crate) row: Vec<u32>,
     pub(crate) last: HashMap<u32, Option<u32>>,
 }
 
-/// Whether the event, one of the pair, is the next of its thread, which was forked.
+/// Whether the event, one of the pair, is the next of its thread, and the thread's fork is counted if there is one.
 pub(crate) fn is_ready(indexed: &Indexed, row: &[u32], event: u32) -> bool
     requires event { event < length indexed.now.events }
     requires len { length row.now ≡ length indexed.now.threads }
@@ -47,7 +48,7 @@ pub(crate) fn is_ready(indexed: &Indexed, row: &[u32], event: u32) -> bool
     is_forked(indexed, row, thread)
 }
 
-// Whether the thread's fork is counted; true too where nothing forks it.
+// Whether the thread's fork is counted. True also if no event forks the thread.
 fn is_forked(indexed: &Indexed, row: &[u32], thread: u32) -> bool
     requires thread { thread < length indexed.now.threads }
     requires len { length row.now ≡ length indexed.now.threads }
@@ -59,7 +60,7 @@ fn is_forked(indexed: &Indexed, row: &[u32], thread: u32) -> bool
     }
 }
 
-/// Whether the event, which is the next of its thread, is wanted, none of the pair, and may come next.
+/// Whether the event, which is the next of its thread, is wanted, neither of the pair, and enabled.
 pub(crate) fn is_step(
     indexed: &Indexed,
     acquires: &Acquires,
@@ -91,7 +92,7 @@ pub(crate) fn is_step(
     may_come(indexed, acquires, aim, reached, thread, event)
 }
 
-// Whether the event, which is the next of its thread, may come next.
+// Whether the event, which is the next of its thread, is enabled.
 fn may_come(
     indexed: &Indexed,
     acquires: &Acquires,
@@ -117,7 +118,7 @@ fn may_come(
     is_free(indexed, acquires, aim, reached, event)
 }
 
-// Whether what the event does may be done.
+// Whether the event's operation is possible now.
 fn is_free(indexed: &Indexed, acquires: &Acquires, aim: &Aim, reached: &Reached, event: u32) -> bool
     requires acquires { acquires.now ≡ indexed.now }
     requires event { event < length indexed.now.events }
@@ -148,7 +149,7 @@ fn is_free(indexed: &Indexed, acquires: &Acquires, aim: &Aim, reached: &Reached,
     }
 }
 
-// Whether all events of the thread are counted, and its fork where one forks it.
+// Whether all events of the thread are counted, and also its fork if it has one.
 fn is_ended(indexed: &Indexed, row: &[u32], thread: u32) -> bool
     requires thread { thread < length indexed.now.threads }
     requires len { length row.now ≡ length indexed.now.threads }

@@ -1,4 +1,4 @@
-//! Who holds a lock where a row stands.
+//! Who holds a lock after the events that a row counts.
 ghost use Rattle.std.specs.Prelude.{◌≡◌, ◌↔◌, length, IsTrue};
 ghost use Rattle.witness_search.specs.trace_order.Acquires.{IsLane, AreLanes};
 ghost use Rattle.witness_search.specs.trace_order.Counting.{IsHolding, IsHeldByOther};

@@ -1,4 +1,4 @@
-//! The events that are needed, by joining the rows of must-before.
+//! Computes the needed events by joining the rows of must-before.
 ghost use Rattle.std.specs.Prelude.{◌≡◌, ◌<◌, ◌≤◌, ℕ, length, IsOk, IfOk, IfErr, IfSome, Some, None, All};
 ghost use Rattle.rapid_text.specs.Recording.{IsWellFormed};
 ghost use Rattle.trace_rules.specs.Rules.{IsDisciplined};
@@ -19,7 +19,8 @@ use must_order::Must;
 use rapid_text::OutOfMemory;
 use std::alloc::Global;
 
-/// For each thread how many of its events are needed for the pair, which has a list in order.
+/// For each thread, the number of its events that are needed for the pair. Fails if the pair has no list in order, or
+/// if memory runs out.
 pub(crate) fn joined_in_order(
     alloc: Global,
     indexed: &Indexed,
@@ -47,7 +48,7 @@ pub(crate) fn joined_in_order(
     unless_needed(row, indexed, first, second)
 }
 
-// For each thread how many of its events are needed for the pair.
+// For each thread, the number of its events that are needed for the pair.
 fn joined_for(
     alloc: Global,
     indexed: &Indexed,
@@ -74,7 +75,7 @@ fn joined_for(
     )
 }
 
-/// For each thread how many of its events are needed, by a list in the order of the trace that has the two events.
+/// For each thread, the number of its events that a list in the order of the trace needs if it has the two events.
 pub(crate) fn joined_row(
     alloc: Global,
     indexed: &Indexed,
@@ -100,7 +101,7 @@ pub(crate) fn joined_row(
     Ok(row)
 }
 
-// The row that counts the two events, where they are there, and what is must-before them.
+// The row that counts the given events and what is must-before them.
 fn begun(
     alloc: Global,
     indexed: &Indexed,
@@ -122,7 +123,7 @@ fn begun(
     Ok(row)
 }
 
-/// Counts the event, where there is one, and what is must-before it.
+/// Counts the event, if there is one, and what is must-before it.
 pub(crate) fn raise(row: &mut Vec<u32>, indexed: &Indexed, must: &Must, event: Option<u32>)
     requires must { must.now ≡ indexed.now }
     requires within { IfSome event (λ e. e < length indexed.now.events) }
@@ -136,7 +137,7 @@ pub(crate) fn raise(row: &mut Vec<u32>, indexed: &Indexed, must: &Must, event: O
     }
 }
 
-/// The end of a section that has to be counted, and at which of the shared locks it was found.
+/// The end of a section that the row has to count, and the index of its lock among the shared locks.
 #[derive(Clone, Copy)]
 struct Due {
     end: u32,
@@ -144,8 +145,8 @@ struct Due {
 }
 
 impl Acquires {
-    // The end of a section that has to be counted and is not. One is looked for from the lock on at which the last was
-    // found, and then from the first on.
+    // The end of a section that the row has to count and does not. The search begins at the lock where the last one
+    // was found, and continues from the first lock.
     fn due(&self, indexed: &Indexed, row: &[u32], near: usize) -> Option<Due>
         requires trace { self.now ≡ indexed.now }
         requires len { length row.now ≡ length indexed.now.threads }
@@ -161,7 +162,7 @@ impl Acquires {
     }
 }
 
-// The same of the shared locks, from one on up to the last, and then of those before it.
+// The same for the shared locks from index `near` to the last, and then for those before it.
 fn due_around(
     by_lock: &[Vec<Lane>],
     shared: &[u32],
@@ -184,7 +185,7 @@ fn due_around(
     }
 }
 
-// The same of the shared locks from one on up to another.
+// The same for the shared locks from index `near` up to `to`.
 fn due_from(
     by_lock: &[Vec<Lane>],
     shared: &[u32],

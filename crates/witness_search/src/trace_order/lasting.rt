@@ -1,4 +1,4 @@
-//! Of the acquires of a lock that a row counts the last, and the ends of sections that it does not count yet.
+//! The last acquires of a lock that a row counts, and the ends of sections that it does not count yet.
 ghost use Rattle.std.specs.Prelude.{◌≡◌, ◌<◌, ◌≤◌, ℕ, length, AllPairs, Contains, IfSome, None, Some};
 ghost use Rattle.witness_search.specs.trace_order.Acquires.{IsLane, AreLanes};
 ghost use Rattle.witness_search.specs.trace_order.Joining.{IsEndOf, IsLastUpTo, IsLastCounted, IsCountedTaken, IsUpToLatest, IsDue, IsClosedOn};
@@ -15,7 +15,7 @@ pub(crate) struct Latest {
     pub(crate) event: u32,
 }
 
-/// The end of a section of the lock that is needed, and that the row does not count.
+/// The end of a needed section of the lock that the row does not count, or None.
 pub(crate) fn due_on(lanes: &[Lane], indexed: &Indexed, row: &[u32], lock: u32) -> Option<u32>
     requires lanes { AreLanes indexed.now lock lanes.now }
     requires len { length row.now ≡ length indexed.now.threads }
@@ -34,7 +34,7 @@ pub(crate) fn due_on(lanes: &[Lane], indexed: &Indexed, row: &[u32], lock: u32) 
     None
 }
 
-// The last acquire of the lock that the row counts.
+// The last acquire of the lock that the row counts, or None.
 fn latest_of(lanes: &[Lane], indexed: &Indexed, row: &[u32], lock: u32) -> Option<Latest>
     requires lanes { AreLanes indexed.now lock lanes.now }
     requires len { length row.now ≡ length indexed.now.threads }
@@ -49,7 +49,7 @@ fn latest_of(lanes: &[Lane], indexed: &Indexed, row: &[u32], lock: u32) -> Optio
     latest
 }
 
-// The later of this acquire and the last of the lane that the row counts.
+// The later of this acquire and the last acquire of the lane that the row counts.
 fn later(
     lane: &Lane,
     indexed: &Indexed,
@@ -83,8 +83,8 @@ fn later(
     }
 }
 
-// The end of the section of the lane's last acquire that the row counts, where it is due for the latest of all and not
-// counted.
+// The end of the section of the lane's last counted acquire, if the row has to count it because of the latest acquire
+// and does not.
 fn due_by(lane: &Lane, indexed: &Indexed, row: &[u32], lock: u32, latest: Latest) -> Option<u32>
     requires lane { IsLane indexed.now lock lane.now }
     requires len { length row.now ≡ length indexed.now.threads }
@@ -107,7 +107,7 @@ fn due_by(lane: &Lane, indexed: &Indexed, row: &[u32], lock: u32, latest: Latest
     Some(end)
 }
 
-/// The last acquire of the lane that the row counts.
+/// The last acquire of the lane that the row counts, or None.
 pub(crate) fn last_in(lane: &Lane, indexed: &Indexed, row: &[u32], lock: u32) -> Option<u32>
     requires lane { IsLane indexed.now lock lane.now }
     requires len { length row.now ≡ length indexed.now.threads }
@@ -120,7 +120,7 @@ pub(crate) fn last_in(lane: &Lane, indexed: &Indexed, row: &[u32], lock: u32) ->
     last_up_to(lane.events.as_slice(), end)
 }
 
-/// The last event of the thread that the row counts.
+/// The last event of the thread that the row counts, or None.
 pub(crate) fn end_of(indexed: &Indexed, row: &[u32], thread: u32) -> Option<u32>
     requires thread { thread < length indexed.now.threads }
     requires len { length row.now ≡ length indexed.now.threads }
@@ -135,7 +135,7 @@ pub(crate) fn end_of(indexed: &Indexed, row: &[u32], thread: u32) -> Option<u32>
     Some(indexed.thread_events(thread)[count - 1])
 }
 
-// The last of the events up to this one.
+// The last of the events up to `end`, or None.
 fn last_up_to(events: &[u32], end: u32) -> Option<u32>
     requires rising { AllPairs (λ x y. x < y) events.now }
     ensures last { IfSome result (IsLastUpTo events.now end) }

@@ -19,8 +19,8 @@ use event_index::{EventList, Indexed};
 use rapid_text::OutOfMemory;
 use std::alloc::Global;
 
-/// The least list in the order of the trace that is a correct reordering and shows the pair. Where it is refused for
-/// another reason than want of memory there is no such list.
+/// The least list in the order of the trace that is a correct reordering and shows the pair. Unless memory runs out,
+/// a refusal means that there is no such list.
 pub fn in_order(
     alloc: Global,
     indexed: &Indexed,
@@ -41,7 +41,8 @@ pub fn in_order(
     Ok(list)
 }
 
-/// For each thread how many of its events are needed for the pair, which has a list in order.
+/// For each thread, the number of its events that are needed for the pair. Fails if the pair has no list in order, or
+/// if memory runs out.
 pub(crate) fn row_in_order(
     alloc: Global,
     indexed: &Indexed,
@@ -66,7 +67,7 @@ pub(crate) fn row_in_order(
     unless_needed(row, indexed, first, second)
 }
 
-/// The row of what is needed for the pair, unless one of the two is.
+/// Returns the row of what the pair needs, unless it counts one of the two.
 pub(crate) fn unless_needed(
     row: Vec<u32>,
     indexed: &Indexed,
@@ -93,7 +94,7 @@ pub(crate) fn unless_needed(
     Ok(row)
 }
 
-/// Whether the pair conflicts, and if not the first cause.
+/// Whether the two events exist and conflict; if not, the first cause.
 pub(crate) fn judge(indexed: &Indexed, first: u32, second: u32) -> Result<(), InOrderRefusal>
     ensures disciplined { IsDisciplined indexed.now.events }
     ensures well_formed { IsWellFormed indexed.now }
@@ -114,7 +115,7 @@ pub(crate) fn judge(indexed: &Indexed, first: u32, second: u32) -> Result<(), In
     Ok(())
 }
 
-// For each thread how many of its events are needed for the pair.
+// For each thread, the number of its events that are needed for the pair.
 fn row_for(
     alloc: Global,
     indexed: &Indexed,

@@ -1,26 +1,26 @@
-//! What each event of a list waits for, by the places of the list. Nothing is promised of it: an order that is made
-//! of it is judged.
+//! What each event of a list waits for, by positions in the list. Nothing is proved about it: a checked call judges
+//! the order that is made from it.
 use event_index::Indexed;
 use rapid_text::{Op, OutOfMemory};
 use std::alloc::Global;
 use std::mem;
 
-/// The last places of a list that later events may wait for.
+/// The last positions of a list that later events may wait for.
 #[derive(Drop)]
 struct Latest {
-    // of each variable, the last write
+    // the last write of each variable
     writes: Vec<Option<u32>>,
-    // of each variable, the reads since then
+    // the reads of each variable since its last write
     reads: Vec<Vec<u32>>,
-    // of each lock, the last release
+    // the last release of each lock
     releases: Vec<Option<u32>>,
-    // of each thread, its last event
+    // the last event of each thread
     ends: Vec<Option<u32>>,
-    // of each thread, its fork
+    // the fork of each thread
     forks: Vec<Option<u32>>,
 }
 
-/// Adds so many empty lists.
+/// Adds `count` empty lists.
 pub(crate) fn add_lists(
     alloc: Global,
     lists: &mut Vec<Vec<u32>>,
@@ -32,19 +32,19 @@ pub(crate) fn add_lists(
     Ok(())
 }
 
-/// The place that is kept under this number.
+/// The position at this index, or None.
 fn place_at(places: &[Option<u32>], number: u32) -> Option<u32> {
     places.get(number as usize).copied().flatten()
 }
 
-/// Keeps the place under this number.
+/// Sets the position at this index.
 fn keep(places: &mut Vec<Option<u32>>, number: u32, place: u32) {
     if let Some(kept) = places.get_mut(number as usize) {
         *kept = Some(place);
     }
 }
 
-/// Appends the place, where there is one.
+/// Appends the position, if there is one.
 fn append(needs: &mut Vec<u32>, place: Option<u32>) -> Result<(), OutOfMemory> {
     if let Some(place) = place {
         needs.push(place)?;
@@ -67,7 +67,7 @@ impl Latest {
         }
     }
 
-    /// Makes room for what is named in the trace; there is no place yet.
+    /// Makes an empty entry for each variable, lock and thread of the trace.
     fn make_room(&mut self, alloc: Global, indexed: &Indexed) -> Result<(), OutOfMemory> {
         let raw = indexed.trace().raw();
         self.writes.resize(raw.variables() as usize, None)?;
@@ -78,7 +78,7 @@ impl Latest {
         Ok(())
     }
 
-    /// The reads of the variable since its last write, which are kept no more.
+    /// Removes the reads of the variable since its last write, and returns them.
     fn take_reads(&mut self, alloc: Global, variable: u32) -> Vec<u32> {
         match self.reads.get_mut(variable as usize) {
             Some(reads) => mem::replace(reads, Vec::new(alloc)),
@@ -86,7 +86,7 @@ impl Latest {
         }
     }
 
-    /// Keeps a read of the variable.
+    /// Adds a read of the variable.
     fn keep_read(&mut self, variable: u32, place: u32) -> Result<(), OutOfMemory> {
         if let Some(reads) = self.reads.get_mut(variable as usize) {
             reads.push(place)?;
@@ -94,8 +94,8 @@ impl Latest {
         Ok(())
     }
 
-    /// What an event that does this waits for, the first last. Of a thread's events only the first waits for the
-    /// fork, which stands before the others anyway.
+    /// What an event with this operation waits for; the first one is last. Every event of a thread waits for the
+    /// fork, which comes before the thread's first event anyway.
     fn needs_of(&mut self, alloc: Global, thread: u32, op: Op) -> Result<Vec<u32>, OutOfMemory> {
         let mut needs = match op {
             Op::Write(variable) => self.take_reads(alloc, variable),
@@ -107,7 +107,7 @@ impl Latest {
         }
     }
 
-    /// Completes what the event waits for, where the reads that a write waits for are there.
+    /// Adds what the event waits for, except for the reads, which are there already.
     fn complete(&self, needs: &mut Vec<u32>, thread: u32, op: Op) -> Result<(), OutOfMemory> {
         match op {
             Op::Read(variable) | Op::Write(variable) => {
@@ -124,7 +124,7 @@ impl Latest {
         append(needs, place_at(&self.forks, thread))
     }
 
-    /// Goes over the list, and adds what each of its places waits for.
+    /// Goes over the list, and adds what the event at each position waits for.
     fn add_needs(
         &mut self,
         alloc: Global,
@@ -145,7 +145,7 @@ impl Latest {
         Ok(())
     }
 
-    /// Keeps what later events may wait for.
+    /// Keeps the positions that later events may wait for.
     fn note(&mut self, thread: u32, op: Op, place: u32) -> Result<(), OutOfMemory> {
         keep(&mut self.ends, thread, place);
         match op {
@@ -159,10 +159,10 @@ impl Latest {
     }
 }
 
-/// For each place of the list the places that its event waits for, the first last: the fork of its thread; of a
-/// read its writer; of a write the reads since the write before it, and that write; of an acquire the last release of
-/// the lock; of a join the last event of the thread, or its fork. It serves what is printed of a schedule, and nothing is
-/// promised of it.
+/// For each position of the list, the positions that its event waits for; the first one is last. An event waits for
+/// the fork of its thread. A read waits for its writer; a write for the write before it and the reads since then. An
+/// acquire waits for the last release of the lock. A join waits for the last event of the thread, or its fork.
+/// `explain` prints from it, and nothing is proved about it.
 pub fn needs_of(
     alloc: Global,
     indexed: &Indexed,
@@ -175,7 +175,7 @@ pub fn needs_of(
     }
 }
 
-/// Adds to the lists what each place of the list waits for.
+/// Adds what each position of the list waits for.
 pub(crate) fn add_needs(
     alloc: Global,
     indexed: &Indexed,

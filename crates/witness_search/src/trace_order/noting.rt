@@ -1,4 +1,4 @@
-//! What a search by counts notes of the variables that it looks at.
+//! Caches the last writes of the variables that a search by counts looks at.
 ghost use Rattle.std.specs.Prelude.{◌≡◌, ◌<◌, length, nat_eq, IfSome, OnOk};
 ghost use Rattle.std.specs.HashMap.{get};
 ghost use Rattle.event_index.specs.Lookups.{last_write};
@@ -31,7 +31,7 @@ pub(crate) fn note_reads(
     Ok(())
 }
 
-// The same of one thread.
+// The same for one thread.
 fn note_next(
     last: &mut HashMap<u32, Option<u32>>,
     indexed: &Indexed,
@@ -52,7 +52,7 @@ fn note_next(
     }
 }
 
-// The variable that the thread's next event reads, if it does.
+// The variable that the thread's next event reads, or None.
 fn read_next(indexed: &Indexed, row: &[u32], thread: u32) -> Option<u32>
     requires thread { thread < length indexed.now.threads }
     requires row { length row.now ≡ length indexed.now.threads }
@@ -73,7 +73,7 @@ fn read_next(indexed: &Indexed, row: &[u32], thread: u32) -> Option<u32>
     }
 }
 
-// Notes the last write of the variable that the start counts, where nothing is noted of it.
+// Notes the last write of the variable that the start counts, unless a write is noted already.
 fn keep(
     last: &mut HashMap<u32, Option<u32>>,
     indexed: &Indexed,
@@ -94,7 +94,7 @@ fn keep(
     Ok(())
 }
 
-/// The last write of the variable that the start counts.
+/// The last write of the variable that the start counts, or None.
 pub(crate) fn last_of_start(
     indexed: &Indexed,
     acquires: &Acquires,

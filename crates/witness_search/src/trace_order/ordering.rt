@@ -1,4 +1,4 @@
-//! The events of a list in an order with fewer runs. What is proposed here is judged.
+//! Puts the events of a list in an order with fewer runs. A checked call judges each proposed order.
 ghost use Rattle.std.specs.Prelude.{◌≡◌, ◌↔◌, IsPermutation, IsTrue, IfOk, Ok, true};
 ghost use Rattle.schedule.specs.Reordering.{IsCorrectReordering};
 ghost use Rattle.schedule.specs.Shows.{Shows};
@@ -9,25 +9,25 @@ use rapid_text::OutOfMemory;
 use schedule::{ListRefusal, Schedule};
 use std::alloc::Global;
 
-/// An order in the making. Places are those of the list that is put in order.
+/// An order in progress. Positions are those of the list that is put in order.
 #[derive(Drop)]
 struct Ordering {
-    // for each place the places that wait to stand before it, the next one last
+    // for each position, the positions that have to come before it; the next one is last
     needs: Vec<Vec<u32>>,
-    // for each place its thread
+    // for each position its thread
     threads: Vec<u32>,
-    // for each thread its places that are left, the next one last
+    // for each thread its positions that are left; the next one is last
     left: Vec<Vec<u32>>,
-    // for each place whether its event has been taken
+    // for each position whether its event has been taken
     taken: Vec<bool>,
-    // the places that are worked towards, the nearest last
+    // the positions to work towards; the nearest is last
     aims: Vec<u32>,
-    // the events taken
+    // the events that have been taken
     order: Vec<u32>,
 }
 
-/// The events of the list, each as often, in an order that is a correct reordering and shows the pair: one with fewer
-/// runs of one thread where such an order was found, else that of the list.
+/// The events of the list, each as often, in an order that is a correct reordering and shows the pair. If the
+/// function finds an order with fewer runs of one thread, it returns that one; otherwise it returns the list.
 pub fn fewer_runs(
     alloc: Global,
     indexed: &Indexed,
@@ -108,7 +108,7 @@ fn are_equal(one: &[u32], other: &[u32]) -> bool
     one == other
 }
 
-/// The numbers of the list in rising order.
+/// A copy of the list in rising order.
 fn sorted(alloc: Global, list: &[u32]) -> Result<Vec<u32>, OutOfMemory>
     ensures { IfOk result (λ made. IsPermutation list.now made.items) }
 {
@@ -117,8 +117,8 @@ fn sorted(alloc: Global, list: &[u32]) -> Result<Vec<u32>, OutOfMemory>
     Ok(made)
 }
 
-/// An order of the list's events: the thread of the second event's base goes on up to it, and before it that of the
-/// first's; where an event waits for another, that one's thread goes on up to it first. Events left over follow.
+/// An order of the list's events. The thread of the first event's base runs up to it, and then that of the second's
+/// base. If an event waits for another event, that one's thread runs up to it first. The remaining events follow.
 fn propose(
     alloc: Global,
     indexed: &Indexed,
@@ -141,7 +141,7 @@ fn propose(
 }
 
 impl Ordering {
-    /// Puts the list in order, where nothing is known yet.
+    /// Puts the list in order. The fields are empty before.
     fn put(
         &mut self,
         alloc: Global,
@@ -163,7 +163,7 @@ impl Ordering {
         self.take_rest(list)
     }
 
-    /// Notes what is known of the list before anything is taken.
+    /// Fills the fields before any event is taken.
     fn begin(&mut self, alloc: Global, indexed: &Indexed, list: &[u32]) -> Result<(), OutOfMemory> {
         add_needs(alloc, indexed, list, &mut self.needs)?;
         add_lists(alloc, &mut self.left, indexed.threads())?;
@@ -175,7 +175,7 @@ impl Ordering {
         Ok(())
     }
 
-    /// Adds the places of the list to those that are left.
+    /// Adds the positions of the list to those that are left.
     fn add_places(&mut self, indexed: &Indexed, list: &[u32]) -> Result<(), OutOfMemory> {
         let raw = indexed.trace().raw();
         let mut place = 0u32;
@@ -192,7 +192,7 @@ impl Ordering {
         Ok(())
     }
 
-    /// Works towards the base of the event next.
+    /// Makes the base of the event the next aim.
     fn aim_at_base(
         &mut self,
         indexed: &Indexed,
@@ -219,18 +219,18 @@ impl Ordering {
         self.taken.get(place as usize).copied().unwrap_or(true)
     }
 
-    /// The next place of the aim's thread.
+    /// The next position of the aim's thread.
     fn next_towards(&self, aim: u32) -> Option<u32> {
         let thread = self.threads.get(aim as usize).copied()?;
         self.left.get(thread as usize)?.last().copied()
     }
 
-    /// What the place waits for first.
+    /// What the position waits for first.
     fn need_of(&self, place: u32) -> Option<u32> {
         self.needs.get(place as usize)?.last().copied()
     }
 
-    /// Goes a step towards the aim.
+    /// Takes a step towards the aim.
     fn step(&mut self, list: &[u32], aim: u32) -> Result<(), OutOfMemory> {
         let next = self.next_towards(aim);
         let Some(place) = next.filter(|_| !self.is_taken(aim)) else {
@@ -243,7 +243,7 @@ impl Ordering {
         }
     }
 
-    /// Meets a need of the place: forgets it where it is taken, else works towards it.
+    /// Handles a need of the position: drops it if it is taken, and otherwise makes it an aim.
     fn meet(&mut self, place: u32, need: u32) -> Result<(), OutOfMemory> {
         if !self.is_taken(need) {
             self.aims.push(need)?;
@@ -255,7 +255,7 @@ impl Ordering {
         Ok(())
     }
 
-    /// Takes the event of the place, which is the next of its thread.
+    /// Takes the event at the position, which is the next of its thread.
     fn take(&mut self, list: &[u32], place: u32) -> Result<(), OutOfMemory> {
         if let Some(event) = list.get(place as usize) {
             self.order.push(*event)?;
@@ -272,7 +272,7 @@ impl Ordering {
         Ok(())
     }
 
-    /// Takes the events that are left over.
+    /// Takes the remaining events.
     fn take_rest(&mut self, list: &[u32]) -> Result<(), OutOfMemory> {
         let mut place = 0u32;
         for event in list {

@@ -8,7 +8,7 @@ use event_index::Indexed;
 use rapid_text::OutOfMemory;
 use std::alloc::Global;
 
-/// For each event the last of it and of the ends of the sections that its thread began up to it.
+/// For each event, the last of the event and the ends of all sections that its thread began up to it.
 pub(crate) fn reaches_of(alloc: Global, indexed: &Indexed) -> Result<Vec<u32>, OutOfMemory>
     ensures { IfOk result (λ made. AreReaches indexed.now.events made.items) }
 {
@@ -20,7 +20,7 @@ pub(crate) fn reaches_of(alloc: Global, indexed: &Indexed) -> Result<Vec<u32>, O
     Ok(reach)
 }
 
-// The same of one event, where it is known of those before it.
+// The same for one event, from the entries of the events before it.
 fn reach_at(reach: &[u32], indexed: &Indexed, event: u32) -> u32
     requires event { event < length indexed.now.events }
     requires known { AreReachesUpTo indexed.now.events event reach.now }
@@ -34,7 +34,7 @@ fn reach_at(reach: &[u32], indexed: &Indexed, event: u32) -> u32
     }
 }
 
-// The end of the section that the event begins, or else the event.
+// The end of the section that the event begins, or else the event itself.
 fn own_end(indexed: &Indexed, event: u32) -> u32
     requires event { event < length indexed.now.events }
     ensures own { IsOwnEnd indexed.now.events event result }
@@ -46,7 +46,7 @@ fn own_end(indexed: &Indexed, event: u32) -> u32
     }
 }
 
-// The event before it in its thread.
+// The event before this one in its thread, or None.
 fn before(indexed: &Indexed, event: u32) -> Option<u32>
     requires event { event < length indexed.now.events }
     ensures before { IfSome result (λ q. IsNextAfter indexed.now.events q event) }

@@ -1,4 +1,4 @@
-//! How long the list in order is, and of how many threads, without making it.
+//! Computes the length of the list in order, and its number of threads, without making the list.
 ghost use Rattle.std.specs.Prelude.{◌≡◌, length, IsOk, IfOk, IfErr};
 ghost use Rattle.witness_search.specs.trace_order.Layout.{IsListLength, IsThreadCount};
 ghost use Rattle.witness_search.specs.trace_order.Laws.{HasListInOrder};
@@ -13,8 +13,8 @@ use event_index::Indexed;
 use must_order::Must;
 use std::alloc::Global;
 
-/// How many events the list in order of the pair has, and of how many threads they are; refused as `in_order` is. It
-/// costs steps by threads and by acquires of shared locks, and not by events.
+/// The number of events in the pair's list in order, and the number of their threads. Fails as `in_order` does. Its
+/// steps grow with the threads and the acquires of shared locks, not with the events.
 pub fn in_order_size(
     alloc: Global,
     indexed: &Indexed,
@@ -37,7 +37,7 @@ pub fn in_order_size(
     ))
 }
 
-/// How many events the row counts.
+/// The number of events that the row counts.
 pub(crate) fn events_counted(indexed: &Indexed, row: &[u32]) -> u32
     requires len { length row.now ≡ length indexed.now.threads }
     requires within { IsWithin indexed.now.events (row_in row.now) }
@@ -50,7 +50,7 @@ pub(crate) fn events_counted(indexed: &Indexed, row: &[u32]) -> u32
     count
 }
 
-/// How many threads have an event that the row counts.
+/// The number of threads with an event that the row counts.
 pub(crate) fn threads_counted(indexed: &Indexed, row: &[u32]) -> u32
     requires len { length row.now ≡ length indexed.now.threads }
     ensures { IsThreadCount (row_in row.now) (length indexed.now.threads) result }

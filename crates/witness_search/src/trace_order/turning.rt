@@ -26,9 +26,9 @@ use schedule::{ListRefusal, Schedule};
 use std::alloc::Global;
 use std::collections::HashMap;
 
-/// Looks for a schedule that shows the pair, in which critical sections may stand in another order than in the trace:
-/// the greedy search with this budget, from the least list in the order of the trace after which the second event is
-/// the next of its thread.
+/// Searches for a schedule that shows the pair, whose critical sections may come in another order than in the trace.
+/// It is the greedy search with this budget. It starts from the least list in the order of the trace after which the
+/// second event is the next of its thread. Fails if memory runs out.
 pub fn turned(
     alloc: Global,
     indexed: &Indexed,
@@ -49,8 +49,9 @@ pub fn turned(
     Ok(found)
 }
 
-/// Looks for such a schedule by no more steps than are left, and makes none: how many events it has, and of how many threads. Where none is
-/// found, as many fewer steps are left as were taken. It costs steps by threads, by acquires and by the events that it takes.
+/// The same search with at most `left` steps, without making the schedule. Returns the schedule's number of events
+/// and the number of their threads, or None. If it finds none, `left` falls by the number of steps taken. Its steps
+/// grow with the threads, the acquires and the events that it takes. Fails if memory runs out.
 pub fn turned_size(
     alloc: Global,
     indexed: &Indexed,
@@ -81,7 +82,7 @@ pub fn turned_size(
     )))
 }
 
-// What a search for the pair starts from, and what it wants.
+// The start of a search for the pair, and the events that it wants.
 fn aim_for(
     alloc: Global,
     indexed: &Indexed,
@@ -106,7 +107,7 @@ fn aim_for(
     })
 }
 
-// Where the search stands before its first step.
+// The state of the search before its first step.
 fn reached_from(alloc: Global, indexed: &Indexed, aim: &Aim) -> Result<Reached, OutOfMemory>
     requires aim { IsAimFor indexed.now aim.now.first aim.now.second aim.now }
     requires second { aim.now.second < length indexed.now.events }
@@ -121,7 +122,7 @@ fn reached_from(alloc: Global, indexed: &Indexed, aim: &Aim) -> Result<Reached, 
     })
 }
 
-// Whether the two are events and conflict.
+// Whether both events exist and conflict.
 fn are_conflicting(indexed: &Indexed, first: u32, second: u32) -> bool
     ensures first { result ≡ true → first < length indexed.now.events }
     ensures second { result ≡ true → second < length indexed.now.events }
@@ -149,7 +150,7 @@ fn ready_list(alloc: Global, indexed: &Indexed, event: u32) -> Result<EventList,
     Ok(list)
 }
 
-// The schedule that has the events of the list.
+// The schedule with the events of the list.
 fn schedule_of(alloc: Global, indexed: &Indexed, list: &[u32]) -> Result<Schedule, OutOfMemory>
     requires reordering { IsCorrectReordering indexed.now.events list.now }
     ensures trace { IfOk result (λ s. s.trace ≡ indexed.now) }

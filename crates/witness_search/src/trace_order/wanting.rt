@@ -1,4 +1,4 @@
-//! The events that a search wants, by the rows of must-before.
+//! Computes the events that a search wants from the rows of must-before.
 ghost use Rattle.std.specs.Prelude.{◌≡◌, ◌<◌, ℕ, length, IfSome, None};
 ghost use Rattle.witness_search.specs.trace_order.Counting.{IsAhead, IsEndedIn, IsWantedRow};
 ghost use Rattle.witness_search.specs.trace_order.Laws.{IsBaseOf};
@@ -12,8 +12,8 @@ use crate::trace_order::listing::is_counted;
 use event_index::Indexed;
 use must_order::Must;
 
-/// For each thread how many of its events are wanted for the pair, from the row of what is needed for its
-/// second event on.
+/// For each thread, the number of its events that are wanted for the pair. `row` has those that are needed for its
+/// second event.
 pub(crate) fn wanted_row(
     row: Vec<u32>,
     indexed: &Indexed,
@@ -44,7 +44,7 @@ pub(crate) fn wanted_row(
 }
 
 impl Acquires {
-    // The end of a section that the row counts the beginning of, and that it does not count.
+    // The end of a section that the row does not count although it counts the beginning, or None.
     fn ahead(&self, indexed: &Indexed, row: &[u32]) -> Option<u32>
         requires trace { self.now ≡ indexed.now }
         requires len { length row.now ≡ length indexed.now.threads }
@@ -61,7 +61,7 @@ impl Acquires {
         None
     }
 
-    // The same of one thread.
+    // The same for one thread.
     fn ahead_in(&self, indexed: &Indexed, row: &[u32], thread: u32) -> Option<u32>
         requires trace { self.now ≡ indexed.now }
         requires thread { thread < length indexed.now.threads }

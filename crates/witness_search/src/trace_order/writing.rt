@@ -1,4 +1,4 @@
-//! For each variable its writes.
+//! The writes of each variable.
 ghost use Rattle.std.specs.Prelude.{◌≡◌, ◌≢◌, ◌<◌, ◌+◌, ℕ, length, IfOk, OnOk, IfSome, None, Some};
 ghost use Rattle.event_index.specs.Events.{op_at};
 ghost use Rattle.event_index.specs.Lookups.{last_write};
@@ -32,7 +32,7 @@ fn no_writes(alloc: Global, indexed: &Indexed) -> Result<Vec<Vec<u32>>, OutOfMem
     Ok(writes)
 }
 
-// Adds the event, where it is a write.
+// Adds the event, if it is a write.
 fn add_event(writes: &mut Vec<Vec<u32>>, indexed: &Indexed, event: u32) -> Result<(), OutOfMemory>
     requires event { event < length indexed.now.events }
     requires known { AreWritesUpTo indexed.now event writes.old.items }
@@ -44,7 +44,7 @@ fn add_event(writes: &mut Vec<Vec<u32>>, indexed: &Indexed, event: u32) -> Resul
     Ok(())
 }
 
-/// The variable that the event writes, if it does.
+/// The variable that the event writes, or None.
 pub(crate) fn written_by(indexed: &Indexed, event: u32) -> Option<u32>
     requires event { event < length indexed.now.events }
     ensures writes { IfSome result (λ x. op_at indexed.now.events event ≡ Some (Write x)) }
@@ -61,7 +61,7 @@ pub(crate) fn written_by(indexed: &Indexed, event: u32) -> Option<u32>
     }
 }
 
-/// Of the writes of the variable the last that the row counts.
+/// The last of the variable's writes that the row counts, or None.
 pub(crate) fn last_counted(
     writes: &[u32],
     indexed: &Indexed,
