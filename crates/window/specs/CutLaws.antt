@@ -1,4 +1,4 @@
--- What the text of a window tells of its trace.
+-- What the text of a window says about its trace.
 use Rattle.std.specs.Prelude.{◌≡◌, ℕ, ◌<◌, ◌≤◌, List, Ok}
 use Rattle.rapid_text.specs.Reading.{reading_of}
 use Rattle.rapid_text.specs.Recording.{Recording, IsWellFormed}
@@ -9,8 +9,8 @@ use Rattle.window.specs.Cuts.{IsCut, IsCutAt, prologue_size}
 use Rattle.window.specs.Renamed.{Names, AreApart, renamed}
 use Rattle.window.specs.Window.{IsWindow, back, resumed}
 
--- The text reads as a trace of its own, which is the window of the trace from k to m, but that threads, variables and locks
--- have other numbers.
+-- The text reads as a complete trace. It is the window of the trace from k to m, except that threads, variables and
+-- locks have other numbers.
 pub record IsWindowText (r : Recording) (k m : ℕ) (text : List ℕ) : Type 0 where
   pub inner : Recording
   pub reads : reading_of text ≡ Ok inner
@@ -22,7 +22,7 @@ pub record IsWindowText (r : Recording) (k m : ℕ) (text : List ℕ) : Type 0 w
   pub is : IsWindow r.events (renamed names inner.events) k m (prologue_size r k m) variable lock chain
   pub keeps : IsDisciplined inner.events
 
--- what is cut from a trace that was read reads as its window
+-- the text that is cut from a trace reads as the window of that trace
 abbrev pub CutReadsAsWindow : Type 0
 CutReadsAsWindow =
     (bytes : List ℕ) (r : Recording) (k most : ℕ) (text : List ℕ)
@@ -32,7 +32,7 @@ CutReadsAsWindow =
     → (cut : IsCut r k most text)
     → IsWindowText r k cut.end text
 
--- and so does what is cut where events have other numbers
+-- the same if the events have other numbers in a longer trace
 abbrev pub CutAtReadsAsWindow : Type 0
 CutAtReadsAsWindow =
     (bytes : List ℕ) (r : Recording) (q k most : ℕ) (text : List ℕ)
@@ -43,8 +43,8 @@ CutAtReadsAsWindow =
     → (cut : IsCutAt r q k most text)
     → IsWindowText r k cut.end text
 
--- and a race of it is a race of the trace: what a correct reordering of it shows, the events before k as recorded, followed by
--- that reordering, show
+-- A race of the text is a race of the trace. If a correct reordering of the text shows a pair, so do the events
+-- before k as recorded, followed by that reordering.
 abbrev pub CutIsSound : Type 0
 CutIsSound =
     (r : Recording) (k m a b : ℕ) (text P : List ℕ)

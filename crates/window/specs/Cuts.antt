@@ -1,4 +1,4 @@
--- The window of a trace as a text: a line that says where it begins and ends, its prologue, and its part of the trace.
+-- The window of a trace as a text: a line with its numbers in the trace, its prologue, and its part of the trace.
 use Rattle.std.specs.Prelude.{◌≡◌, ◌⊎◌, ℕ, ◌+◌, ◌-◌, ◌/◌, ◌<◌, ◌≤◌, Bool, ◌||◌, true, false, nat_lt, if◌then◌else◌, List, [], ◌∷◌, ◌++◌, length, take, drop, replicate, bytes_eq, codes}
 use Rattle.std.specs.Fmt.{decimal}
 use Rattle.std.specs.List.{list_any}
@@ -9,15 +9,15 @@ use Rattle.rapid_text.specs.Recording.{Recording}
 use Rattle.window.specs.declared.cutting.Window.{Window}
 use Rattle.window.specs.Made.{chain_of, reads_of, part_of, holds_at, readers_at, prologue_length}
 
--- `window` with so many underscores after it
+-- `window` with j underscores after it
 abbrev pub name_with : ℕ → List ℕ
 name_with j = codes "window" ++ replicate j 95
 
--- the name is that of a variable or a lock
+-- whether a variable or a lock has the name
 abbrev pub is_taken : Recording → List ℕ → Bool
 is_taken r name = list_any (bytes_eq name) r.variables || list_any (bytes_eq name) r.locks
 
--- the name has as few underscores as make it a new one
+-- the name has as few underscores as make it new
 pub record IsNewName (r : Recording) (name : List ℕ) : Type 0 where
   pub underscores : ℕ
   pub is : name ≡ name_with underscores
@@ -25,15 +25,15 @@ pub record IsNewName (r : Recording) (name : List ℕ) : Type 0 where
   pub new : is_taken r name ≡ false
   pub fewest : (j : ℕ) → j < underscores → is_taken r (name_with j) ≡ true
 
--- each name that would do is taken
+-- every possible name is taken
 abbrev pub HasNoNewName : Recording → Type 0
 HasNoNewName r = (j : ℕ) → length (name_with j) ≤ name_limit → is_taken r (name_with j) ≡ true
 
--- the recording that knows a variable and a lock of this name too, each as the last
+-- the recording with a further variable and a further lock of this name
 abbrev pub with_name : Recording → List ℕ → Recording
 with_name r name = record r { variables = r.variables ++ name ∷ []; locks = r.locks ++ name ∷ [] }
 
--- the events of the prologue: its variable and its lock have the numbers after those of the trace
+-- the events of the prologue; its variable and its lock have the numbers after those of the trace
 abbrev pub prologue_of : Recording → ℕ → ℕ → List Event
 prologue_of r k m =
     let threads = length r.threads in
@@ -41,11 +41,11 @@ prologue_of r k m =
     chain_of (length r.variables) locks (holds_at r.events k m threads locks)
     ++ reads_of (length r.variables) locks (readers_at r.events k m threads locks)
 
--- how many they are
+-- the number of these events
 abbrev pub prologue_size : Recording → ℕ → ℕ → ℕ
 prologue_size r k m = prologue_length r.events k m (length r.threads) (length r.locks)
 
--- the line that says where the window lies; readers of traces skip it
+-- the line with the window's numbers in the trace; readers of traces skip it
 abbrev pub begin_line : ℕ → ℕ → ℕ → List ℕ
 begin_line k m n =
     (codes "window|begin(FROM " ++ decimal k)
@@ -58,7 +58,7 @@ window_text r name k m =
     ++ (events_text (with_name r name) (prologue_of r k m) []
     ++ events_text (with_name r name) (part_of r.events k m) (take (m - k) (drop k r.locations)))
 
--- the same, where event k has the number q in a longer trace
+-- the same if event k has the number q in a longer trace
 unfoldable pub window_text_at : Recording → List ℕ → ℕ → ℕ → ℕ → List ℕ
 window_text_at r name q k m =
     begin_line q (q + (m - k)) (prologue_size r k m)
@@ -69,19 +69,19 @@ window_text_at r name q k m =
 abbrev pub Fits : Recording → ℕ → ℕ → Type 0
 Fits r k m = prologue_size r k m + (m - k) ≤ event_limit
 
--- where the trace ends, or the window with so many events
+-- the end of the trace, or of a window with `most` events
 abbrev pub last_end : Recording → ℕ → ℕ → ℕ
 last_end r k most = if nat_lt (length r.events) (k + most) then length r.events else k + most
 
--- The window at k with at most so many events ends at m: it has them all, or twice as many would be longer than a trace
--- may be.
+-- The window at k with at most `most` events ends at m. It has them all, unless a window with twice as many events as
+-- this one would be longer than a trace may be.
 pub record IsEnd (r : Recording) (k most m : ℕ) : Type 0 where
   pub some : k < m
   pub within : m ≤ last_end r k most
   pub fits : Fits r k m
   pub longest : (m ≡ last_end r k most) ⊎ ((j : ℕ) × (m - k ≡ (j - k) / 2) × (event_limit < prologue_size r k j + (j - k)))
 
--- The text is that of the window of the trace at k, with at most so many events.
+-- The text is the window of the trace at k, with at most `most` events.
 pub record IsCut (r : Recording) (k most : ℕ) (text : List ℕ) : Type 0 where
   pub name : List ℕ
   pub end : ℕ
@@ -89,7 +89,7 @@ pub record IsCut (r : Recording) (k most : ℕ) (text : List ℕ) : Type 0 where
   pub ends : IsEnd r k most end
   pub is : text ≡ window_text r name k end
 
--- The same, where event k has the number q in a longer trace.
+-- The same if event k has the number q in a longer trace.
 pub record IsCutAt (r : Recording) (q k most : ℕ) (text : List ℕ) : Type 0 where
   pub name : List ℕ
   pub end : ℕ
@@ -97,7 +97,7 @@ pub record IsCutAt (r : Recording) (q k most : ℕ) (text : List ℕ) : Type 0 w
   pub ends : IsEnd r k most end
   pub is : text ≡ window_text_at r name q k end
 
--- The window has such a text, and says where it lies in the longer trace and how many events its prologue has.
+-- The window has such a text, its numbers in the longer trace, and the number of events in its prologue.
 pub record IsCutAs (r : Recording) (q k most : ℕ) (w : Window) : Type 0 where
   pub cut : IsCutAt r q k most w.text.items
   pub from_is : w.from ≡ q

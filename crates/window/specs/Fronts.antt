@@ -1,4 +1,4 @@
--- Why a piece of a long trace is refused after what was read of it.
+-- Why a piece of a long trace is refused after the pieces before it.
 use Rattle.std.specs.Prelude.{◌≡◌, ◌⊎◌, ⊤, ℕ, ◌+◌, ◌^◌, ◌≤◌, List, [], ◌++◌, length, Err, Ok}
 use Rattle.rapid_text.specs.Reading.{reading_of}
 use Rattle.rapid_text.specs.Recording.{Recording}
@@ -11,20 +11,20 @@ use Rattle.window.specs.Streams.{IsFirstRefused, IsKept, IsWhole, Stands, Stream
 use Rattle.window.specs.declared.fault.FrontFault.{FrontFault}
 use Rattle.window.specs.declared.fault.FrontFault.TheVariants.{Text, Rule, Unended, NoSuchEvent, NoName, TooManyThreads, TooLong, OutOfMemory}
 
--- the text is not read, since it has more events than a trace may have; or more threads
+-- the text is refused because it has more events than a trace may have; or because it has more threads
 abbrev pub HasTooManyEvents : List ℕ → Type 0
 HasTooManyEvents text = (why : TextRefusal) × (reading_of text ≡ Err why) × (why.why ≡ TooManyEvents)
 
 abbrev pub HasTooManyThreads : List ℕ → Type 0
 HasTooManyThreads text = (why : TextRefusal) × (reading_of text ≡ Err why) × (why.why ≡ TooManyNames)
 
--- the piece is read, and this is the text that says of its threads what is kept of what was read
+-- the piece can be read alone, and `head` is the text that replaces what was read, for the threads of the piece
 abbrev pub IsHead : Stream → List ℕ → List ℕ → Type 0
 IsHead s more head =
     Stands s.read head more × ((piece : Recording) × (reading_of more ≡ Ok piece) × (head ≡ head_text s.past (all_of piece.threads)))
 
--- More was read than can be counted; or the piece, after the text that stands in the place of what was read, has more events than a trace
--- may have; or that text would be none that is read.
+-- The number of events or lines read would be too large. Or the piece, after the text that replaces what was read,
+-- has more events than a trace may have. Or that text does not read as a trace that keeps the rules.
 abbrev pub IsTooLong : Stream → List ℕ → Type 0
 IsTooLong s more =
     (1000000000000000000 ≤ length (said_in s.read) + length (said_in more))
@@ -32,12 +32,12 @@ IsTooLong s more =
     ⊎ (((why : TextRefusal) × (reading_of more ≡ Err why) × ((why.why ≡ TooManyEvents) ⊎ (2 ^ 64 ≤ feeds s.read + why.line)))
     ⊎ ((head : List ℕ) × IsHead s more head × ((¬ IsKept head) ⊎ HasTooManyEvents (head ++ more)))))
 
--- the piece has more threads than a trace may have, alone or after the text that stands in the place of what was read
+-- the piece has more threads than a trace may have, alone or after the text that replaces what was read
 abbrev pub IsTooWide : Stream → List ℕ → Type 0
 IsTooWide s more =
     HasTooManyThreads more ⊎ ((head : List ℕ) × IsHead s more head × (HasTooManyThreads head ⊎ HasTooManyThreads (head ++ more)))
 
--- Why the piece is refused. Events and lines have their numbers in all that was read.
+-- Why the piece is refused. Events and lines are counted over all that was read.
 abbrev pub IsFrontFault : Stream → List ℕ → FrontFault → Type 0
 IsFrontFault s more (Text line why) = IsFirstRefused (s.read ++ more) line why
 IsFrontFault s more (Rule event why) = IsFirstBreach (long_trace (s.read ++ more)) (record { event = event; why = why })

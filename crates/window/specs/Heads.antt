@@ -1,4 +1,4 @@
--- What is kept of a trace, as levels of names. No public clause cites this module.
+-- The summary of what was read, as levels of names. No public clause cites this module.
 use Rattle.std.specs.Prelude.{◌≡◌, ◌++◌, ℕ, List, flat_map, length, map, take, Ok, Vec}
 use Rattle.std.specs.HashSet.{HashSet}
 use Rattle.rapid_text.specs.Reading.{reading_of}
@@ -20,7 +20,7 @@ level_names names = flat_map names_of names.levels.items
 abbrev pub grown_names : Levels → Grown → List (List ℕ)
 grown_names names grown = flat_map names_of (take grown.keep names.levels.items) ++ names_of grown.level
 
--- what is kept
+-- the summary in these fields
 abbrev pub past_of : Known → Past
 past_of known =
     record {
@@ -30,7 +30,7 @@ past_of known =
       held = known.held.items;
     }
 
--- The recording is of a text in the place of what was read, which has so many events, and of the piece after it.
+-- The recording is that of a text that replaces what was read, with `from` events, and of the piece after it.
 abbrev pub IsReadAfter : List ℕ → List ℕ → Recording → ℕ → Type 0
 IsReadAfter read more r from =
     (head : List ℕ) × Stands read head more × (reading_of (head ++ more) ≡ Ok r) × (from ≡ length (said_in head))

@@ -1,4 +1,4 @@
--- What a window tells of its trace, in the words of its reader.
+-- What a window says about its trace.
 use Rattle.std.specs.Prelude.{◌≡◌, ◌⊎◌, ◌↔◌, ℕ, ◌++◌, ◌<◌, All, ◌-◌, ◌*◌, ◌≤◌, List, length}
 use Rattle.rapid_text.specs.declared.event.Event.{Event}
 use Rattle.trace_rules.specs.Rules.{IsDisciplined}
@@ -9,12 +9,12 @@ use Rattle.window.specs.Made.{AreHolds, AreOthers, AreReaders, IsUnused, IsBound
 use Rattle.window.specs.Renamed.{Names, AreApart, renamed}
 use Rattle.window.specs.Window.{IsWindow, back, forth, resumed, entered}
 
--- a window of a trace that keeps the rules keeps them
+-- a window of a trace that keeps the rules keeps them too
 abbrev pub WindowIsDisciplined : Type 0
 WindowIsDisciplined = (T W : List Event) (k m n x lock c : ℕ) → IsDisciplined T → IsWindow T W k m n x lock c → IsDisciplined W
 
--- a correct reordering of the window, after the events before k, is one of the trace, and shows there what it
--- shows in the window
+-- a correct reordering of the window, after the events before k, is one of the trace, and shows there what it shows
+-- in the window
 abbrev pub WindowIsSound : Type 0
 WindowIsSound =
     (T W : List Event) (k m n x lock c : ℕ) (P : List ℕ)
@@ -24,7 +24,7 @@ WindowIsSound =
     → IsCorrectReordering T (resumed n k P)
     × ((a b : ℕ) → n ≤ a → n ≤ b → Shows W P a b → Shows T (resumed n k P) (back n k a) (back n k b))
 
--- a window that is made is one, whatever the order of its holds and its readers
+-- the window that is built meets the definition, in any order of its holds and readers
 abbrev pub WindowIsMade : Type 0
 WindowIsMade =
     (T : List Event) (k m x lock : ℕ) (holds : List (ℕ × ℕ)) (readers : List ℕ)
@@ -37,8 +37,8 @@ WindowIsMade =
     → IsUnused T k m x lock
     → IsWindow T (window_by T k m x lock holds readers) k m (front_of holds readers) x lock (links_of holds)
 
--- a correct reordering of the trace's first m events that begins as they were recorded up to k, behind the
--- prologue, is one of the window, and shows there what it shows in the trace
+-- take a correct reordering of the trace's first m events that begins as recorded up to k: its later events, after
+-- the prologue, are one of the window, and show there what they show in the trace
 abbrev pub WindowIsComplete : Type 0
 WindowIsComplete =
     (T W : List Event) (k m n x lock c : ℕ) (S : List ℕ)
@@ -50,7 +50,7 @@ WindowIsComplete =
     × (resumed n k (entered n k S) ≡ before k ++ S)
     × ((a b : ℕ) → k ≤ a → a < m → k ≤ b → b < m → Shows T (before k ++ S) a b → Shows W (entered n k S) (forth n k a) (forth n k b))
 
--- the window of a trace is one
+-- `window_of` meets the definition of a window
 abbrev pub WindowOfIsWindow : Type 0
 WindowOfIsWindow =
     (T : List Event) (k m x lock threads locks : ℕ)
@@ -69,7 +69,7 @@ WindowOfIsWindow =
     lock
     (chain_length T k m threads locks)
 
--- its prologue is at most seventeen times as long as what it stands before
+-- a prologue has at most seventeen times as many events as its part of the trace
 abbrev pub ProloguesAreShort : Type 0
 ProloguesAreShort =
     (T : List Event) (k m threads locks : ℕ) → k ≤ m → m ≤ length T → prologue_length T k m threads locks ≤ 17 * (m - k)
@@ -78,12 +78,12 @@ ProloguesAreShort =
 abbrev pub IsNeverShown : List Event → ℕ → ℕ → Type 0
 IsNeverShown T a b = (P : List ℕ) → IsCorrectReordering T P → ¬ Shows T P a b
 
--- no correct reordering shows the pair that begins with the events before k as they were recorded, and goes on with
--- events before m
+-- no correct reordering shows the pair that begins with the events before k as recorded, and continues with events
+-- before m
 abbrev pub IsNeverShownFrom : List Event → ℕ → ℕ → ℕ → ℕ → Type 0
 IsNeverShownFrom T k m a b = (S : List ℕ) → IsCorrectReordering T (before k ++ S) → All (λ d. d < m) S → ¬ Shows T (before k ++ S) a b
 
--- two accesses of the prologue are never shown
+-- no correct reordering of the window shows a pair with an event of the prologue
 abbrev pub PrologueIsApart : Type 0
 PrologueIsApart =
     (T W : List Event) (k m n x lock c a b : ℕ) (P : List ℕ)
@@ -93,7 +93,8 @@ PrologueIsApart =
     → (a < n) ⊎ (b < n)
     → ¬ Shows W P a b
 
--- what the window never shows is what the trace never shows from k on
+-- the window never shows a pair exactly if no list of the trace shows it that begins as recorded up to k and ends
+-- before m
 abbrev pub ApartInWindow : Type 0
 ApartInWindow =
     (T W : List Event) (k m n x lock c a b : ℕ)
@@ -105,7 +106,7 @@ ApartInWindow =
     → b < length W
     → IsNeverShown W a b ↔ IsNeverShownFrom T k m (back n k a) (back n k b)
 
--- a window of the events read so far is one of the trace, whatever comes after them
+-- a window of the events read so far is a window of the trace, whatever comes after them
 abbrev pub WindowOfABeginning : Type 0
 WindowOfABeginning = (T more W : List Event) (k m n x lock c : ℕ) → IsWindow T W k m n x lock c → IsWindow (T ++ more) W k m n x lock c
 

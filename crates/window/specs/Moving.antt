@@ -1,4 +1,4 @@
--- The numbers of events in a line of JSON, and the line that has other numbers in their place.
+-- The numbers of events in a line of JSON, and the line with other numbers instead.
 use Rattle.std.specs.Prelude.{◌≡◌, ℕ, ◌+◌, ◌^◌, ◌<◌, ◌≤◌, ◌&&◌, nat_lt, nat_le, if◌then◌else◌, List, [], ◌∷◌, ◌++◌, length, slice_index, Some, None, codes}
 use Rattle.std.specs.Char.{digit_value}
 use Rattle.std.specs.Fmt.{decimal}
@@ -6,20 +6,20 @@ use Rattle.std.specs.Str.Parse.{AllDigits, digits_value}
 use Rattle.memchr.specs.Find.{FindsNeedle}
 use Rattle.window.specs.Window.{back}
 
--- what stands before the number of an event; in a text of JSON each quote has a backslash before it
+-- the text before the number of an event; inside a string of JSON each quote has a backslash before it
 abbrev pub event_mark : List ℕ
 event_mark = codes "{\"event\":"
 
--- the text does not go on with a digit
+-- the text does not begin with a digit
 abbrev pub HasNoDigit : List ℕ → Type 0
 HasNoDigit text = 0 < length text → 10 ≤ digit_value (slice_index text 0)
 
--- a number of an event in a line: what stands before it, from the end of the number before, and its digits
+-- the number of an event in a line: the text before it, from the end of the number before, and its digits
 pub record Marked : Type 0 where
   pub front : List ℕ
   pub digits : List ℕ
 
--- the line that has these numbers, their digits shown so, and then this text
+-- the line with these numbers, whose digits `shown` maps, and then this text
 abbrev pub line_with : (List ℕ → List ℕ) → List Marked → List ℕ → List ℕ
 line_with shown [] last = last
 line_with shown (m ∷ ms) last = m.front ++ (shown m.digits ++ line_with shown ms last)
@@ -28,7 +28,7 @@ line_with shown (m ∷ ms) last = m.front ++ (shown m.digits ++ line_with shown 
 abbrev pub as_written : List ℕ → List ℕ
 as_written digits = digits
 
--- What stands before the number ends with the first mark of the text that begins with both, and its digits are all that stand there.
+-- The text before the number ends with the first mark in the rest of the line, and the number has all its digits.
 pub record IsMarked (m : Marked) (rest : List ℕ) : Type 0 where
   pub place : ℕ
   pub ends : length m.front ≡ place + length event_mark
@@ -41,15 +41,15 @@ abbrev pub AreAll : List Marked → List ℕ → Type 0
 AreAll [] last = FindsNeedle last event_mark 0 None
 AreAll (m ∷ ms) last = IsMarked m (line_with as_written ms last) × AreAll ms last
 
--- the digits of the number that the event has in the trace; those of an event of the prologue stay, and so do those of a number that
--- is too large
+-- The digits of the event's number in the trace. The digits stay for an event of the prologue, and for a number that
+-- does not fit in a u64.
 abbrev pub moved_digits : ℕ → ℕ → List ℕ → List ℕ
 moved_digits n k digits =
     let event = digits_value 10 digits in
     if nat_lt event (2 ^ 64) && (nat_le n event && nat_lt (back n k event) (2 ^ 64)) then decimal (back n k event) else digits
 
--- The line `moved` is the line `line`, but that each event has the number that it has in the trace of which the window begins at k, with a
--- prologue of n events.
+-- The line `moved` is the line `line`, except that each event has its number in the trace. The window begins at k
+-- there, with a prologue of n events.
 pub record IsMoved (n k : ℕ) (line moved : List ℕ) : Type 0 where
   pub numbers : List Marked
   pub last : List ℕ

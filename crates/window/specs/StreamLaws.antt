@@ -1,4 +1,4 @@
--- What a text in the place of what was read tells of the whole trace.
+-- What a text that replaces what was read says about the whole trace.
 use Rattle.std.specs.Prelude.{◌≡◌, ◌≢◌, ℕ, ◌+◌, ◌-◌, ◌≤◌, List, [], ◌++◌, length, Err, Ok}
 use Rattle.rapid_text.specs.Reading.{reading_of}
 use Rattle.rapid_text.specs.Recording.{Recording}
@@ -10,11 +10,11 @@ use Rattle.window.specs.CutLaws.{IsWindowText}
 use Rattle.window.specs.Cuts.{prologue_size}
 use Rattle.window.specs.Streams.{IsExactPart, IsFirstRefused, IsNext, IsPast, IsUnrefused, IsWhole, Past, Stands, feeds, long_trace, no_past, said_in}
 
--- before the first event nothing is kept
+-- the summary before the first event is empty
 abbrev pub StreamBegins : Type 0
 StreamBegins = IsPast [] no_past
 
--- What is kept after a piece is what is kept of both.
+-- The summary after a piece is that of both.
 abbrev pub StreamGoesOn : Type 0
 StreamGoesOn =
     (front head more : List ℕ) (r : Recording) (past next : Past)
@@ -26,7 +26,7 @@ StreamGoesOn =
     → IsNext past next r more
     → IsPast (front ++ more) next
 
--- What was read and the piece after it keep the rules of traces if the piece keeps them behind the head.
+-- What was read and the piece after it keep the rules of traces, if the piece keeps them after the head.
 abbrev pub StreamKeepsRules : Type 0
 StreamKeepsRules =
     (front head more : List ℕ) (r : Recording)
@@ -35,7 +35,7 @@ StreamKeepsRules =
     → IsDisciplined r.events
     → IsDisciplined (long_trace (front ++ more))
 
--- A window behind the head is a part of the whole trace, whatever comes after the piece.
+-- A window after the head is a part of the whole trace, whatever comes after the piece.
 abbrev pub StreamIsSound : Type 0
 StreamIsSound =
     (front head more later text : List ℕ) (r : Recording) (k m : ℕ)
@@ -53,8 +53,8 @@ StreamIsSound =
     (prologue_size r k m)
     text
 
--- An event of the piece that is the first to break a rule behind the head is the first to break one in all that was read, and breaks the
--- same.
+-- If an event of the piece is the first to break a rule after the head, it is the first in all that was read, and
+-- breaks the same rule.
 abbrev pub StreamBreaks : Type 0
 StreamBreaks =
     (front head more : List ℕ) (r : Recording) (why : RuleRefusal)
@@ -67,7 +67,7 @@ StreamBreaks =
     (long_trace (front ++ more))
     (record { event = length (said_in front) + (why.event - length (said_in head)); why = why.why })
 
--- If no line of what was read is refused, and none of the piece, then none of both is.
+-- If no line of what was read and no line of the piece is refused, no line of both is.
 abbrev pub StreamReads : Type 0
 StreamReads =
     (front more : List ℕ) (r : Recording)
@@ -76,8 +76,8 @@ StreamReads =
     → reading_of more ≡ Ok r
     → IsUnrefused (front ++ more)
 
--- A line of the piece that is the first to be refused there, but for how many events or threads the piece has, is the first in all that was
--- read, for the same cause.
+-- The first refused line of the piece is the first in all that was read, for the same cause. This excludes the limits
+-- on events and threads.
 abbrev pub StreamRefuses : Type 0
 StreamRefuses =
     (front more : List ℕ) (why : TextRefusal)

@@ -1,4 +1,4 @@
--- A trace of any length, read in pieces. What was read is replaced by a text that leaves the same behind.
+-- A trace of any length, read in pieces. What was read is replaced by a text that leaves the same state.
 use Rattle.std.specs.Prelude.{◌≡◌, ◌⊎◌, ◌↔◌, ⊤, ℕ, ◌+◌, ◌-◌, ◌==◌, ◌<◌, ◌≤◌, ◌||◌, Bool, true, false, List, [], ◌∷◌, ◌++◌, length, count_by, drop, take, map, flat_map, slice_index_or, All, Option, Some, None, Err, Ok, bytes_eq, codes}
 use Rattle.std.specs.List.{IsDistinct, list_any, slice_split}
 use Rattle.rapid_text.specs.Canonical.{events_text}
@@ -21,27 +21,27 @@ use Rattle.window.specs.Window.{back, resumed}
 use Rattle.window.specs.declared.piece.PieceFault.{PieceFault}
 use Rattle.window.specs.declared.piece.PieceFault.TheVariants.{Text, Rule, NoSuchEvent, NoName, OutOfMemory}
 
--- the events that a text says, however many they are
+-- the events of a text, without a limit on their number
 abbrev pub said_in : List ℕ → List NamedEvent
 said_in text = named_events (slice_split is_line_feed text)
 
--- the trace of a text, however long
+-- the trace of a text, without a limit on its length
 abbrev pub long_trace : List ℕ → List Event
 long_trace text = (recording_of (said_in text)).events
 
--- the text ends with a line, if it has one
+-- the text is empty or ends with a line feed
 abbrev pub IsWhole : List ℕ → Type 0
 IsWhole text = (text ≡ []) ⊎ ((front : List ℕ) × (text ≡ front ++ 10 ∷ []))
 
--- The events B leave behind what the events A do, as far as it is of these threads: who holds which lock how often, and which of the
--- threads were forked, were joined, and have an event.
+-- The events B leave the same state as the events A, as far as it is about these threads: which thread holds which
+-- lock how often, and which threads were forked, were joined, and have an event.
 pub record IsLeft (P : ℕ → Type 0) (A B : List Event) : Type 0 where
   pub holds : (t l : ℕ) → hold_count A t l ≡ hold_count B t l
   pub forked : (u : ℕ) → P u → list_any (λ e. is_fork u e.op) A ≡ list_any (λ e. is_fork u e.op) B
   pub joined : (u : ℕ) → P u → list_any (λ e. is_join u e.op) A ≡ list_any (λ e. is_join u e.op) B
   pub seen : (u : ℕ) → P u → list_any (λ e. e.thread == u) A ≡ list_any (λ e. e.thread == u) B
 
--- whether the name is one of these
+-- whether the name is in the list
 abbrev pub is_named : List (List ℕ) → List ℕ → Bool
 is_named names name = list_any (bytes_eq name) names
 
@@ -64,22 +64,22 @@ fork_uses es = flat_map (name_where names_forked) es
 abbrev pub join_uses : List NamedEvent → List (List ℕ)
 join_uses es = flat_map (name_where names_joined) es
 
--- The recording has each thread and each lock of the events, and none twice.
+-- The recording has each thread and each lock of the events, and no name twice.
 pub record IsNumbering (R : Recording) (es : List NamedEvent) : Type 0 where
   pub threads : (name : List ℕ) → list_any (bytes_eq name) (thread_uses es) ≡ true → list_any (bytes_eq name) R.threads ≡ true
   pub locks : (name : List ℕ) → list_any (bytes_eq name) (lock_uses es) ≡ true → list_any (bytes_eq name) R.locks ≡ true
   pub each_thread : IsDistinct bytes_eq R.threads
   pub each_lock : IsDistinct bytes_eq R.locks
 
--- the events by the numbers of the recording
+-- the events with the numbers of the recording
 abbrev pub by_numbers : Recording → List NamedEvent → List Event
 by_numbers R es = map (numbered R.threads R.variables R.locks) es
 
--- the name of the variable that a summary reads
+-- the name of the variable that a head reads
 abbrev pub read_name : List ℕ
 read_name = codes "seen"
 
--- the thread and the lock are the recording's; the variable is, or is the one after them
+-- thread and lock are the recording's; the variable is too, or has the number after them
 abbrev pub IsOfOp : Recording → Op → Type 0
 IsOfOp r (Read x) = x ≤ length r.variables
 IsOfOp r (Write x) = x ≤ length r.variables
@@ -91,12 +91,12 @@ IsOfOp r (Join u) = u < length r.threads
 abbrev pub IsOf : Recording → Event → Type 0
 IsOf r e = (e.thread < length r.threads) × IsOfOp r e.op
 
--- it is the number of a thread that the events name
+-- u is the number of a thread that the events name
 abbrev pub IsThreadOf : Recording → List NamedEvent → ℕ → Type 0
 IsThreadOf R es u = (name : List ℕ) × (is_named (thread_uses es) name ≡ true) × (u ≡ number_of R.threads name)
 
--- The text `head` stands in the place of the text `front`, which keeps the rules, before the text `more`: whatever the numbers of their
--- names are, it leaves the same behind for the threads that `more` names.
+-- The text `head` replaces the text `front`, which keeps the rules, before the text `more`. However names are
+-- numbered, it leaves the same state for the threads that `more` names.
 pub record Stands (front head more : List ℕ) : Type 0 where
   pub whole : IsWhole front
   pub ends : IsWhole head
@@ -106,15 +106,15 @@ pub record Stands (front head more : List ℕ) : Type 0 where
       (R : Recording) → IsNumbering R (said_in front) → IsNumbering R (said_in more)
       → IsLeft (IsThreadOf R (said_in more)) (by_numbers R (said_in front)) (by_numbers R (said_in head))
 
--- What is kept of a trace: the names of the threads that were forked, that have an event, and that were joined; and a text of acquires
--- that takes what is held.
+-- The summary of a trace: the names of the threads that were forked, that have an event, and that were joined; and a
+-- text of acquires for the locks that are held.
 pub record Past : Type 0 where
   pub forked : List (List ℕ)
   pub seen : List (List ℕ)
   pub joined : List (List ℕ)
   pub held : List ℕ
 
--- The text keeps the rules, and this is what is kept of it.
+-- The text keeps the rules, and this is its summary.
 pub record IsPast (front : List ℕ) (past : Past) : Type 0 where
   pub whole : IsWhole front
   pub keeps : IsDisciplined (long_trace front)
@@ -128,7 +128,7 @@ pub record IsPast (front : List ℕ) (past : Past) : Type 0 where
       (R : Recording) → IsNumbering R (said_in front) → (t l : ℕ)
       → hold_count (by_numbers R (said_in front)) t l ≡ hold_count (by_numbers R (said_in past.held)) t l
 
--- The text is of acquires that take what is held after the recording.
+-- The text has the acquires for the locks that are held after the recording.
 pub record IsHeldText (r : Recording) (text : List ℕ) : Type 0 where
   pub events : List Event
   pub named : All (IsOf r) events
@@ -136,17 +136,18 @@ pub record IsHeldText (r : Recording) (text : List ℕ) : Type 0 where
   pub holds : (t l : ℕ) → hold_count r.events t l ≡ hold_count events t l
   pub is : text ≡ events_text (with_name r read_name) events []
 
--- What is kept after a piece: the threads that the piece forks, that have an event in it, and that it joins are noted, and the text takes
--- what is held after the recording of the piece.
+-- The summary after a piece. It adds the threads that the piece forks or joins, and those that have an event in it.
+-- Its text has the acquires for the locks that are held after the piece.
 pub record IsNext (past next : Past) (r : Recording) (more : List ℕ) : Type 0 where
   pub forked : (name : List ℕ) → is_named next.forked name ≡ (is_named past.forked name || is_named (fork_uses (said_in more)) name)
   pub seen : (name : List ℕ) → is_named next.seen name ≡ (is_named past.seen name || is_named (own_uses (said_in more)) name)
   pub joined : (name : List ℕ) → is_named next.joined name ≡ (is_named past.joined name || is_named (join_uses (said_in more)) name)
   pub held : IsHeldText r next.held
 
--- The text reads as a trace of its own: n events, and then the events K to M of the trace T. A pair that a correct reordering of it
--- shows, both behind its first n events, the trace shows by its first K events and that reordering. And such a pair is never shown
--- exactly if the trace never shows it by a list that begins with its first K events and has none from M on.
+-- The text reads as a complete trace: n events, and then the events K to M of the trace T. Take a pair of events,
+-- both after its first n. If a correct reordering of the text shows the pair, the trace shows it by its first K
+-- events and that reordering. The pair is never shown exactly if no list of the trace shows it that begins with its
+-- first K events and has none from M on.
 pub record IsExactPart (T : List Event) (K M n : ℕ) (text : List ℕ) : Type 0 where
   pub inner : Recording
   pub reads : reading_of text ≡ Ok inner
@@ -160,23 +161,23 @@ pub record IsExactPart (T : List Event) (K M n : ℕ) (text : List ℕ) : Type 0
       (a b : ℕ) → n ≤ a → a < length inner.events → n ≤ b → b < length inner.events
       → IsNeverShown inner.events a b ↔ IsNeverShownFrom T K M (back n K a) (back n K b)
 
--- The text is a window of what the long text `whole` says: after n events of a prologue, its events K to M by name and with their
--- locations.
+-- The text is a window of the long text `whole`: after n events of a prologue, it has the events K to M by name and
+-- with their locations.
 pub record IsWindowAt (whole : List ℕ) (K M n : ℕ) (text : List ℕ) : Type 0 where
   pub exact : IsExactPart (long_trace whole) K M n text
   pub part : drop n (said_in text) ≡ take (M - K) (drop K (said_in whole))
 
--- how many lines end in the text
+-- the number of lines that end in the text
 abbrev pub feeds : List ℕ → ℕ
 feeds text = count_by is_line_feed text
 
--- why a line is refused that is no event
+-- why a line is refused on its own
 abbrev pub line_fault : LineReading → Option TextCause
 line_fault Skipped = None
 line_fault (Refused why) = Some why
 line_fault (Says event) = None
 
--- why the line at place i of the text is refused, whatever stands before it
+-- why line i of the text is refused on its own
 abbrev pub refused_at : List ℕ → ℕ → Option TextCause
 refused_at text i = line_fault (line_reading (slice_index_or (slice_split is_line_feed text) i []))
 
@@ -184,23 +185,23 @@ refused_at text i = line_fault (line_reading (slice_index_or (slice_split is_lin
 abbrev pub IsUnrefused : List ℕ → Type 0
 IsUnrefused text = (i : ℕ) → i < feeds text + 1 → refused_at text i ≡ None
 
--- The line of this number, from 1, is the first of the text that is refused.
+-- The line with this number, counted from 1, is the first refused line of the text.
 pub record IsFirstRefused (text : List ℕ) (line : ℕ) (why : TextCause) : Type 0 where
   pub counted : 0 < line
   pub within : line ≤ feeds text + 1
   pub fault : refused_at text (line - 1) ≡ Some why
   pub earlier : (j : ℕ) → j + 1 < line → refused_at text j ≡ None
 
--- What was read of a trace, and what is kept of it.
+-- What was read of a trace, and its summary.
 pub record Stream : Type 0 where
   pub read : List ℕ
   pub past : Past
 
--- nothing is kept
+-- the empty summary
 abbrev pub no_past : Past
 no_past = record { forked = []; seen = []; joined = []; held = [] }
 
--- nothing was read
+-- nothing has been read
 abbrev pub nothing_read : Stream
 nothing_read = record { read = []; past = no_past }
 
@@ -208,7 +209,7 @@ nothing_read = record { read = []; past = no_past }
 abbrev pub IsKept : List ℕ → Type 0
 IsKept text = (r : Recording) × (reading_of text ≡ Ok r) × IsDisciplined r.events
 
--- This is kept of what was read, with so many acquires of what is held. So many events and lines were read.
+-- The summary is that of what was read. It has `holds` acquires, and `number` events and `lines` lines were read.
 pub record IsFront (read : List ℕ) (past : Past) (holds number lines : ℕ) : Type 0 where
   pub is_past : IsPast read past
   pub unrefused : IsUnrefused read
@@ -217,8 +218,8 @@ pub record IsFront (read : List ℕ) (past : Past) (holds number lines : ℕ) : 
   pub number_small : number < 1000000000000000000
   pub lines_are : lines ≡ feeds read
 
--- Why no window is made at the event of this number of a text: it is not read, it breaks a rule, it has no such event, or each name
--- that would do is taken.
+-- Why there is no window of a text at the event `size`: the text cannot be read, it breaks a rule, it has no such
+-- event, or every possible name is taken.
 abbrev pub IsPieceFault : List ℕ → ℕ → PieceFault → Type 0
 IsPieceFault text size (Text why) = (why ≡ no_memory) ⊎ (reading_of text ≡ Err why)
 IsPieceFault text size (Rule why) = (r : Recording) × (reading_of text ≡ Ok r) × ((why ≡ no_table) ⊎ IsFirstBreach r.events why)

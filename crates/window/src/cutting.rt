@@ -16,19 +16,19 @@ use trace_rules::Trace;
 /// A window of a trace.
 #[derive(Drop)]
 pub struct Window {
-    /// A trace of its own.
+    /// The window's text: a complete trace.
     pub text: Vec<u8>,
-    /// The number of its first event in the trace.
+    /// The number of the window's first event in the trace, counted from 0.
     pub from: u64,
-    /// That of the first event after it.
+    /// The number of the first event after the window in the trace.
     pub to: u64,
-    /// How many events come before its own.
+    /// The number of events in the prologue, which come before the window's own events.
     pub prologue: u64,
 }
 
 impl Window {
-    /// The number in the trace of the event of this number in the window's text. None if it is an event of the prologue,
-    /// or if no u64 holds the number.
+    /// The number in the trace of the event with this number in the window's text. None if it is an event of the
+    /// prologue, or if the number does not fit in a u64.
     pub fn number_of(&self, event: u64) -> Option<u64>
         ensures some { IfSome result (λ number. (self.now.prologue ≤ event) × (number ≡ back self.now.prologue self.now.from event)) }
         ensures none { result ≡ None → (event < self.now.prologue) ⊎ (2 ^ 64 ≤ back self.now.prologue self.now.from event) }
@@ -40,7 +40,7 @@ impl Window {
     }
 }
 
-// The end of the window at `from` with at most so many events, and the events of its prologue.
+// The end of the window at `from` with at most `most` events, and the events of its prologue.
 fn end_of(
     alloc: Global,
     trace: &Trace,
@@ -66,7 +66,7 @@ fn end_of(
     }
 }
 
-// The text of the window from `from` to `to` with the events of its prologue.
+// The text of the window from `from` to `to`, whose prologue has these events.
 fn text_of(
     alloc: Global,
     trace: &RawTrace,
@@ -89,7 +89,7 @@ fn text_of(
     Ok(text)
 }
 
-// The same, where the first event of the part has this number in a longer trace.
+// The same if event `from` has the number `number` in a longer trace.
 fn text_at(
     alloc: Global,
     trace: &RawTrace,
@@ -119,8 +119,9 @@ fn text_at(
     Ok(text)
 }
 
-/// The window of the trace at this event, with at most so many events, as a text: a trace of its own, which says in its
-/// first line where it lies. It has fewer events if its prologue would make it longer than a trace may be.
+/// The window of the trace at event `from`, with at most `most` events, as a text. The text is a complete trace, and
+/// its first line gives the window's numbers in the trace. The window has fewer events if it would be longer than a
+/// trace may be.
 pub fn cut(alloc: Global, trace: &Trace, from: u32, most: u32) -> Result<Vec<u8>, CutFault>
     requires { 0 < most }
     ensures ok { IfOk result (λ text. (from < length trace.now.events) × IsCut trace.now from most text.items) }
@@ -144,7 +145,7 @@ pub fn cut(alloc: Global, trace: &Trace, from: u32, most: u32) -> Result<Vec<u8>
     Ok(text)
 }
 
-/// The same of a trace that stands in the place of a longer one, where this event has this number.
+/// The same for a trace that represents a longer one, in which event `from` has the number `number`.
 pub fn cut_at(
     alloc: Global,
     trace: &Trace,

@@ -1,4 +1,4 @@
-//! Why a trace is not cut.
+//! Why a trace or a piece of a trace is not cut.
 
 use rapid_text::{OutOfMemory, TextCause};
 use std::alloc::{AllocError, AllocFailed};
@@ -7,11 +7,11 @@ use trace_rules::RuleCause;
 /// Why there is no window of a trace.
 #[derive(Clone, Copy, PartialEq, Eq, Debug)]
 pub enum CutFault {
-    /// The trace has no event with the number at which the window begins.
+    /// The trace has no event with the number of the window's first event.
     NoSuchEvent,
-    /// The trace uses each name that the prologue's variable could have.
+    /// The trace uses every name that the prologue's variable could have.
     NoName,
-    /// A growth was refused.
+    /// Out of memory.
     OutOfMemory,
 }
 
@@ -48,7 +48,7 @@ impl<T: Drop> From<AllocFailed<T>> for CutFault {
     }
 }
 
-/// Why a piece of a long trace is refused. Lines and events have their numbers in all that was read.
+/// Why a piece of a long trace is refused. Lines and events are counted over all that was read.
 #[derive(Clone, Copy, PartialEq, Eq, Debug)]
 pub enum FrontFault {
     /// A line is refused. Lines are counted from 1.
@@ -59,13 +59,14 @@ pub enum FrontFault {
     Unended,
     /// The piece has no event.
     NoSuchEvent,
-    /// The piece uses each name that the prologue's variable could have.
+    /// The piece uses every name that the prologue's variable could have.
     NoName,
-    /// The piece has more threads than a trace may have, together with those that hold a lock before it and at most two others.
+    /// The piece has too many threads. The limit counts its own, those that hold a lock before it, and at most two
+    /// others.
     TooManyThreads,
-    /// The piece has more events than fit, or more was read than can be counted, or kept.
+    /// The piece has more events than fit, or the number of events or lines read would be too large.
     TooLong,
-    /// A growth was refused.
+    /// Out of memory.
     OutOfMemory,
 }
 

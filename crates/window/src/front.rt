@@ -1,4 +1,4 @@
-//! A trace of any length, as far as it was read.
+//! A trace of any length, as far as it has been read.
 ghost use Rattle.std.specs.Prelude.{◌≡◌, ◌+◌, ◌-◌, ◌<◌, ◌≤◌, ◌++◌, ℕ, List, length, Ok, Err, IfOk, IfErr, OnOk, OnErr, IfSome, None};
 ghost use Rattle.rapid_text.specs.Limits.{event_limit};
 ghost use Rattle.rapid_text.specs.Reading.{first_uses, reading_of, thread_uses};
@@ -20,30 +20,30 @@ use std::alloc::Global;
 use std::marker::Model;
 use trace_rules::Trace;
 
-/// More events than are counted.
+/// The number of events must be below this.
 const MAX_NUMBER: u64 = 1_000_000_000_000_000_000;
 
-/// A trace of any length, as far as it was read: how much that was, and what is kept of it: the names of its threads, and what is held. A
-/// clause sees the text that was read, and what is kept.
+/// A trace of any length, as far as it has been read: the numbers of events and lines, the names of its threads, and
+/// the locks held. A clause sees the text that was read, and the summary of it that is kept.
 #[derive(Drop)]
 pub struct Front {
-    // What was read. It has no bytes.
+    // The text that was read. It takes no bytes.
     read: Tag,
-    // What is kept of it.
+    // The summary of that text.
     known: Known,
-    // How many events and lines were read.
+    // The numbers of events and lines read.
     pub(crate) number: u64,
     pub(crate) lines: u64,
 }
 
-/// A text in the place of what was read, and how many events it has.
+/// A text that replaces what was read, and its number of events.
 #[derive(Drop)]
 pub(crate) struct Head {
     pub(crate) text: Vec<u8>,
     pub(crate) size: u32,
 }
 
-// The trace that such a text and a piece after it are, and how many of its events are those of the text.
+// The trace that such a text and a piece after it form, and the number of its events that come from the text.
 #[derive(Drop)]
 struct Next {
     trace: Trace,
@@ -62,7 +62,7 @@ impl Model for Front {
 }
 
 impl Front {
-    /// Nothing was read.
+    /// Nothing has been read.
     pub fn begin(alloc: Global) -> Front
         ensures { result ≡ nothing_read }
     {
@@ -74,22 +74,22 @@ impl Front {
         }
     }
 
-    /// How many events were read.
+    /// The number of events read.
     pub fn number(&self) -> u64
         ensures { result ≡ length (said_in self.now.read) }
     {
         self.number
     }
 
-    /// How many lines were read.
+    /// The number of lines read.
     pub fn lines(&self) -> u64
         ensures { result ≡ feeds self.now.read }
     {
         self.lines
     }
 
-    /// How many events the next piece may have at least: a text in the place of what was read says three things at most of a thread, and
-    /// takes what is held.
+    /// At least this many events fit in the next piece. The text that replaces what was read has at most three events
+    /// for each thread, and an acquire for each hold.
     pub fn room(&self) -> u32
         ensures { result ≡ event_limit - (768 + length (said_in self.now.past.held)) }
     {
@@ -98,14 +98,14 @@ impl Front {
             .saturating_sub(self.known.holds) as u32
     }
 
-    /// What was read keeps the rules, and this is kept of it.
+    /// What was read keeps the rules, and its summary is right.
     pub fn stands(&self)
         ensures { IsPast self.now.read self.now.past }
     {
         let _ = &self.known;
     }
 
-    /// How many threads have an event in what was read, or are forked or joined there.
+    /// The number of threads that have an event in what was read, or are forked or joined there.
     pub fn threads(&self, alloc: Global) -> Result<usize, OutOfMemory>
         ensures { IfOk result (λ count. count ≡ length (first_uses (thread_uses (said_in self.now.read)))) }
     {
@@ -113,12 +113,13 @@ impl Front {
         Ok(all.len())
     }
 
-    /// The window of the events after what was read, with at most so many of them. `more` begins with these, and is of whole lines.
+    /// The window of the next events after what was read, at most `most` of them. `more` begins with these, and has
+    /// only whole lines.
     pub fn window(&self, alloc: Global, more: &[u8], most: u32) -> Result<Window, FrontFault>
         requires { 0 < most }
         ensures from { IfOk result (λ w. w.from ≡ length (said_in self.now.read)) }
         ensures most { IfOk result (λ w. (w.from < w.to) × (w.to ≤ w.from + most)) }
-        // Whatever comes later, it is a window of the whole trace.
+        // Whatever comes later, this is a window of the whole trace.
         ensures window { IfOk result
             (λ w. (later : List ℕ)
             → IsDisciplined (long_trace (self.now.read ++ (more.now ++ later)))
@@ -138,7 +139,7 @@ impl Front {
         }
     }
 
-    /// Reads on by these whole lines. If they are refused, or break a rule, nothing changes.
+    /// Reads these whole lines. If they are refused, or break a rule, nothing changes.
     pub fn go_on(&mut self, alloc: Global, more: &[u8]) -> Result<(), FrontFault>
         ensures ok { OnOk result (self.new.read ≡ self.old.read ++ more.now) }
         ensures err { OnErr result (self.new ≡ self.old) }
@@ -150,7 +151,7 @@ impl Front {
         }
     }
 
-    // A text that stands in the place of what was read, before this piece.
+    // A text that replaces what was read, before this piece.
     fn head(&self, alloc: Global, more: &[u8]) -> Result<Head, FrontFault>
         ensures stands { IfOk result (λ head. Stands self.now.read head.text.items more.now) }
         ensures kept { IfOk result (λ head. IsKept head.text.items) }
@@ -169,7 +170,7 @@ impl Front {
         }
     }
 
-    // The same of all threads, before any piece; None if they are too many.
+    // The same for all threads, before any piece; None if there are too many threads.
     fn whole_head(&self, alloc: Global) -> Result<Option<Head>, OutOfMemory>
         ensures stands { IfOk result
             (λ head. IfSome head (λ h. (more : List ℕ) → Stands self.now.read h.text.items more)) }
@@ -185,7 +186,7 @@ impl Front {
         }
     }
 
-    // The window, if its piece is read after a head of all threads. This reads the piece once.
+    // The window, if the piece can be read after a head with all threads. This reads the piece only once.
     fn quick_window(
         &self,
         alloc: Global,
@@ -237,7 +238,7 @@ impl Front {
         }
     }
 
-    // What is read of the piece, if it is after a head of all threads.
+    // The trace of the piece, if it can be read after a head with all threads.
     fn quick_next(&self, alloc: Global, more: &[u8]) -> Result<Option<Next>, OutOfMemory>
         ensures { IfOk result (λ made. IfSome made (λ next. IsReadAfter self.now.read more.now next.trace next.from)) }
     {
@@ -250,7 +251,7 @@ impl Front {
         }
     }
 
-    // What is read of the piece after this head.
+    // The trace of the piece after this head.
     fn next(&self, alloc: Global, head: &Head, more: &[u8]) -> Result<Next, PieceFault>
         requires stands { Stands self.now.read head.now.text.items more.now }
         requires size { head.now.size ≡ length (said_in head.now.text.items) }
@@ -266,7 +267,7 @@ impl Front {
         }
     }
 
-    // The same, which may be none that is read.
+    // The text of such a head, which may not be readable as a trace.
     fn head_of(&self, alloc: Global, more: &[u8], raw: &RawTrace) -> Result<Vec<u8>, OutOfMemory>
         requires { reading_of more.now ≡ Ok raw.now }
         ensures stands { IfOk result (λ text. Stands self.now.read text.items more.now) }
@@ -276,7 +277,7 @@ impl Front {
         Ok(text)
     }
 
-    // What is read of these lines.
+    // The trace of these lines.
     fn read_on(&self, alloc: Global, more: &[u8]) -> Result<Next, FrontFault>
         ensures whole { IfOk result (λ next. IsWhole more.now) }
         ensures ok { IfOk result (λ next. IsReadAfter self.now.read more.now next.trace next.from) }
@@ -295,7 +296,7 @@ impl Front {
         }
     }
 
-    // Keeps what is so after these lines. If they cannot be counted, or memory runs out, nothing changes.
+    // Updates the summary for these lines. If they cannot be counted, or memory runs out, nothing changes.
     fn take_in(&mut self, alloc: Global, more: &[u8], next: &Next) -> Result<(), FrontFault>
         requires whole { IsWhole more.now }
         requires next { IsReadAfter self.old.read more.now next.now.trace next.now.from }
@@ -318,7 +319,7 @@ impl Front {
     }
 }
 
-// So many events more, if they can be counted.
+// The sum of both, if it is below the limit.
 fn counted(number: u64, events: u32) -> Option<u64>
     ensures some { IfSome result (λ sum. (sum ≡ number + events) × (sum < 1000000000000000000)) }
     ensures none { result ≡ None → 1000000000000000000 ≤ number + events }

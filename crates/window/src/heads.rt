@@ -1,4 +1,4 @@
-//! A text that stands in the place of what was read, before a piece of a trace.
+//! A text that replaces what was read, before a piece of a trace.
 ghost use Rattle.std.specs.Prelude.{◌≡◌, ◌++◌, ℕ, List, [], false, if◌then◌else◌, codes, IfOk, OnOk};
 ghost use Rattle.window.specs.HeadText.{all_kept, all_of, first_outside, head_text, noted_lines, said_line};
 ghost use Rattle.window.specs.Heads.{level_names, names_of, past_of};
@@ -27,7 +27,7 @@ fn append_said(
     Ok(())
 }
 
-// Appends the line that this thread forks or joins that of the name, if it is noted.
+// Appends a line in which this thread forks or joins the thread `name`, if that one is noted.
 fn append_call(
     text: &mut Vec<u8>,
     noted: &Levels,
@@ -45,7 +45,7 @@ fn append_call(
     Ok(())
 }
 
-// Appends such a line for each thread of the piece that is noted.
+// Appends such a line for each noted thread of the piece.
 fn append_calls(
     text: &mut Vec<u8>,
     raw: &RawTrace,
@@ -63,7 +63,7 @@ fn append_calls(
     Ok(())
 }
 
-// Whether a thread of the piece is noted.
+// Whether any thread of the piece is noted.
 fn is_any_noted(noted: &Levels, raw: &RawTrace) -> bool
     ensures none { result ≡ false
         → (line : List ℕ → List ℕ) → noted_lines line (level_names noted.now) raw.now.threads ≡ [] }
@@ -76,8 +76,9 @@ fn is_any_noted(noted: &Levels, raw: &RawTrace) -> bool
     false
 }
 
-// Appends for each thread of the piece that was joined: the line by which the first thread that was not joined joins it. That first thread
-// is looked for only if there is such a line. In a trace that keeps the rules a joined thread has no further event, so no piece has one.
+// For each joined thread of the piece, appends a line in which the first thread that was not joined joins it. The
+// function looks for that first thread only if it has such a line to append. If a trace keeps the rules, a joined
+// thread has no later event, so no piece has one.
 fn append_joins(
     text: &mut Vec<u8>,
     raw: &RawTrace,
@@ -97,7 +98,7 @@ fn append_joins(
     Ok(())
 }
 
-// Appends the line of a read by the thread of this name, if it is noted.
+// Appends a read by the thread of this name, if it is noted.
 fn append_read(text: &mut Vec<u8>, noted: &Levels, name: &[u8]) -> Result<(), OutOfMemory>
     ensures { OnOk result
         (text.new.items
@@ -109,7 +110,7 @@ fn append_read(text: &mut Vec<u8>, noted: &Levels, name: &[u8]) -> Result<(), Ou
     Ok(())
 }
 
-// Appends such a line for each thread of the piece that is noted.
+// Appends such a read for each noted thread of the piece.
 fn append_reads(text: &mut Vec<u8>, raw: &RawTrace, noted: &Levels) -> Result<(), OutOfMemory>
     ensures { OnOk result
         (text.new.items
@@ -121,7 +122,7 @@ fn append_reads(text: &mut Vec<u8>, raw: &RawTrace, noted: &Levels) -> Result<()
     Ok(())
 }
 
-// Appends the line of each thread of the level that is noted.
+// Appends the line of each noted thread of the level.
 fn append_level_calls(
     text: &mut Vec<u8>,
     noted: &Levels,
@@ -140,7 +141,7 @@ fn append_level_calls(
     Ok(())
 }
 
-// Appends the line of each thread that is noted.
+// Appends the line of each noted thread.
 fn append_all_calls(
     text: &mut Vec<u8>,
     noted: &Levels,
@@ -158,7 +159,7 @@ fn append_all_calls(
     Ok(())
 }
 
-// Appends the line of a read by each thread of the level that is noted.
+// Appends a read by each noted thread of the level.
 fn append_level_reads(text: &mut Vec<u8>, noted: &Levels, level: &Names) -> Result<(), OutOfMemory>
     ensures { OnOk result
         (text.new.items
@@ -171,7 +172,7 @@ fn append_level_reads(text: &mut Vec<u8>, noted: &Levels, level: &Names) -> Resu
     Ok(())
 }
 
-// Appends the line of a read by each thread that is noted.
+// Appends a read by each noted thread.
 fn append_all_reads(text: &mut Vec<u8>, noted: &Levels) -> Result<(), OutOfMemory>
     ensures { OnOk result
         (text.new.items
@@ -185,7 +186,7 @@ fn append_all_reads(text: &mut Vec<u8>, noted: &Levels) -> Result<(), OutOfMemor
 }
 
 impl Known {
-    /// The text that stands in the place of what was read, before any piece: it is of all threads.
+    /// The text that replaces what was read, before any piece: it has all threads.
     pub(crate) fn whole_head(&self, alloc: Global) -> Result<Vec<u8>, OutOfMemory>
         ensures { IfOk result
             (λ text. text.items ≡ head_text (past_of self.now) (all_kept (past_of self.now))) }
@@ -200,8 +201,9 @@ impl Known {
         Ok(text)
     }
 
-    /// The text that stands in the place of what was read, before this piece. It is of the threads that the piece names, and of those that
-    /// hold a lock. Its lines keep the rules in this order: the thread that forks is never forked, and the one that joins is not joined.
+    /// The text that replaces what was read, before this piece. It has the threads that the piece names, and those
+    /// that hold a lock. In this order its lines keep the rules: the thread that forks is never forked, and the one
+    /// that joins is not joined.
     pub(crate) fn head(&self, alloc: Global, raw: &RawTrace) -> Result<Vec<u8>, OutOfMemory>
         ensures { IfOk result (λ text. text.items ≡ head_text (past_of self.now) (all_of raw.now.threads)) }
     {

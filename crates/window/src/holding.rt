@@ -6,14 +6,14 @@ use rapid_text::{Op, OutOfMemory};
 use std::alloc::Global;
 use trace_rules::Trace;
 
-/// The thread that holds a lock, and how often; or any thread, and 0.
+/// The thread that holds a lock, and the number of its holds; or any thread, and 0.
 #[derive(Clone, Copy)]
 pub(crate) struct Held {
     pub(crate) thread: u32,
     pub(crate) depth: u32,
 }
 
-/// What is held of each lock before this event.
+/// The hold of each lock before this event.
 pub(crate) fn held_before(alloc: Global, trace: &Trace, at: u32) -> Result<Vec<Held>, OutOfMemory>
     requires { at ≤ length trace.now.events }
     ensures { IfOk result (λ held. AreHeld trace.now.events at (length trace.now.locks) held.items) }
@@ -29,7 +29,7 @@ pub(crate) fn held_before(alloc: Global, trace: &Trace, at: u32) -> Result<Vec<H
     Ok(held)
 }
 
-// Takes the event into what is held after the events before it.
+// Adds the event to the holds, which are those before it.
 fn note_hold(held: &mut Vec<Held>, trace: &Trace, at: u32)
     requires event { at < length trace.now.events }
     requires held { AreHeld trace.now.events at (length trace.now.locks) held.old.items }

@@ -1,4 +1,5 @@
-//! What is kept of a trace: which threads were forked, have an event, and were joined, and what is held.
+//! The summary of a trace that was read: which threads were forked, have an event, or were joined, and which locks
+//! are held.
 ghost use Rattle.std.specs.Prelude.{◌≡◌, ◌||◌, ◌≤◌, ℕ, [], List, length, IfOk, OnOk, OnErr};
 ghost use Rattle.window.specs.Heads.{grown_names, level_names, names_of, past_of};
 ghost use Rattle.window.specs.Streams.{IsHeldText, is_named};
@@ -11,8 +12,8 @@ use rapid_text::{MAX_THREADS, OutOfMemory};
 use std::alloc::Global;
 use trace_rules::Trace;
 
-/// What is kept of a trace: the names of its threads that were forked, that have an event, and that were joined; and a text of acquires that
-/// takes what is held, with how many they are.
+/// The names of threads that were forked, of those that have an event, and of those that were joined. A text of
+/// acquires takes the locks that are held, and `holds` is their number.
 #[derive(Drop)]
 pub(crate) struct Known {
     pub(crate) forked: Levels,
@@ -22,7 +23,7 @@ pub(crate) struct Known {
     pub(crate) holds: usize,
 }
 
-// What is new after a piece.
+// The updates of the summary after a piece.
 #[derive(Drop)]
 struct Later {
     forked: Grown,
@@ -33,7 +34,7 @@ struct Later {
 }
 
 impl Known {
-    /// Nothing is kept.
+    /// The summary before the first event.
     pub(crate) fn begin(alloc: Global) -> Known
         ensures forked { level_names result.forked ≡ [] }
         ensures seen { level_names result.seen ≡ [] }
@@ -73,7 +74,7 @@ impl Known {
         forked.max(seen).max(joined) > MAX_THREADS
     }
 
-    /// Keeps what is so after this trace, of which the events from `from` on were not known. If memory runs out, nothing changes.
+    /// Updates the summary for this trace, whose events from `from` on are new. If memory runs out, nothing changes.
     pub(crate) fn go_on(
         &mut self,
         alloc: Global,
@@ -106,7 +107,7 @@ impl Known {
         Ok(())
     }
 
-    // What is new after this trace.
+    // The updates for this trace.
     fn after(&self, alloc: Global, trace: &Trace, from: u32) -> Result<Later, OutOfMemory>
         requires { from ≤ length trace.now.events }
         ensures forked { IfOk result (λ later.
@@ -140,7 +141,7 @@ impl Known {
         })
     }
 
-    // Keeps what is new. Room for it is made first, so nothing is half done.
+    // Applies the updates. It reserves memory first, so it never stops halfway.
     fn take_in(&mut self, later: Later) -> Result<(), OutOfMemory>
         ensures forked { OnOk result (level_names self.new.forked ≡ grown_names self.old.forked later.forked) }
         ensures seen { OnOk result (level_names self.new.seen ≡ grown_names self.old.seen later.seen) }

@@ -1,35 +1,35 @@
-//! What a window of a trace tells of the trace. Each function here does nothing: its contract is a law of the
-//! definitions, and the laws' words stand in `specs/Laws.antt`.
+//! What a window of a trace says about the trace. Each function here does nothing: its contract is a law of the
+//! definitions, which `specs/Laws.antt`, `specs/CutLaws.antt` and `specs/StreamLaws.antt` state.
 ghost use Rattle.window.specs.CutLaws.{CutAtReadsAsWindow, CutIsSound, CutReadsAsWindow};
 ghost use Rattle.window.specs.StreamLaws.{StreamBegins, StreamBreaks, StreamGoesOn, StreamIsSound, StreamKeepsRules, StreamReads, StreamRefuses};
 ghost use Rattle.window.specs.Laws.{ApartInWindow, ProloguesAreShort, PrologueIsApart, RenamingKeepsReorderings, WindowIsComplete, WindowIsDisciplined, WindowIsMade, WindowIsSound, WindowOfABeginning, WindowOfIsWindow};
 
-/// A window of a trace that keeps the rules keeps them.
+/// A window of a trace that keeps the rules keeps them too.
 pub fn window_is_disciplined()
     ensures { WindowIsDisciplined }
 {}
 
-/// What a correct reordering of the window shows, the trace shows.
+/// If a correct reordering of the window shows a pair, a correct reordering of the trace shows it.
 pub fn window_is_sound()
     ensures { WindowIsSound }
 {}
 
-/// A window that is made is one.
+/// The window that is built meets the definition of a window.
 pub fn window_is_made()
     ensures { WindowIsMade }
 {}
 
-/// What the trace shows by a list that begins as it was recorded up to the window, the window shows.
+/// If the trace shows a pair by a list that begins as recorded up to the window, the window shows it.
 pub fn window_is_complete()
     ensures { WindowIsComplete }
 {}
 
-/// The window of a trace is one.
+/// `window_of` meets the definition of a window.
 pub fn window_of_is_window()
     ensures { WindowOfIsWindow }
 {}
 
-/// A pair that the window never shows is one that the trace never shows from the window's beginning on.
+/// If the window never shows a pair, no list of the trace shows it that begins as recorded up to the window.
 pub fn apart_in_window()
     ensures { ApartInWindow }
 {}
@@ -39,7 +39,7 @@ pub fn prologue_is_apart()
     ensures { PrologueIsApart }
 {}
 
-/// A window of the events read so far is one of the trace.
+/// A window of the events read so far is a window of the whole trace.
 pub fn window_of_a_beginning()
     ensures { WindowOfABeginning }
 {}
@@ -49,58 +49,59 @@ pub fn renaming_keeps_reorderings()
     ensures { RenamingKeepsReorderings }
 {}
 
-/// A prologue is at most seventeen times as long as what it stands before.
+/// A prologue has at most seventeen times as many events as its part of the trace.
 pub fn prologues_are_short()
     ensures { ProloguesAreShort }
 {}
 
-/// What is cut from a trace that was read reads as its window.
+/// The text that is cut from a trace reads as the window of that trace.
 pub fn cut_reads_as_window()
     ensures { CutReadsAsWindow }
 {}
 
-/// And so does what is cut where events have other numbers.
+/// The same if the events have other numbers in a longer trace.
 pub fn cut_at_reads_as_window()
     ensures { CutAtReadsAsWindow }
 {}
 
-/// A race of what is cut is a race of the trace.
+/// A race of the text that is cut is a race of the trace.
 pub fn cut_is_sound()
     ensures { CutIsSound }
 {}
 
-/// Before the first event nothing is kept.
+/// The summary before the first event is empty.
 pub fn stream_begins()
     ensures { StreamBegins }
 {}
 
-/// What was read and the piece after it keep the rules if the piece keeps them after a text that leaves the same behind.
+/// What was read and the piece after it keep the rules, if the piece keeps them after a text that leaves the same
+/// state.
 pub fn stream_keeps_rules()
     ensures { StreamKeepsRules }
 {}
 
-/// What is kept after a piece is what is kept of all that was read.
+/// The summary after a piece is that of all that was read.
 pub fn stream_goes_on()
     ensures { StreamGoesOn }
 {}
 
-/// The first event that breaks a rule after such a text is the first in all that was read.
+/// The first event of the piece that breaks a rule after such a text is the first in all that was read.
 pub fn stream_breaks()
     ensures { StreamBreaks }
 {}
 
-/// If no line of the piece is refused, none is in all that was read.
+/// If no line of the piece is refused, no line of all that was read is.
 pub fn stream_reads()
     ensures { StreamReads }
 {}
 
-/// The first line of the piece that is refused is the first in all that was read.
+/// The first refused line of the piece is the first in all that was read.
 pub fn stream_refuses()
     ensures { StreamRefuses }
 {}
 
-/// A window after such a text is a part of the whole trace: a race of it is one of the trace, and what it never shows, the trace never shows
-/// by a list that begins as recorded.
+/// A window after such a text is a part of the whole trace. A race of it is a race of the trace. What it never shows,
+/// no list of the trace shows that begins as recorded.
 pub fn stream_is_sound()
     ensures { StreamIsSound }
 {}

@@ -1,4 +1,4 @@
-//! A text that takes what a trace holds.
+//! A text that takes the locks that a trace holds at its end.
 ghost use Rattle.std.specs.Prelude.{◌≡◌, ◌++◌, ◌∷◌, ℕ, All, List, length, replicate, IfOk, OnOk};
 ghost use Rattle.rapid_text.specs.declared.event.Op.{Op};
 ghost use Rattle.trace_rules.specs.Rules.{hold_count};
@@ -26,7 +26,7 @@ fn add_takes(events: &mut Vec<Event>, held: Held, lock: u32) -> Result<(), OutOf
     Ok(())
 }
 
-// Adds the acquires of what is held after the trace.
+// Adds acquires for all locks that are held after the trace.
 fn add_holds(alloc: Global, trace: &Trace, events: &mut Vec<Event>) -> Result<(), OutOfMemory>
     ensures { OnOk result
         ((held : List Held)
@@ -40,7 +40,7 @@ fn add_holds(alloc: Global, trace: &Trace, events: &mut Vec<Event>) -> Result<()
     Ok(())
 }
 
-// Acquires that take what is held after the trace.
+// Acquires for all locks that are held after the trace.
 fn takes_after(alloc: Global, trace: &Trace) -> Result<Vec<Event>, OutOfMemory>
     ensures named { IfOk result (λ events. All (IsOf trace.now) events.items) }
     ensures takes { IfOk result (λ events. All (λ e. (l : ℕ) × (e.op ≡ Op.Acquire l)) events.items) }
@@ -54,7 +54,7 @@ fn takes_after(alloc: Global, trace: &Trace) -> Result<Vec<Event>, OutOfMemory>
     Ok(events)
 }
 
-/// The text of acquires that take what is held after the trace, and how many they are.
+/// The text of acquires for all locks that are held after the trace, and their number.
 pub(crate) fn held_text(alloc: Global, trace: &Trace) -> Result<(Vec<u8>, usize), OutOfMemory>
     ensures { IfOk result (λ made. (is : IsHeldText trace.now made.0.items) × (made.1 ≡ length is.events)) }
 {

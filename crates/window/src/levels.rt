@@ -1,4 +1,4 @@
-//! Names of threads in levels: tables that are made once each, and joined as they become many.
+//! Names of threads in levels: tables that are made once, and joined when there are many.
 ghost use Rattle.std.specs.Prelude.{◌≡◌, ◌&&◌, ◌||◌, ◌<◌, ◌≤◌, ℕ, [], List, flat_map, length, not, true, false, bytes_eq, slice_index_or, vec_len, vec_capacity, if◌then◌else◌, ◌++◌, ◌∷◌, IfOk, OnOk};
 ghost use Rattle.std.specs.List.{position_or_len};
 ghost use Rattle.window.specs.HeadText.{first_name, first_outside};
@@ -11,24 +11,24 @@ use rapid_text::{OutOfMemory, RawTrace, TextKeyed};
 use std::alloc::Global;
 use std::hash::{BuildHasher, Hasher};
 
-/// Names, each once.
+/// A set of names.
 pub(crate) type Names = IndexSet<Vec<u8>, TextKeyed>;
 
-/// Names in levels, each in one of them. A table does not grow once it is a level, and its hashers are keyed by all texts that were read up to
-/// then. So nobody can choose names that collide there.
+/// Names in levels, each name in one level. A table does not grow once it is a level. Its hashers are keyed by all
+/// texts that were read before, so nobody can choose names that collide there.
 #[derive(Drop)]
 pub(crate) struct Levels {
     pub(crate) levels: Vec<Names>,
 }
 
-/// The level that replaces those after the first few.
+/// The number of levels that stay, and the level that replaces the others.
 #[derive(Drop)]
 pub(crate) struct Grown {
     pub(crate) keep: usize,
     pub(crate) level: Names,
 }
 
-// No names, hashed by these hashers.
+// No names, with these hashers.
 pub(crate) fn no_names(alloc: Global, keyed: TextKeyed) -> Names
     ensures { names_of result ≡ [] }
 {
@@ -54,7 +54,7 @@ pub(crate) fn is_noted(names: &Levels, name: &[u8]) -> bool
     false
 }
 
-// Notes the name, if it is new.
+// Adds the name, if it is new.
 fn note(names: &mut Names, alloc: Global, name: &[u8]) -> Result<(), OutOfMemory>
     ensures { OnOk result
         (names_of names.new
@@ -65,7 +65,7 @@ fn note(names: &mut Names, alloc: Global, name: &[u8]) -> Result<(), OutOfMemory
     Ok(())
 }
 
-// Notes the name, if that is asked for.
+// Adds the name, if `asked` is true.
 fn note_if(names: &mut Names, alloc: Global, asked: bool, name: &[u8]) -> Result<(), OutOfMemory>
     ensures { OnOk result
         ((other : List ℕ)
@@ -79,7 +79,7 @@ fn note_if(names: &mut Names, alloc: Global, asked: bool, name: &[u8]) -> Result
     Ok(())
 }
 
-// Notes these names.
+// Adds these names.
 fn note_all(names: &mut Names, alloc: Global, others: &Names) -> Result<(), OutOfMemory>
     ensures { OnOk result
         ((other : List ℕ)
@@ -92,7 +92,7 @@ fn note_all(names: &mut Names, alloc: Global, others: &Names) -> Result<(), OutO
     Ok(())
 }
 
-/// Notes the names of these levels.
+/// Adds the names of these levels.
 pub(crate) fn note_levels(
     names: &mut Names,
     alloc: Global,
@@ -109,14 +109,14 @@ pub(crate) fn note_levels(
     Ok(())
 }
 
-// Whether a thread was found of which no level has the name.
+// Whether a thread was found and no level has its name.
 fn is_new(known: &Levels, found: bool, name: &[u8]) -> bool
     ensures { result ≡ (found && not (is_named (level_names known.now) name.now)) }
 {
     found && !is_noted(known, name)
 }
 
-// Notes the threads of the trace that were found, if no level has their names.
+// Adds the names of the trace's found threads that no level has.
 fn note_found(
     names: &mut Names,
     alloc: Global,
@@ -139,8 +139,9 @@ fn note_found(
     Ok(())
 }
 
-// How many levels stay if a level of so many names follows. Going back from the last, each that has at most twice as many names as come
-// after it is joined with them. So levels are few, and no name is copied often.
+// The number of levels that stay if a level of `names` names follows. The levels that do not stay are joined with it.
+// They are the last ones, back to the first that has more than twice as many names as all after it. So there are few
+// levels, and no name is copied often.
 fn kept_levels(known: &Levels, names: usize) -> usize
     ensures { result ≤ length known.now.levels.items }
 {
@@ -157,14 +158,14 @@ fn kept_levels(known: &Levels, names: usize) -> usize
     0
 }
 
-// The hashers of what was read before and of this trace: each name of both is a part of their key.
+// The hashers that are keyed by each name of what was read before and of this trace.
 fn keyed_by(known: &Levels, raw: &RawTrace) -> TextKeyed {
     let mut both = known.keyed().build_hasher();
     both.write_u64(raw.keyed().build_hasher().finish());
     TextKeyed::of(&both.finish().to_le_bytes())
 }
 
-// The level of these names, and of the levels before it that it replaces. Names stay in the order in which they came.
+// The level with these names and those of the levels that it replaces. Names stay in their order.
 fn joined(
     alloc: Global,
     keyed: TextKeyed,
@@ -183,7 +184,7 @@ fn joined(
     Ok(Grown { keep, level })
 }
 
-/// What these levels become with the names of the threads that were found.
+/// The update of these levels for the names of the found threads.
 pub(crate) fn with_found(
     alloc: Global,
     raw: &RawTrace,
@@ -204,7 +205,7 @@ pub(crate) fn with_found(
     Ok(grown)
 }
 
-/// The first of the names; none if there are none.
+/// The first of the names; empty if there is none.
 pub(crate) fn first_of(names: &Levels) -> &[u8]
     ensures { result.now ≡ first_name (level_names names.now) }
 {
@@ -217,7 +218,7 @@ pub(crate) fn first_of(names: &Levels) -> &[u8]
     &[]
 }
 
-// Where the first of the names is that no other level has; or how many they are.
+// The index of the first name that no other level has; the number of names if there is none.
 fn outside_at(names: &Names, others: &Levels) -> usize
     ensures { result ≡ position_or_len (λ name. not (is_named (level_names others.now) name)) (names_of names.now) }
 {
@@ -229,7 +230,7 @@ fn outside_at(names: &Names, others: &Levels) -> usize
     names.len()
 }
 
-/// The first of the names that is none of the others; or the first of them, if each is.
+/// The first of the names that is not among the others; the first of all if each is.
 pub(crate) fn first_other<'a>(names: &'a Levels, others: &Levels) -> &'a [u8]
     ensures { result.now ≡ first_outside (level_names names.now) (level_names others.now) }
 {
@@ -253,7 +254,7 @@ impl Levels {
         }
     }
 
-    /// The hashers of the last level. Each piece makes a level, so all that was read is a part of their key.
+    /// The hashers of the last level. Each piece makes a level, so all that was read is part of their key.
     pub(crate) fn keyed(&self) -> TextKeyed {
         match self.levels.last() {
             Some(level) => *level.hasher(),
@@ -261,7 +262,7 @@ impl Levels {
         }
     }
 
-    /// How many names there are.
+    /// The number of names.
     pub(crate) fn count(&self) -> usize {
         let mut count = 0_usize;
         for level in self.levels.iter() {
@@ -270,7 +271,7 @@ impl Levels {
         count
     }
 
-    /// Makes room for one more level.
+    /// Reserves memory for one more level.
     pub(crate) fn make_room(&mut self) -> Result<(), OutOfMemory>
         ensures same { self.new.levels.items ≡ self.old.levels.items }
         ensures room { OnOk result (vec_len self.new.levels < vec_capacity self.new.levels) }
@@ -279,7 +280,7 @@ impl Levels {
         Ok(())
     }
 
-    /// Takes the level in, where there is room.
+    /// Puts the level in. It needs no memory.
     pub(crate) fn put(&mut self, grown: Grown)
         requires { vec_len self.old.levels < vec_capacity self.old.levels }
         ensures { level_names self.new ≡ grown_names self.old grown }

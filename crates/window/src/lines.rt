@@ -9,7 +9,7 @@ ghost use Rattle.window.specs.Made.{part_of};
 use itoa::Buffer;
 use rapid_text::{Event, Op, OutOfMemory, RawTrace};
 
-// The name of a variable of the trace, or of the one after them.
+// The name of a variable of the trace, or `own` for the number after them.
 fn variable_name<'a>(trace: &'a RawTrace, own: &'a [u8], variable: u32) -> &'a [u8]
     requires { variable < length trace.now.variables + 1 }
     ensures { result.now ≡ name_at (trace.now.variables ++ own.now ∷ []) variable }
@@ -21,7 +21,7 @@ fn variable_name<'a>(trace: &'a RawTrace, own: &'a [u8], variable: u32) -> &'a [
     }
 }
 
-// The name of a lock of the trace, or of the one after them.
+// The name of a lock of the trace, or `own` for the number after them.
 fn lock_name<'a>(trace: &'a RawTrace, own: &'a [u8], lock: u32) -> &'a [u8]
     requires { lock < length trace.now.locks + 1 }
     ensures { result.now ≡ name_at (trace.now.locks ++ own.now ∷ []) lock }
@@ -64,7 +64,7 @@ fn append_operation(
     }
 }
 
-// Appends the line of an event at its location.
+// Appends the line of an event with this location.
 fn append_line(
     text: &mut Vec<u8>,
     trace: &RawTrace,
@@ -136,7 +136,7 @@ fn append_number(text: &mut Vec<u8>, front: &[u8], number: u64) -> Result<(), Ou
     Ok(())
 }
 
-/// Appends the line that says where the window lies.
+/// Appends the line with the window's numbers in the trace.
 pub(crate) fn append_begin(
     text: &mut Vec<u8>,
     from: u64,

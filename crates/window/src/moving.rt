@@ -1,4 +1,4 @@
-//! Gives the events of a window the numbers that they have in the whole trace, in the lines that `triage --json` prints of it.
+//! Replaces the numbers of a window's events by their numbers in the whole trace, in the lines of `triage --json`.
 ghost use Rattle.std.specs.Prelude.{◌≡◌, ◌^◌, ◌+◌, ◌*◌, ◌<◌, ◌≤◌, ◌++◌, ℕ, List, length, take, drop, true, false, IfOk, IfSome, OnOk, None};
 ghost use Rattle.memchr.specs.Find.{FindsNeedle};
 ghost use Rattle.std.specs.Char.{digit_value};
@@ -10,10 +10,10 @@ use itoa::Buffer;
 use memchr::memmem;
 use rapid_text::OutOfMemory;
 
-/// What stands before the number of an event.
+/// The text before the number of an event.
 const EVENT: &[u8] = b"{\"event\":";
 
-// How many digits stand at the front.
+// The number of digits at the front.
 fn digits_len(text: &[u8]) -> usize
     ensures within { result ≤ length text.now }
     ensures digits { AllDigits 10 (take result text.now) }
@@ -34,7 +34,7 @@ fn is_digit(byte: u8) -> bool
     byte >= b'0' && byte <= b'9'
 }
 
-// The number that the digits write, if a u64 holds it.
+// The number of these digits, if it fits in a u64.
 fn number_in(digits: &[u8]) -> Option<u64>
     requires { AllDigits 10 digits.now }
     ensures some { IfSome result (λ number. number ≡ digits_value 10 digits.now) }
@@ -50,7 +50,7 @@ fn number_in(digits: &[u8]) -> Option<u64>
     Some(number)
 }
 
-// The number with this digit after it, if a u64 holds it.
+// The number with this digit after it, if it fits in a u64.
 fn with_digit(number: u64, digit: u8) -> Option<u64>
     requires low { 48 ≤ digit }
     requires high { digit ≤ 57 }
@@ -62,7 +62,7 @@ fn with_digit(number: u64, digit: u8) -> Option<u64>
 }
 
 impl Window {
-    // Appends the digits of the number that the event has in the trace.
+    // Appends the number that the event has in the trace.
     fn append_digits(&self, out: &mut Vec<u8>, digits: &[u8]) -> Result<(), OutOfMemory>
         requires { AllDigits 10 digits.now }
         ensures { OnOk result
@@ -82,7 +82,8 @@ impl Window {
         Ok(())
     }
 
-    // Appends the text up to the first number of an event, and that number. Answers what stands after it, if there is one.
+    // Appends the text up to the first number of an event, and that number. Returns the text after it; None if there
+    // is no such number.
     fn append_first<'a>(
         &self,
         out: &mut Vec<u8>,
@@ -107,7 +108,7 @@ impl Window {
         Ok(Some(rest))
     }
 
-    /// Appends the line with the numbers that its events have in the trace. Nothing else in it is changed.
+    /// Appends the line with the numbers that its events have in the trace. Nothing else in it changes.
     pub fn append_moved(&self, out: &mut Vec<u8>, line: &[u8]) -> Result<(), OutOfMemory>
         ensures { OnOk result
             ((moved : List ℕ)

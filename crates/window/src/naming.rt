@@ -42,7 +42,7 @@ fn is_used(trace: &RawTrace, name: &[u8]) -> bool
     is_variable(trace, name) || is_lock(trace, name)
 }
 
-/// `window`, or this name with as few underscores after it as make it new.
+/// `window`, followed by as few underscores as make the name new.
 pub(crate) fn new_name(alloc: Global, trace: &RawTrace) -> Result<Vec<u8>, CutFault>
     ensures ok { IfOk result (λ name. IsNewName trace.now name.items) }
     ensures err { IfErr result (λ fault. (fault ≡ OutOfMemory) ⊎ ((fault ≡ NoName) × HasNoNewName trace.now)) }

@@ -1,4 +1,4 @@
-//! The text that was read, for clauses alone.
+//! The text that was read, which only clauses see.
 ghost use Rattle.std.specs.Prelude.{◌≡◌, ◌++◌};
 
 use boxcar::tag::{Names, Tag};

@@ -1,4 +1,4 @@
-//! Windows of a trace of any length, which is read in pieces, and what is kept of it.
+//! Windows of a trace of any length, which is read in pieces.
 ghost use Rattle.std.specs.Prelude.{◌≡◌, ◌⊎◌, ◌+◌, ◌<◌, ◌≤◌, ◌++◌, ℕ, List, length, true, None, Ok, IfOk, IfErr, IfSome};
 ghost use Rattle.window.specs.Fronts.{HasTooManyThreads};
 ghost use Rattle.rapid_text.specs.Reading.{reading_of};
@@ -15,15 +15,15 @@ use trace_rules::{RuleCause, RuleRefusal, Trace, check};
 /// Why no window is made of a piece of a trace.
 #[derive(Clone, Copy)]
 pub(crate) enum PieceFault {
-    /// A line is refused. Lines are counted from the first of the head.
+    /// A line is refused. Lines are counted from the first line of the head.
     Text(TextRefusal),
-    /// An event breaks a rule. Events are counted from the first of the head.
+    /// An event breaks a rule. Events are counted from the first event of the head.
     Rule(RuleRefusal),
     /// The piece has no event.
     NoSuchEvent,
-    /// The piece uses each name that the prologue's variable could have.
+    /// The piece uses every name that the prologue's variable could have.
     NoName,
-    /// A growth was refused.
+    /// Out of memory.
     OutOfMemory,
 }
 
@@ -47,7 +47,7 @@ fn joined(alloc: Global, front: &[u8], more: &[u8]) -> Result<Vec<u8>, OutOfMemo
     Ok(text)
 }
 
-// Checks what was read against the rules.
+// Checks the trace against the rules.
 fn checked(alloc: Global, raw: RawTrace) -> Result<Trace, PieceFault>
     ensures ok { IfOk result (λ trace. trace ≡ raw) }
     ensures err { IfErr result
@@ -62,7 +62,7 @@ fn checked(alloc: Global, raw: RawTrace) -> Result<Trace, PieceFault>
     }
 }
 
-// How many events the trace has, if it keeps the rules.
+// The number of events of the trace, if it keeps the rules.
 fn ruled_size(alloc: Global, raw: RawTrace) -> Result<Option<u32>, OutOfMemory>
     ensures ruled { IfOk result (λ size. IfSome size (λ n. IsDisciplined raw.events × (n ≡ length raw.events))) }
     ensures unruled { result ≡ Ok None → ¬ IsDisciplined raw.events }
@@ -79,7 +79,7 @@ fn ruled_size(alloc: Global, raw: RawTrace) -> Result<Option<u32>, OutOfMemory>
     }
 }
 
-/// How many events the text has, if it is that of a trace that keeps the rules.
+/// The number of events of the text, if it is a trace that keeps the rules.
 pub(crate) fn kept_size(alloc: Global, text: &[u8]) -> Result<Option<u32>, OutOfMemory>
     ensures kept { IfOk result (λ size. IfSome size (λ n. IsKept text.now × (n ≡ length (said_in text.now)))) }
     ensures unkept { result ≡ Ok None → ¬ IsKept text.now }
@@ -113,7 +113,7 @@ pub(crate) fn is_too_wide(alloc: Global, text: &[u8]) -> Result<bool, OutOfMemor
     }
 }
 
-/// The trace that the head and the piece after it are.
+/// The trace that the head and the piece after it form.
 pub(crate) fn piece(alloc: Global, head: &[u8], more: &[u8]) -> Result<Trace, PieceFault>
     ensures ok { IfOk result (λ trace. reading_of (head.now ++ more.now) ≡ Ok trace) }
     ensures err { IfErr result (λ fault. (size : ℕ) → IsPieceFault (head.now ++ more.now) size fault) }
@@ -125,8 +125,8 @@ pub(crate) fn piece(alloc: Global, head: &[u8], more: &[u8]) -> Result<Trace, Pi
     }
 }
 
-/// The window after what a head of so many events stands for, with at most so many events of the piece. Its first line says that it begins
-/// at the event with this number.
+/// The window after a head with `size` events, with at most `most` events of the piece. Its first line says that it
+/// begins at event `number`.
 pub(crate) fn window_after(
     alloc: Global,
     head: &[u8],
@@ -139,7 +139,7 @@ pub(crate) fn window_after(
     requires number { number < 1000000000000000000 }
     requires most { 0 < most }
     ensures from { IfOk result (λ w. (w.from ≡ number) × (number < w.to) × (w.to ≤ number + most)) }
-    // Whatever the head stands for, and whatever comes later: it is a window of the whole trace.
+    // Whatever the head replaces, and whatever comes later, this is a window of the whole trace.
     ensures window { IfOk result
         (λ w. (front later : List ℕ)
         → Stands front head.now more.now

@@ -1,4 +1,4 @@
-//! What the prologue of a window takes, and which threads wait for it.
+//! The locks that a window's prologue takes, and the threads that wait for it.
 ghost use Rattle.std.specs.Prelude.{◌≡◌, ◌&&◌, not, ◌+◌, ◌-◌, ◌*◌, ◌<◌, ◌≤◌, ◌++◌, ◌∷◌, [], ℕ, All, List, length, nat_lt, if◌then◌else◌, replicate, IfOk, OnOk};
 ghost use Rattle.rapid_text.specs.Recording.{IsNamed};
 ghost use Rattle.rapid_text.specs.declared.event.Op.{Op};
@@ -11,7 +11,7 @@ use rapid_text::{Event, Op, OutOfMemory};
 use std::alloc::Global;
 use trace_rules::Trace;
 
-// Adds the holds of a lock: all, or twice as many as there are events on the lock.
+// Adds the holds of a lock: all of them, but at most twice the number of events on the lock.
 fn add_holds(
     holds: &mut Vec<(u32, u32)>,
     held: Held,
@@ -32,7 +32,7 @@ fn add_holds(
     Ok(())
 }
 
-/// What is held at `from` and is touched before `to`.
+/// The holds at `from` of locks that events before `to` acquire or release.
 fn holds_in(
     alloc: Global,
     trace: &Trace,
@@ -59,7 +59,7 @@ fn holds_in(
     Ok(holds)
 }
 
-// Whether a thread waits that has an event in the part, or is forked there.
+// Whether a thread waits: it has an event in the part, and is not forked there.
 fn is_reader(found: bool, forked: bool) -> bool
     ensures { result ≡ (found && not forked) }
 {
@@ -94,7 +94,7 @@ fn readers_in(alloc: Global, trace: &Trace, from: u32, to: u32) -> Result<Vec<u3
     Ok(readers)
 }
 
-/// The threads that wait for these holds.
+/// The threads that wait for these holds: none if there is no hold.
 fn waiting_in(
     alloc: Global,
     trace: &Trace,
@@ -115,7 +115,7 @@ fn waiting_in(
     readers_in(alloc, trace, from, to)
 }
 
-// Adds the events of a hold to the chain. The numbers are those of the prologue's variable and lock.
+// Adds the events of a hold to the chain. `variable` and `own` are the prologue's variable and lock.
 fn add_links(
     events: &mut Vec<Event>,
     hold: (u32, u32),
@@ -133,7 +133,7 @@ fn add_links(
     add_access(events, thread, Op::Write(variable), own)
 }
 
-// Adds an access under the prologue's lock.
+// Adds an access that is made under the prologue's lock.
 fn add_access(events: &mut Vec<Event>, thread: u32, op: Op, own: u32) -> Result<(), OutOfMemory>
     ensures { OnOk result
         (events.new.items

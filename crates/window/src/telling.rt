@@ -15,7 +15,7 @@ use std::alloc::Global;
 use trace_rules::{RuleCause, RuleRefusal};
 
 impl Front {
-    /// The fault of a head that is none that is read.
+    /// The fault if the head does not read as a trace that keeps the rules.
     pub(crate) fn unkept(&self, alloc: Global, head: &[u8], more: &[u8]) -> FrontFault
         requires is { IsHead self.now more.now head.now }
         requires unkept { ¬ IsKept head.now }
@@ -46,7 +46,7 @@ impl Front {
         }
     }
 
-    /// The fault of a line of the piece that is refused.
+    /// The fault for a refused line of the piece.
     pub(crate) fn told_line(&self, more: &[u8], refusal: TextRefusal) -> FrontFault
         requires { (refusal ≡ no_memory) ⊎ (reading_of more.now ≡ Err refusal) }
         ensures { IsFrontFault self.now more.now result }
@@ -69,7 +69,8 @@ impl Front {
         }
     }
 
-    // The fault of a piece that is read, but not after the head: both have too many threads, or too many events.
+    // The fault for a piece that can be read alone but not after the head: both have too many threads, or too many
+    // events.
     fn told_size(&self, head: &Head, more: &[u8], refusal: TextRefusal) -> FrontFault
         requires stands { Stands self.now.read head.now.text.items more.now }
         requires kept { IsKept head.now.text.items }
@@ -86,7 +87,7 @@ impl Front {
         FrontFault::TooLong
     }
 
-    // The fault of an event that breaks a rule.
+    // The fault for an event that breaks a rule.
     fn told_event(&self, head: &Head, more: &[u8], refusal: RuleRefusal) -> FrontFault
         requires stands { Stands self.now.read head.now.text.items more.now }
         requires kept { IsKept head.now.text.items }

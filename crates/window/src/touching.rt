@@ -1,4 +1,4 @@
-//! What the events of a part do: how often they are on each lock, and which threads they are of, and fork.
+//! What the events of a part do: how many are on each lock, which threads they have, and which they fork or join.
 ghost use Rattle.std.specs.Prelude.{◌≡◌, ◌+◌, ◌<◌, ◌≤◌, length, IfOk};
 ghost use Rattle.event_index.specs.Tables.{IsTable};
 ghost use Rattle.window.specs.Made.{touch_count};
@@ -8,7 +8,7 @@ use rapid_text::{Op, OutOfMemory};
 use std::alloc::Global;
 use trace_rules::Trace;
 
-/// For each lock how many events from `from` to `to` are on it.
+/// For each lock, the number of events from `from` to `to` that acquire or release it.
 pub(crate) fn touches_in(
     alloc: Global,
     trace: &Trace,
@@ -27,7 +27,7 @@ pub(crate) fn touches_in(
     Ok(counts)
 }
 
-// Takes the event into the counts of the events before it.
+// Adds the event to the counts, which are those before it.
 fn note_touch(counts: &mut Vec<u32>, trace: &Trace, from: u32, at: u32)
     requires from { from ≤ at }
     requires event { at < length trace.now.events }
@@ -41,7 +41,7 @@ fn note_touch(counts: &mut Vec<u32>, trace: &Trace, from: u32, at: u32)
     }
 }
 
-/// For each thread whether an event from `from` to `to` is its own.
+/// For each thread, whether it has an event from `from` to `to`.
 pub(crate) fn threads_in(
     alloc: Global,
     trace: &Trace,
@@ -60,7 +60,7 @@ pub(crate) fn threads_in(
     Ok(found)
 }
 
-// Takes the event into what was found of the events before it.
+// Adds the event to the table, which has the events before it.
 fn note_thread(found: &mut Vec<bool>, trace: &Trace, from: u32, at: u32)
     requires from { from ≤ at }
     requires event { at < length trace.now.events }
@@ -70,7 +70,7 @@ fn note_thread(found: &mut Vec<bool>, trace: &Trace, from: u32, at: u32)
     found[trace.raw().event(at).thread as usize] = true;
 }
 
-/// For each thread whether an event from `from` to `to` forks it.
+/// For each thread, whether an event from `from` to `to` forks it.
 pub(crate) fn forks_in(
     alloc: Global,
     trace: &Trace,
@@ -89,7 +89,7 @@ pub(crate) fn forks_in(
     Ok(found)
 }
 
-// Takes the event into what was found of the events before it.
+// Adds the event to the table, which has the events before it.
 fn note_fork(found: &mut Vec<bool>, trace: &Trace, from: u32, at: u32)
     requires from { from ≤ at }
     requires event { at < length trace.now.events }
@@ -101,7 +101,7 @@ fn note_fork(found: &mut Vec<bool>, trace: &Trace, from: u32, at: u32)
     }
 }
 
-/// For each thread whether an event from `from` to `to` joins it.
+/// For each thread, whether an event from `from` to `to` joins it.
 pub(crate) fn joins_in(
     alloc: Global,
     trace: &Trace,
@@ -120,7 +120,7 @@ pub(crate) fn joins_in(
     Ok(found)
 }
 
-// Takes the event into what was found of the events before it.
+// Adds the event to the table, which has the events before it.
 fn note_join(found: &mut Vec<bool>, trace: &Trace, from: u32, at: u32)
     requires from { from ≤ at }
     requires event { at < length trace.now.events }

@@ -2,7 +2,7 @@
 ghost use Rattle.std.specs.Prelude.{◌≡◌, true, false};
 ghost use Rattle.window.specs.Streams.{IsWhole, feeds};
 
-/// Whether the text ends with a line, if it has one.
+/// Whether the text is empty or ends with a line feed.
 pub(crate) fn is_whole(text: &[u8]) -> bool
     ensures whole { result ≡ true → IsWhole text.now }
     ensures open { result ≡ false → ¬ IsWhole text.now }
@@ -13,7 +13,7 @@ pub(crate) fn is_whole(text: &[u8]) -> bool
     text[text.len() - 1] == b'\n'
 }
 
-/// How many lines end in the text.
+/// The number of lines that end in the text.
 pub(crate) fn lines_in(text: &[u8]) -> u64
     ensures { result ≡ feeds text.now }
 {
