@@ -1,4 +1,4 @@
--- What holds of a worker's desk. No public clause cites this module.
+-- What holds for a worker's desk. No public clause cites this module.
 use Rattle.std.specs.Prelude.{◌≡◌}
 use Rattle.std.specs.Arc.{arc_value}
 use Rattle.crossbeam_channel.specs.Claims.{IsSeatAt}
@@ -6,7 +6,7 @@ use Rattle.crossbeam_channel.specs.Ends.{sends_on, receives_on}
 use Rattle.search_pool.specs.Passes.{IsOfTrace}
 use Rattle.search_pool.specs.declared.worker.Desk.{Desk}
 
--- the clocks are of the trace, the passes of the two channels, and that of the answers knows the trace
+-- the clocks are of the trace, the passes are of the two channels, and the pass of the answers knows the trace
 pub record IsManned (d : Desk) : Type 0 where
   pub trace : arc_value d.clocks ≡ arc_value d.indexed
   pub requests : IsSeatAt (receives_on d.requests) d.request_pass

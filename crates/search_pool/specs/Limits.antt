@@ -1,5 +1,4 @@
--- How many workers a pool may have, and how many requests. The constants of the code are measured against
--- these numbers.
+-- The most workers of a pool, and the most requests. The proofs compare the constants of the code with these numbers.
 use Rattle.std.specs.Prelude.{ℕ}
 
 -- the most workers of a pool
@@ -10,6 +9,6 @@ worker_limit = 32
 abbrev pub pending_limit : ℕ
 pending_limit = 64
 
--- the most requests of a pool, so that each number is a u32
+-- the most requests of a pool, so that each number fits in a u32
 abbrev pub request_limit : ℕ
 request_limit = 4294967295

@@ -1,4 +1,5 @@
--- What is right for a request to a pool. This project's own. `T` is the events of the trace, a and b the pair.
+-- Which outcomes are right for a request to a pool. This project's own. `T` is the events of the trace, a and b the
+-- pair.
 use Rattle.std.specs.Prelude.{◌≡◌, ◌≢◌, ℕ, List, Option, Some, None, ⊤}
 use Rattle.rapid_text.specs.Recording.{Recording}
 use Rattle.rapid_text.specs.declared.event.Event.{Event}
@@ -22,7 +23,7 @@ abbrev pub IsShown : List Event → ℕ → ℕ → Outcome → Type 0
 IsShown T a b (Witness P) = IsCorrectReordering T P × Shows T P a b
 IsShown T a b outcome = ⊤
 
--- what `slice` answers; want of memory comes last
+-- the result of `slice`; memory runs out only for a candidate
 abbrev pub IsSliced : List Event → ℕ → ℕ → Outcome → Type 0
 IsSliced T a b (Witness P) = IsCandidatePair T a b × IsSlice T a b P
 IsSliced T a b Nothing = ⊥
@@ -30,13 +31,14 @@ IsSliced T a b (NoSlice why) = IsRefusalOf T a b why × (why ≢ NoMemory)
 IsSliced T a b (BadBase position) = ⊥
 IsSliced T a b OutOfMemory = IsCandidatePair T a b
 
--- what `greedy` answers from a correct reordering on: of a pair that does not conflict it finds none
+-- the result of `greedy` from a correct reordering; for a pair that does not conflict it finds nothing
 pub record IsSearched (T : List Event) (a b : ℕ) (base : List ℕ) (budget : ℕ) (found : Option (List ℕ)) : Type 0 where
   pub begins : IsCorrectReordering T base
   pub answer : IsConflicting T a b → IsGreedyAnswer T base a b budget found
   pub no_conflict : ¬ IsConflicting T a b → found ≡ None
 
--- the base is refused exactly where it is none, want of memory aside; else what `greedy` answers
+-- unless memory runs out: `BadBase` exactly if the base is not a correct reordering, and otherwise the result of
+-- `greedy`
 abbrev pub IsSought : List Event → ℕ → ℕ → List ℕ → ℕ → Outcome → Type 0
 IsSought T a b base budget (Witness P) = IsSearched T a b base budget (Some P)
 IsSought T a b base budget Nothing = IsSearched T a b base budget None
@@ -44,12 +46,12 @@ IsSought T a b base budget (NoSlice why) = ⊥
 IsSought T a b base budget (BadBase position) = IsFirstFault T base position
 IsSought T a b base budget OutOfMemory = ⊤
 
--- what is right for a slice
+-- which outcomes are right for a slice
 pub record IsSliceOutcome (T : List Event) (a b : ℕ) (outcome : Outcome) : Type 0 where
   pub right : IsSliced T a b outcome
   pub shown : IsShown T a b outcome
 
--- what is right for a greedy search
+-- which outcomes are right for a greedy search
 pub record IsGreedyOutcome (T : List Event) (a b : ℕ) (base : List ℕ) (budget : ℕ) (outcome : Outcome) : Type 0 where
   pub right : IsSought T a b base budget outcome
   pub shown : IsShown T a b outcome
@@ -58,12 +60,12 @@ abbrev pub IsRight : List Event → ℕ → ℕ → Way → Outcome → Type 0
 IsRight T a b Slice outcome = IsSliced T a b outcome
 IsRight T a b (Greedy base budget) outcome = IsSought T a b base budget outcome
 
--- what is right for a request
+-- which outcomes are right for a request
 pub record IsOutcomeOf (T : List Event) (request : Request) (outcome : Outcome) : Type 0 where
   pub right : IsRight T request.first request.second request.way outcome
   pub shown : IsShown T request.first request.second outcome
 
--- what a worker sends: a request of a trace with its number, and what came of it
+-- the message of a worker: a request on a trace with its number, and its outcome
 pub record Answered : Type 0 where
   pub trace : Recording
   pub posed : Posed

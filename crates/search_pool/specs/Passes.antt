@@ -1,5 +1,5 @@
--- The rule of the channel of answers: all answers in it are of one trace, and each pass knows that one. No
--- public clause cites this module.
+-- The rule of the channel of answers: all answers in it are of one trace, and each pass knows that trace. No public
+-- clause cites this module.
 use Rattle.std.specs.Prelude.{◌≡◌, ℕ, ◌⊎◌, List, [], ◌∷◌, Option, Some, None}
 use Rattle.crossbeam_channel.specs.Claims.{Pass, view}
 use Rattle.rapid_text.specs.Recording.{Recording}
@@ -15,7 +15,8 @@ AllOf t answers = (place : ℕ) (x : Answered) → get_elem? answers place ≡ s
 abbrev pub AllKnow : Recording → List (Option Recording) → Type 0
 AllKnow t views = (pass : ℕ) (v : Option Recording) → get_elem? views pass ≡ some v → v ≡ Some t
 
--- before a trace is named there is no answer, and one pass, which knows none; then all is of one trace
+-- before a trace is named there is no answer, and one pass, which knows no trace; afterwards everything is of one
+-- trace
 abbrev pub OfOne : List Answered → List (Option Recording) → Type 0
 OfOne answers views = ((answers ≡ []) × (views ≡ None ∷ [])) ⊎ ((t : Recording) × AllOf t answers × AllKnow t views)
 

@@ -1,4 +1,4 @@
-//! What a worker sends back.
+//! The message that a worker sends back.
 ghost use Rattle.std.specs.Prelude.{◌≡◌};
 ghost use Rattle.search_pool.specs.Outcomes.{IsOutcomeOf};
 
@@ -8,7 +8,7 @@ use event_index::Indexed;
 use std::marker::Model;
 use std::snapshot::Snapshot;
 
-/// A request with its number and the trace that it was asked of, and what came of it.
+/// A request with its number, its trace and its outcome.
 #[derive(Drop)]
 pub(crate) struct Answer {
     of: Snapshot<Indexed>,
@@ -31,7 +31,7 @@ impl Model for Answer {
 }
 
 impl Answer {
-    /// That this came of the request on the trace.
+    /// The answer that `outcome` is the outcome of the request on the trace.
     pub(crate) fn new(indexed: &Indexed, posed: Posed, outcome: Outcome) -> Answer
         requires { IsOutcomeOf indexed.now.events posed.request outcome }
         ensures trace { result.trace ≡ indexed.now }
@@ -43,14 +43,14 @@ impl Answer {
         }
     }
 
-    /// The request that it answers.
+    /// The request of this answer.
     pub(crate) fn posed(&self) -> &Posed
         ensures { result.now ≡ self.now.posed }
     {
         &self.posed
     }
 
-    /// The pair of its request and what came of it.
+    /// The number and the pair of the request, and its outcome.
     pub(crate) fn into_found(self) -> Found
         ensures number { result.request ≡ self.posed.number }
         ensures first { result.first ≡ self.posed.request.first }

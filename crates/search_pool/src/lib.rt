@@ -1,4 +1,4 @@
-//! A pool of threads that look for schedules which show a pair.
+//! A pool of threads that search for schedules that show a pair.
 #![tactic(auto)]
 
 mod answer;

@@ -1,5 +1,5 @@
-//! The two channels of a pool. What a pass of the channel of answers knows is the trace that all answers in it
-//! are of; the channel of requests has no rule.
+//! The two channels of a pool. A pass of the channel of answers knows the trace of all answers in it. The channel of
+//! requests has no rule.
 ghost use Rattle.std.specs.Prelude.{◌≡◌, OnOk, OnErr, IfOk, IfErr, IsOk, Some, None, true, IfSome, IsTrue};
 ghost use Rattle.rapid_text.specs.Recording.{Recording};
 ghost use Rattle.crossbeam_channel.specs.Claims.{view, IsSeatAt};
@@ -16,11 +16,11 @@ use std::alloc::Global;
 use std::marker::{Brand, Model, PhantomData};
 use std::sync::Wait;
 
-/// The most requests that are pending at a time: so many requests, and so many answers, have room in their channels,
-/// so that no send waits.
+/// The most requests that are pending at a time. The channels have room for this many requests and answers, so no
+/// send waits.
 pub(crate) const MAX_PENDING: usize = 64;
 
-/// What a pass of the channel of answers knows: the trace, or nothing yet. No value of it is made.
+/// What a pass of the channel of answers knows: the trace, or nothing yet. This type has no values at run time.
 pub(crate) struct View {
     nothing: (),
 }
@@ -34,7 +34,7 @@ impl Model for View {
     ghost view = { λ _. None };
 }
 
-/// The rule: all answers are of one trace, which the passes know once they know one.
+/// The rule: all answers are of one trace, and a pass that knows a trace knows that one.
 pub(crate) struct OneTrace;
 
 impl Protocol<Answer, View> for OneTrace {
@@ -46,7 +46,7 @@ impl Protocol<Answer, View> for OneTrace {
     ghost first = { None };
 }
 
-// An answer of the trace that the pass knows is sent.
+// An answer is sent. It is of the trace that the pass knows.
 struct Sent;
 
 impl Outcome<Answer, View> for Sent {
@@ -61,7 +61,7 @@ impl Lesson<Answer, View> for Sent {
     ghost fact = { λ v items. ⊤ };
 }
 
-// An answer is received: it is of the trace that the pass knows.
+// An answer is received. It is of the trace that the pass knows.
 struct Got;
 
 impl Outcome<Answer, View> for Got {
@@ -76,7 +76,7 @@ impl Lesson<Answer, View> for Got {
     ghost fact = { λ v items. ⊤ };
 }
 
-// A pass more that knows the same.
+// A further pass that knows the same.
 struct Alike;
 
 impl<V> Split<V> for Alike {
@@ -102,7 +102,7 @@ impl Named for Brand {
     } };
 }
 
-// A pass that knew nothing is told the trace, while no answer is there and no other pass.
+// A pass that knows nothing learns the trace, while there is no answer and no other pass.
 struct Name<N: Named> {
     of: PhantomData<N>,
 }
@@ -129,7 +129,7 @@ pub(crate) type AnswerReceiver = RuledReceiver<Answer, View, OneTrace>;
 
 pub(crate) type AnswerPass = Pass<Answer, View>;
 
-/// A channel of requests, and a pass.
+/// A channel of requests, and a pass. Fails if memory runs out.
 pub(crate) fn request_line(
     alloc: Global,
 ) -> Result<(RequestSender, RequestReceiver, RequestPass), OutOfMemory>
@@ -142,7 +142,7 @@ pub(crate) fn request_line(
     Ok(line)
 }
 
-/// One pass more.
+/// A further pass.
 pub(crate) fn another_requester(sender: &RequestSender, pass: &mut RequestPass) -> RequestPass
     requires { IsSeatAt (sends_on sender.now) pass.old }
     ensures kept { IsSeatAt (sends_on sender.now) pass.new }
@@ -151,7 +151,7 @@ pub(crate) fn another_requester(sender: &RequestSender, pass: &mut RequestPass) 
     sender.another::<Alike>(pass)
 }
 
-/// Sends the request. Answers whether it was sent: it is not where all workers have stopped.
+/// Sends the request, and returns whether it was sent. It is not sent if all workers have stopped.
 pub(crate) fn give_request<R: Wait>(
     rt: &R,
     sender: &RequestSender,
@@ -164,7 +164,7 @@ pub(crate) fn give_request<R: Wait>(
     sender.send_as::<Free, R>(rt, pass, posed).ok().is_some()
 }
 
-/// The next request, or None once the pool has dropped its end.
+/// The next request, or None after the pool has dropped its end.
 pub(crate) fn next_request<R: Wait>(
     rt: &R,
     receiver: &RequestReceiver,
@@ -176,7 +176,7 @@ pub(crate) fn next_request<R: Wait>(
     receiver.recv_as::<Free, R>(rt, pass).ok()
 }
 
-// The pass is told the trace.
+// Makes the pass know the trace.
 fn tell_trace<N: Named>(sender: &AnswerSender, pass: &mut AnswerPass, indexed: &Indexed)
     requires channel { IsSeatAt (sends_on sender.now) pass.old }
     requires alone { view pass.old ≡ None }
@@ -188,7 +188,7 @@ fn tell_trace<N: Named>(sender: &AnswerSender, pass: &mut AnswerPass, indexed: &
     let _other = sender.another::<Name<N>>(pass);
 }
 
-/// A channel of answers, and a pass that knows the trace of the index.
+/// A channel of answers, and a pass that knows the trace of the index. Fails if memory runs out.
 pub(crate) fn answer_line(
     alloc: Global,
     indexed: &Indexed,
@@ -207,7 +207,7 @@ pub(crate) fn answer_line(
     Ok((sender, receiver, pass))
 }
 
-/// One pass more that knows the same trace, which the index is of.
+/// A further pass that knows the same trace, which is that of the index.
 pub(crate) fn another_answerer(
     sender: &AnswerSender,
     pass: &mut AnswerPass,
@@ -224,7 +224,7 @@ pub(crate) fn another_answerer(
     sender.another::<Alike>(pass)
 }
 
-/// Sends the answer. Answers whether it was sent: it is not where the pool has dropped its end.
+/// Sends the answer, and returns whether it was sent. It is not sent if the pool has dropped its end.
 pub(crate) fn give_answer<R: Wait>(
     rt: &R,
     sender: &AnswerSender,
@@ -239,7 +239,7 @@ pub(crate) fn give_answer<R: Wait>(
     sender.send_as::<Sent, R>(rt, pass, answer).ok().is_some()
 }
 
-/// The next answer, or None once all workers have stopped.
+/// The next answer, or None after all workers have stopped.
 pub(crate) fn next_answer<R: Wait>(
     rt: &R,
     receiver: &AnswerReceiver,

@@ -1,4 +1,4 @@
-//! What came of a request.
+//! The outcome of a request.
 ghost use Rattle.std.specs.Prelude.{◌≡◌};
 ghost use Rattle.search_pool.specs.Outcomes.{IsOutcomeOf, IsSliceOutcome, IsGreedyOutcome};
 
@@ -9,34 +9,34 @@ use shb_clocks::Clocks;
 use std::alloc::Global;
 use witness_search::{SliceRefusal, greedy, slice};
 
-/// What came of a request.
+/// The outcome of a request.
 #[derive(Drop)]
 pub enum Outcome {
     /// A correct reordering that shows the pair: its slice, or what the greedy search found.
     Witness(EventList),
-    /// The greedy search found none.
+    /// The greedy search found no schedule.
     Nothing,
     /// 61 to 63: the pair has no slice.
     NoSlice(SliceRefusal),
-    /// The list to begin with is no correct reordering.
+    /// The list to begin with is not a correct reordering.
     BadBase {
-        /// The first place whose event may not come next after those before it, from 0.
+        /// The first index, counted from 0, whose event may not come next after those before it.
         position: u32,
     },
-    /// A growth was refused while the request was worked on.
+    /// Memory ran out while a worker handled the request.
     OutOfMemory,
 }
 
-/// A request with its pair and what came of it.
+/// The number of a request, its pair and its outcome.
 #[derive(Drop)]
 pub struct Found {
     /// The number of the request.
     pub request: u32,
     /// One event of the pair.
     pub first: u32,
-    /// The other.
+    /// The other event.
     pub second: u32,
-    /// What came of it.
+    /// The outcome of the request.
     pub outcome: Outcome,
 }
 
@@ -79,7 +79,7 @@ fn greedy_outcome(
     }
 }
 
-/// What comes of the request.
+/// Computes the outcome of the request.
 pub(crate) fn work_on(
     alloc: Global,
     indexed: &Indexed,

@@ -1,4 +1,4 @@
-//! A pool of workers, each a thread of its own.
+//! A pool of workers, each in a thread.
 ghost use Rattle.std.specs.Prelude.{◌≡◌, ◌≢◌, ℕ, ◌<◌, ◌⊎◌, ◌↔◌, [], length, All, AllPairs, IsTrue, IfOk, IfErr, IfSome, OnErr, Err, Some, false, slice_get, vec_len};
 ghost use Rattle.std.specs.Arc.{arc_value};
 ghost use Rattle.crossbeam_channel.specs.Claims.{IsSeatAt};
@@ -30,7 +30,8 @@ use std::thread::{JoinHandle, Threads};
 /// The most workers of a pool.
 const MAX_WORKERS: usize = 32;
 
-/// Workers that slice and search on one trace, and the requests that wait for their answers. It has to be stopped.
+/// Workers that slice and search on one trace, and the requests that wait for their answers. Its owner has to call
+/// `stop`.
 pub struct Pool<G: Gate + Drop> {
     alloc: Global,
     of: Snapshot<Indexed>,
@@ -63,8 +64,8 @@ impl<G: Gate + Drop> Model for Pool<G> {
 }
 
 impl<G: Gate + Drop + Send + 'static> Pool<G> {
-    /// Starts a worker for each gate; the clocks are of the trace of the index. It waits for nobody. Where a thread or
-    /// memory is wanting, the workers that were started are told to end.
+    /// Starts a worker for each gate. The clocks are of the trace of the index. The call does not wait. Fails with 64
+    /// to 66; the workers that were started then end.
     pub fn start<R: Threads + Wait + Clone + Send + Drop + 'static>(
         rt: &R,
         alloc: Global,
@@ -73,11 +74,11 @@ impl<G: Gate + Drop + Send + 'static> Pool<G> {
         gates: Vec<G>,
     ) -> Result<Pool<G>, StartRefusal>
         requires trace { arc_value clocks ≡ arc_value indexed }
-        // A started pool is of that trace, and nothing was asked of it.
+        // A started pool is of that trace, and has no requests.
         ensures trace { IfOk result (λ pool. pool.trace ≡ arc_value indexed) }
         ensures submitted { IfOk result (λ pool. pool.submitted ≡ 0) }
         ensures pending { IfOk result (λ pool. pool.pending ≡ []) }
-        // Its count is refused exactly where it is none from 1 to 32.
+        // The call fails with `BadCount` exactly if there are not 1 to 32 gates.
         ensures count { (result ≡ Err BadCount) ↔ ((vec_len gates ≡ 0) ⊎ (worker_limit < vec_len gates)) }
     {
         if gates.len() == 0 {
@@ -89,7 +90,7 @@ impl<G: Gate + Drop + Send + 'static> Pool<G> {
         Pool::start_all(rt, alloc, indexed, clocks, gates)
     }
 
-    // The same of any count.
+    // The same without a check of the count.
     fn start_all<R: Threads + Wait + Clone + Send + Drop + 'static>(
         rt: &R,
         alloc: Global,
@@ -120,7 +121,7 @@ impl<G: Gate + Drop + Send + 'static> Pool<G> {
         }
     }
 
-    // The pool of these workers, of whose desks that one is the first.
+    // The pool of these workers. `own` is the desk from which their desks were made.
     fn of_workers(
         requests: RequestSender,
         answers: AnswerReceiver,
@@ -143,7 +144,7 @@ impl<G: Gate + Drop + Send + 'static> Pool<G> {
             answers: given,
             answer_pass,
         } = own;
-        // Only the workers keep ends at which requests are taken and answers given.
+        // Only the workers keep the ends that receive requests and send answers.
         drop(taken);
         drop(given);
         Pool {
@@ -160,12 +161,12 @@ impl<G: Gate + Drop + Send + 'static> Pool<G> {
         }
     }
 
-    /// Submits a request, and answers its number: how many were submitted before it.
+    /// Submits a request, and returns its number: how many were submitted before it. Fails with 64, 68 or 69.
     pub fn submit<R: Wait>(&mut self, rt: &R, request: Request) -> Result<u32, SubmitRefusal>
-        // It then is pending, after those that were.
+        // The request is then pending, after the others.
         ensures ok { IfOk result (λ number. Submits self.old request number self.new) }
         ensures refused { OnErr result (self.new ≡ self.old) }
-        // It is refused as one too many exactly where 64 are pending or 4,294,967,295 were submitted.
+        // The call fails with `Busy` exactly if 64 requests are pending or 4,294,967,295 were submitted.
         ensures busy { (result ≡ Err Busy) ↔ IsFull self.old }
     {
         if self.pending.len() == MAX_PENDING {
@@ -193,10 +194,10 @@ impl<G: Gate + Drop + Send + 'static> Pool<G> {
         Ok(number)
     }
 
-    /// Waits for an answer to a pending request, whichever comes first, and gives it. It is refused where all workers
-    /// have stopped.
+    /// Waits for the next answer to a pending request, and returns it. Fails with 67 if no request is pending, and
+    /// with 69 if the workers have stopped.
     pub fn collect<R: Wait>(&mut self, rt: &R) -> Result<Found, CollectRefusal>
-        // It is right for its request on the pool's trace, and the request is no longer pending.
+        // The answer is right for its request on the pool's trace, and the request is no longer pending.
         ensures ok { IfOk result (λ found. Collects self.old found self.new) }
         ensures refused { OnErr result (self.new ≡ self.old) }
         ensures none { (result ≡ Err NothingPending) ↔ (self.old.pending ≡ []) }
@@ -235,7 +236,7 @@ impl<G: Gate + Drop + Send + 'static> Pool<G> {
     }
 }
 
-// Where the request stands among the pending ones.
+// The index of the request among the pending ones, or None.
 fn place_of(pending: &[Posed], posed: &Posed) -> Option<usize>
     ensures { IfSome result (λ at. slice_get pending.now at ≡ Some posed.now) }
 {
@@ -247,7 +248,7 @@ fn place_of(pending: &[Posed], posed: &Posed) -> Option<usize>
     None
 }
 
-// Takes the request out of the pending ones. Answers whether it was one of them.
+// Removes the request from the pending ones, and returns whether it was one of them.
 fn take_out(pending: &mut Vec<Posed>, posed: &Posed) -> bool
     requires { AreRising pending.old.items }
     ensures taken { IsTrue result → IsTaken posed.now pending.old.items pending.new.items }

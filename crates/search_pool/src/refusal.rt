@@ -1,11 +1,11 @@
-//! Why a call on a pool was refused.
+//! Why a call on a pool fails.
 use rapid_text::OutOfMemory;
 use std::alloc::AllocError;
 
-/// Why no pool was started.
+/// Why `start` starts no pool.
 #[derive(Clone, Copy, PartialEq, Eq, Debug)]
 pub enum StartRefusal {
-    /// 64: a growth was refused.
+    /// 64: out of memory.
     OutOfMemory,
     /// 65: there are not 1 to 32 gates.
     BadCount,
@@ -35,10 +35,10 @@ impl From<OutOfMemory> for StartRefusal {
     }
 }
 
-/// Why a request was not taken.
+/// Why `submit` does not take a request.
 #[derive(Clone, Copy, PartialEq, Eq, Debug)]
 pub enum SubmitRefusal {
-    /// 64: a growth was refused.
+    /// 64: out of memory.
     OutOfMemory,
     /// 68: 64 requests are pending, or 4,294,967,295 were submitted.
     Busy,
@@ -46,7 +46,7 @@ pub enum SubmitRefusal {
     Stopped,
 }
 
-/// Why nothing was collected.
+/// Why `collect` returns no answer.
 #[derive(Clone, Copy, PartialEq, Eq, Debug)]
 pub enum CollectRefusal {
     /// 67: no request is pending.

@@ -1,4 +1,4 @@
-//! What a pool is asked.
+//! The requests to a pool.
 ghost use Rattle.std.specs.Prelude.{◌≡◌, IfOk, IsTrue};
 ghost use Rattle.search_pool.specs.declared.request.Way.TheVariants.{Slice, Greedy};
 
@@ -6,32 +6,32 @@ use event_index::EventList;
 use rapid_text::OutOfMemory;
 use std::alloc::Global;
 
-/// How a pair is looked at.
+/// How a worker searches for a schedule that shows a pair.
 #[derive(Drop)]
 pub enum Way {
     /// As `slice` does.
     Slice,
-    /// As `greedy` does, where it begins with a schedule of these events.
+    /// As `greedy` does, from a schedule of these events.
     Greedy {
         /// The events to begin with, in their order.
         base: EventList,
-        /// The most events that are added.
+        /// The most events that the search adds.
         budget: u32,
     },
 }
 
-/// A pair to be shown, and the way to look for a schedule that does.
+/// A pair to be shown, and the way to search for a schedule that shows it.
 #[derive(Drop)]
 pub struct Request {
     /// One event of the pair.
     pub first: u32,
-    /// The other.
+    /// The other event.
     pub second: u32,
-    /// How the pair is looked at.
+    /// The way to search.
     pub way: Way,
 }
 
-/// A request and the number under which it was submitted.
+/// A request and its number.
 #[derive(Drop)]
 pub(crate) struct Posed {
     pub(crate) number: u32,
@@ -53,7 +53,7 @@ fn way_copy(alloc: Global, way: &Way) -> Result<Way, OutOfMemory>
     }
 }
 
-/// The same request once more.
+/// A copy of the request.
 pub(crate) fn request_copy(alloc: Global, request: &Request) -> Result<Request, OutOfMemory>
     ensures { IfOk result (λ copy. copy ≡ request.now) }
 {
@@ -95,7 +95,7 @@ fn is_same_way(one: &Way, other: &Way) -> bool
     }
 }
 
-/// Whether the two are one request under one number.
+/// Whether both are the same request with the same number.
 pub(crate) fn is_same(one: &Posed, other: &Posed) -> bool
     ensures { IsTrue result → one.now ≡ other.now }
 {

@@ -1,4 +1,4 @@
-//! What a worker does: request after request, until the pool or the other workers' channel is gone.
+//! The work of a worker: request after request, until no request can come or nobody receives the answers.
 ghost use Rattle.std.specs.Prelude.{◌≡◌, ◌≢◌, IfOk, IfErr};
 ghost use Rattle.std.specs.Arc.{arc_value};
 ghost use Rattle.crossbeam_channel.specs.Ends.{sends_on, receives_on};
@@ -19,14 +19,14 @@ use std::sync::{Arc, Wait};
 use std::thread;
 use std::thread::{JoinHandle, Threads};
 
-/// What a worker passes before it works on a request. A gate that does not let it pass holds up that request, and what
-/// the worker would do next.
+/// A worker calls `pass` before it handles a request. If `pass` waits, that request and the worker's later ones wait
+/// too.
 pub trait Gate {
-    /// Is called with the number of the request.
+    /// Called with the number of the request.
     fn pass<R: Wait>(&mut self, rt: &R, request: u32);
 }
 
-/// What a worker owns: the trace with its clocks, and where it takes requests and gives answers.
+/// What a worker owns: the trace with its clocks, and the channel ends that receive requests and send answers.
 #[derive(Drop)]
 pub(crate) struct Desk {
     pub(crate) alloc: Global,
@@ -38,7 +38,7 @@ pub(crate) struct Desk {
     pub(crate) answer_pass: AnswerPass,
 }
 
-// Works on one request after another, until none will come or nobody takes the answers.
+// Handles one request after another, until no request can come or nobody receives the answers.
 fn work<R: Wait, G: Gate>(rt: &R, desk: &mut Desk, gate: &mut G)
     requires { IsManned desk.old }
 {
@@ -55,7 +55,7 @@ fn work<R: Wait, G: Gate>(rt: &R, desk: &mut Desk, gate: &mut G)
     }
 }
 
-// Starts a worker with this gate, or tells why none was started.
+// Starts a worker with this gate. Fails if memory runs out or no thread can be started.
 fn hire<R: Threads + Wait + Clone + Send + Drop + 'static, G: Gate + Drop + Send + 'static>(
     rt: &R,
     desk: Desk,
@@ -74,7 +74,7 @@ fn hire<R: Threads + Wait + Clone + Send + Drop + 'static, G: Gate + Drop + Send
         answers,
         answer_pass,
     } = desk;
-    // A thread takes a desk by its parts.
+    // The parts of the desk move into the thread one by one.
     let spawned = thread::spawn(rt, move || {
         let own = Desk {
             alloc,
@@ -93,7 +93,7 @@ fn hire<R: Threads + Wait + Clone + Send + Drop + 'static, G: Gate + Drop + Send
     }
 }
 
-// Works as long as there is work, and then lets go of all.
+// Works until no work is left, and then drops everything.
 fn serve<R: Wait + Drop, G: Gate + Drop>(rt: R, desk: Desk, gate: G)
     requires { IsManned desk }
 {
@@ -102,7 +102,7 @@ fn serve<R: Wait + Drop, G: Gate + Drop>(rt: R, desk: Desk, gate: G)
     work(&rt, &mut own, &mut own_gate);
 }
 
-// The trace and its clocks, shared once more.
+// A further share of the trace and its clocks.
 fn shared_again(own: &Desk) -> Result<(Arc<Indexed>, Arc<Clocks>), AllocError>
     ensures indexed { IfOk result (λ r. arc_value r.0 ≡ arc_value own.now.indexed) }
     ensures clocks { IfOk result (λ r. arc_value r.1 ≡ arc_value own.now.clocks) }
@@ -112,7 +112,7 @@ fn shared_again(own: &Desk) -> Result<(Arc<Indexed>, Arc<Clocks>), AllocError>
     Ok((indexed, clocks))
 }
 
-// Where requests are taken and answers given, once more.
+// Further ends that receive requests and send answers.
 fn ends_again(own: &Desk) -> Result<(RequestReceiver, AnswerSender), AllocError>
     ensures requests { IfOk result (λ r. receives_on r.0 ≡ receives_on own.now.requests) }
     ensures answers { IfOk result (λ r. sends_on r.1 ≡ sends_on own.now.answers) }
@@ -122,7 +122,7 @@ fn ends_again(own: &Desk) -> Result<(RequestReceiver, AnswerSender), AllocError>
     Ok((requests, answers))
 }
 
-// A further desk beside the worker's own, at the same channels, whose requests are sent at that end.
+// A further desk on the channels of the worker's own desk; `sender` is the sending end of its requests.
 fn further_desk(sender: &RequestSender, own: &mut Desk) -> Result<Desk, AllocError>
     requires requests { receives_on own.old.requests ≡ sends_on sender.now }
     requires manned { IsManned own.old }
@@ -166,8 +166,8 @@ fn hire_further<R: Threads + Wait + Clone + Send + Drop + 'static, G: Gate + Dro
     }
 }
 
-/// Starts a worker for each gate, at desks beside that one. If one cannot be started, those before it end once the ends of the
-/// channels are dropped.
+/// Starts a worker for each gate, each at a further desk. If one cannot be started, the workers before it end when
+/// the ends of the channels are dropped.
 pub(crate) fn hire_all<
     R: Threads + Wait + Clone + Send + Drop + 'static,
     G: Gate + Drop + Send + 'static,
