@@ -1,16 +1,16 @@
-//! Writes a text as markup that means just this text.
+//! Writes a text as markup that a reader sees as the same text.
 ghost use Rattle.std.specs.Prelude.{◌≡◌, ◌++◌, OnOk, OnErr};
 ghost use Rattle.std.specs.String.{string_bytes};
 ghost use Rattle.markup.specs.Escaped.{escaped, escaped_char, is_allowed as may_stand};
 
 use std::alloc::AllocError;
 
-/// U+FFFD, which stands for what is no character that markup may have.
+/// U+FFFD, which replaces each character that the markup may not have.
 const REPLACEMENT: char = '\u{FFFD}';
 
-/// Appends the bytes as text of markup, that may also stand in an attribute's value between either quotes: `<`, `>`, `&`, `"` and `'` are
-/// written as entities. What is no UTF-8, and a character that XML has not (below U+0020, U+FFFE and U+FFFF; so a line end too), becomes
-/// U+FFFD. Where memory is refused `out` stays as it was.
+/// Appends the bytes as text for an element or a quoted attribute value. `<`, `>`, `&`, `"` and `'` become entities.
+/// Bytes that are not UTF-8 become U+FFFD. So do characters below U+0020, such as tabs and line ends, and U+FFFE and
+/// U+FFFF. If memory runs out, `out` stays as it was.
 pub fn escape(bytes: &[u8], out: &mut Vec<u8>) -> Result<(), AllocError>
     ensures ok { OnOk result (out.new.items ≡ out.old.items ++ escaped bytes.now) }
     ensures err { OnErr result (out.new.items ≡ out.old.items) }
@@ -25,7 +25,7 @@ pub fn escape(bytes: &[u8], out: &mut Vec<u8>) -> Result<(), AllocError>
     Ok(())
 }
 
-/// Appends a character, as an entity where it means something in markup.
+/// Appends a character; as an entity if it has a meaning in markup.
 fn push_escaped(markup: &mut String, letter: char) -> Result<(), AllocError>
     ensures { OnOk result (string_bytes markup.new ≡ string_bytes markup.old ++ escaped_char letter) }
 {
@@ -43,7 +43,7 @@ fn push_escaped(markup: &mut String, letter: char) -> Result<(), AllocError>
     }
 }
 
-/// Whether markup may have the character, whatever it means there.
+/// Whether the markup may have the character, regardless of its meaning there.
 fn is_allowed(letter: char) -> bool
     ensures { result ≡ may_stand letter }
 {

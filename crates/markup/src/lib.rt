@@ -1,4 +1,4 @@
-//! Text that comes from outside, written into markup (XML, SVG, HTML) so that it stays text.
+//! Writes text from outside into markup (XML, SVG, HTML) so that it stays text.
 #![tactic(auto)]
 
 mod escaping;
