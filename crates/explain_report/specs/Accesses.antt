@@ -1,5 +1,5 @@
--- An access: its line of the trace, and the locks that its thread holds before it. `r` is a recording. All notions here are
--- this project's own.
+-- An access: its line of the trace, and the locks that its thread holds before it. `r` is a recording. All notions
+-- here are this project's own.
 use Rattle.std.specs.Prelude.{ℕ, nat_lt, Bool, false, List, [], ◌++◌, length, take, filter, flat_map, slice_get, slice_index_or, Option, Some, None, codes, decimal}
 use Rattle.rapid_text.specs.Canonical.{name_at, op_text}
 use Rattle.rapid_text.specs.Recording.{Recording}
@@ -16,7 +16,7 @@ abbrev pub event_words_by : Recording → ℕ → Option Event → List ℕ
 event_words_by r e None = []
 event_words_by r e (Some v) = event_words r v (slice_index_or r.locations e [])
 
--- event e so; nothing where there is none
+-- event e in that form; empty if there is no such event
 abbrev pub event_words_at : Recording → ℕ → List ℕ
 event_words_at r e = event_words_by r e (slice_get r.events e)
 
@@ -25,7 +25,7 @@ abbrev pub is_held_by : Recording → ℕ → Option ℕ → ℕ → Bool
 is_held_by r e None l = false
 is_held_by r e (Some t) l = nat_lt 0 (hold_count (take e r.events) t l)
 
--- the locks that event e's thread holds before it, in rising number
+-- the locks that event e's thread holds before it, in rising order of their numbers
 abbrev pub held_locks : Recording → ℕ → List ℕ
 held_locks r e = filter (is_held_by r e (thread_at r.events e)) (before (length r.locks))
 
@@ -47,7 +47,7 @@ abbrev pub numbered_access_by : Recording → ℕ → Option Event → List ℕ
 numbered_access_by r e None = []
 numbered_access_by r e (Some v) = decimal e ++ access_text r e
 
--- the same behind the event's number
+-- the same after the event's number
 abbrev pub numbered_access : Recording → ℕ → List ℕ
 numbered_access r e = numbered_access_by r e (slice_get r.events e)
 

@@ -1,5 +1,5 @@
--- The text of the chains that tell why a pair is apart, and which links of them race. `r` is a recording, `T` its events, `d` how
--- deep a chain stands. All notions here are this project's own.
+-- The text of the chains that show why a pair is apart, and which links of them race. `r` is a recording, `T` its
+-- events, `d` the depth of a chain. All notions here are this project's own.
 use Rattle.std.specs.Prelude.{◌≡◌, ◌↔◌, ℕ, ◌+◌, nat_lt, zero, suc, Bool, true, false, not, ◌&&◌, cond, List, [], ◌∷◌, ◌++◌, find, flat_map, slice_get, Option, Some, None, codes, decimal}
 use Rattle.rapid_text.specs.Canonical.{name_at}
 use Rattle.rapid_text.specs.Recording.{Recording}
@@ -22,15 +22,15 @@ abbrev pub is_apart_from : List Event → ℕ → Option ℕ → Bool
 is_apart_from T a None = true
 is_apart_from T a (Some c) = not (is_shb_before T a c)
 
--- whether a and b are a candidate, a the earlier
+-- whether a and b are a candidate, and a is the earlier
 abbrev pub is_candidate : List Event → ℕ → ℕ → Bool
 is_candidate T a b = is_conflict T a b && (nat_lt a b && is_apart_from T a (base_of T b))
 
--- the test tells candidates, in each trace that keeps the rules
+-- the test decides candidates, in each trace that keeps the rules
 abbrev pub CandidatesAreTold : Type 0
 CandidatesAreTold = (T : List Event) → IsDisciplined T → (a b : ℕ) → (is_candidate T a b ≡ true) ↔ IsCandidate T a b
 
--- a write and a read of what it wrote, which themselves race
+-- the note on a write and a read of what it wrote, if the two race
 abbrev pub race_note : List Event → ℕ → ℕ → List ℕ
 race_note T a b = cond (is_candidate T a b) (codes " (these two race: explain " ++ decimal a ++ codes " " ++ decimal b ++ codes ")") []
 
@@ -38,7 +38,7 @@ abbrev pub is_written : Reason → Bool
 is_written Written = true
 is_written _ = false
 
--- whether the step is from a write to a read of what it wrote, and the two race
+-- whether the step leads from a write to a read of what it wrote, and the two race
 abbrev pub is_raced : List Event → Step → Bool
 is_raced T s = is_written s.reason && is_candidate T s.from s.to
 
@@ -59,7 +59,7 @@ abbrev pub line_by : Recording → ℕ → Option Event → List ℕ
 line_by r e None = []
 line_by r e (Some v) = numbered_line r e
 
--- the number of event e and its line; nothing where there is none
+-- the number of event e and its line; empty if there is no such event
 abbrev pub line_at : Recording → ℕ → List ℕ
 line_at r e = line_by r e (slice_get r.events e)
 
@@ -75,11 +75,11 @@ abbrev pub lock_by : Recording → Option Op → List ℕ
 lock_by r (Some (Acquire l)) = name_at r.locks l
 lock_by r _ = []
 
--- the name of the lock that event e takes
+-- the name of the lock that event e acquires
 abbrev pub lock_name : Recording → ℕ → List ℕ
 lock_name r e = lock_by r (op_at r.events e)
 
--- why a step leads from a to b, as `IsReason` of must-before says it
+-- the reason why a step leads from a to b, as `IsReason` of must-before gives it
 abbrev pub reason_text : Recording → ℕ → ℕ → Reason → List ℕ
 reason_text r a b Later = codes "  and later in its thread\n"
 reason_text r a b Forked = codes "  begins the thread of\n"
@@ -88,11 +88,11 @@ reason_text r a b Joined = codes "  ends the thread that is joined by\n"
 reason_text r a b ForkJoined = codes "  forks the thread that is joined by\n"
 reason_text r a b (Ended p) = codes "  ends a section of " ++ lock_name r p ++ codes " that comes before the one of\n"
 
--- the lines of a step: why, and where it leads
+-- the lines of a step: its reason, and the event to which it leads
 abbrev pub step_text : Recording → ℕ → Step → List ℕ
 step_text r d s = indent_text d ++ reason_text r s.from s.to s.reason ++ indent_text d ++ line_at r s.to
 
--- the lines of steps along one thread, of which the last leads to this event
+-- the lines of steps along one thread; the last one leads to this event
 abbrev pub later_text : Recording → ℕ → Option ℕ → List ℕ
 later_text r d None = []
 later_text r d (Some e) = indent_text d ++ codes "  and later in its thread\n" ++ indent_text d ++ line_at r e
@@ -101,8 +101,8 @@ abbrev pub is_later : Reason → Bool
 is_later Later = true
 is_later _ = false
 
--- The lines of steps, where some along one thread, the last of which leads to `later`, were not told yet. Those along one thread
--- are told together.
+-- The lines of steps, after some along one thread that wait to be printed; the last of these leads to `later`. Steps
+-- along one thread are printed as one.
 unfoldable pub steps_text : Recording → ℕ → Option ℕ → List Step → List ℕ
 steps_text r d later [] = later_text r d later
 steps_text r d later (s ∷ ss) =
@@ -112,18 +112,19 @@ steps_text r d later (s ∷ ss) =
 abbrev pub chain_text : Recording → ℕ → Chain → List ℕ
 chain_text r d c = indent_text d ++ line_at r c.first ++ steps_text r d None c.steps.items
 
--- with which word the section is told that the chain ends in: its event takes the lock there, or its thread holds it
+-- the word for the section in which the chain ends: its last event acquires the lock, or that event's thread holds it
 abbrev pub holding : Bool → List ℕ
 holding true = codes " takes "
 holding false = codes " holds "
 
--- for what a chain stands: the section that it begins in began before that in which it ends
+-- what a chain is for: the section where it begins began before the one where it ends
 abbrev pub cause_text : Recording → ℕ → Chain → List ℕ → List ℕ
 cause_text r d c words =
     indent_text d ++ codes "for " ++ thread_name r c.last ++ words ++ lock_name r c.first ++ codes " at " ++ decimal c.last
     ++ codes ", and that section began before:\n"
 
--- The text is the lines of chains of this list: first of the first, then of others, each behind what it stands for.
+-- The text has the lines of chains of this list: first those of the first chain, then those of others, each after
+-- what it is for.
 pub data AreTold (r : Recording) (cs : List Chain) : List ℕ → Type 0 where
   none : slice_get cs 0 ≡ None → AreTold r cs []
   first : (c : Chain) → slice_get cs 0 ≡ Some c → AreTold r cs (chain_text r 0 c)
@@ -131,6 +132,6 @@ pub data AreTold (r : Recording) (cs : List Chain) : List ℕ → Type 0 where
       (i d deeper : ℕ) (c : Chain) (takes : Bool) (m : List ℕ) → slice_get cs i ≡ Some c → AreTold r cs m
       → AreTold r cs (m ++ (cause_text r d c (holding takes) ++ chain_text r deeper c))
 
--- the text goes on what is told of the chains
+-- `text` continues a text of these chains
 abbrev pub GoesOn : Recording → List Chain → List ℕ → Type 0
 GoesOn r cs text = (m : List ℕ) → AreTold r cs m → AreTold r cs (m ++ text)

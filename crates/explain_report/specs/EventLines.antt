@@ -1,4 +1,4 @@
--- The lines of events: the canonical line, behind the event's number where one is printed.
+-- The lines of events: the canonical line, after the event's number if one is printed.
 use Rattle.std.specs.Prelude.{ℕ, List, [], ◌++◌, Option, Some, None, slice_get, slice_index_or, flat_map, codes, decimal}
 use Rattle.rapid_text.specs.Canonical.{event_text}
 use Rattle.rapid_text.specs.Recording.{Recording}

@@ -1,5 +1,5 @@
--- What is printed of a pair, behind its verdict. `r` is a recording, `a` the earlier event, `b` the later. All notions here are
--- this project's own.
+-- The text that is printed for a pair, after its verdict. `r` is a recording, `a` the earlier event, `b` the later.
+-- All notions here are this project's own.
 use Rattle.std.specs.Prelude.{◌≡◌, ℕ, List, ◌++◌, length, codes}
 use Rattle.rapid_text.specs.Recording.{Recording}
 use Rattle.must_order.specs.declared.chains.Chain.{Chain}
@@ -11,28 +11,28 @@ use Rattle.explain_report.specs.declared.verdict.How.{How}
 use Rattle.explain_report.specs.declared.verdict.Verdict.{Verdict}
 use Rattle.explain_report.specs.declared.verdict.Verdict.TheVariants.{Race, Forced, Guarded, Undecided}
 
--- a race, which a schedule of n events in this many runs shows: its head, and both accesses
+-- a race that a schedule of n events in this many runs shows: its first line, and both accesses
 abbrev pub race_words : Recording → How → ℕ → ℕ → ℕ → ℕ → List ℕ
 race_words r how n runs a b = race_head how n ++ count_text runs (codes "run") ++ codes " both are next\n" ++ pair_text r a b
 
--- the same, and behind it the runs of the schedule, whose layout is presentation
+-- the same, followed by the runs of the schedule, whose layout is presentation
 abbrev pub IsRaceTold : Recording → How → ℕ → ℕ → ℕ → List ℕ → Type 0
 IsRaceTold r how n a b text = (runs : ℕ) × (rest : List ℕ) × (text ≡ race_words r how n runs a b ++ rest)
 
--- a comes before b by these chains: the head, both accesses, and the chains
+-- a comes before b by these chains: the first line, both accesses, and the chains
 abbrev pub IsForcedTold : Recording → List Chain → ℕ → ℕ → List ℕ → Type 0
 IsForcedTold r cs a b text = (told : List ℕ) × AreTold r cs told × (text ≡ forced_head a b ++ pair_text r a b ++ codes "since\n" ++ told)
 
--- both threads hold lock l: the head, both accesses, and since when and until when they do
+-- both threads hold lock l: the first line, both accesses, and the section of each
 abbrev pub IsGuardedTold : Recording → ℕ → ℕ → ℕ → List ℕ → Type 0
 IsGuardedTold r l a b text =
     (one other : List ℕ) × IsSectionTold r a l one × IsSectionTold r b l other × (text ≡ guarded_head r l ++ pair_text r a b ++ one ++ other)
 
--- none of these: the head, both accesses, and by which events SHB orders them, which is presentation
+-- undecided: the first line, both accesses, and the events by which SHB orders them, which is presentation
 abbrev pub IsUndecidedTold : Recording → ℕ → ℕ → List ℕ → Type 0
 IsUndecidedTold r a b text = (rest : List ℕ) × (text ≡ undecided_head ++ pair_text r a b ++ codes "in SHB\n" ++ rest)
 
--- a verdict on the pair
+-- the text of a verdict on the pair
 abbrev pub IsTold : Recording → Verdict → ℕ → ℕ → List ℕ → Type 0
 IsTold r (Race how events all) a b text = IsRaceTold r how (length events.now) a b text
 IsTold r (Forced chains) a b text = IsForcedTold r chains.now a b text

@@ -1,5 +1,5 @@
--- The words with which what is printed of a pair begins. `a` is the earlier event, `b` the later. All notions here are
--- this project's own.
+-- The first words of the text for a pair. `a` is the earlier event, `b` the later. All notions here are this
+-- project's own.
 use Rattle.std.specs.Prelude.{ℕ, ◌==◌, cond, List, [], ◌++◌, length, slice_index_or, codes, decimal}
 use Rattle.rapid_text.specs.Recording.{Recording}
 use Rattle.explain_report.specs.declared.verdict.How.{How}
@@ -7,11 +7,11 @@ use Rattle.explain_report.specs.declared.verdict.How.TheVariants.{Candidate, Bey
 use Rattle.explain_report.specs.declared.verdict.Verdict.{Verdict}
 use Rattle.explain_report.specs.declared.verdict.Verdict.TheVariants.{Race, Forced, Guarded, Undecided}
 
--- what stands behind the word for a thing where there are n
+-- the ending of a noun for n things
 abbrev pub plural : ℕ → List ℕ
 plural n = cond (n == 1) [] (codes "s")
 
--- how many there are of what the words name
+-- n and the words, in the plural unless n is 1
 abbrev pub count_text : ℕ → List ℕ → List ℕ
 count_text n words = decimal n ++ codes " " ++ words ++ plural n
 
@@ -32,11 +32,11 @@ forced_head a b = codes "apart: " ++ decimal a ++ codes " comes before " ++ deci
 abbrev pub guarded_head : Recording → ℕ → List ℕ
 guarded_head r l = codes "apart: both threads hold " ++ slice_index_or r.locks l [] ++ codes "\n"
 
--- none of these
+-- undecided: none of the above
 abbrev pub undecided_head : List ℕ
 undecided_head = codes "undecided: no schedule was found, and neither order nor lock forbids one\n"
 
--- the words of a verdict on the pair
+-- the first words of a verdict on the pair
 abbrev pub verdict_head : Recording → Verdict → ℕ → ℕ → List ℕ
 verdict_head r (Race how events all) a b = race_head how (length events.now)
 verdict_head r (Forced chains) a b = forced_head a b

@@ -1,4 +1,4 @@
--- What is printed of a schedule that shows a pair: its events, a script that makes it, or a trace of its own.
+-- The printed forms of a schedule that shows a pair: its events, a script that makes it, or a separate trace.
 use Rattle.std.specs.Prelude.{ℕ, List, [], ◌∷◌, ◌++◌, flat_map, codes, decimal}
 use Rattle.rapid_text.specs.Recording.{Recording}
 use Rattle.explain_report.specs.EventLines.{event_lines, numbered_lines}
@@ -13,8 +13,8 @@ add_line e = codes "1 add S " ++ decimal e ++ codes "\n"
 abbrev pub add_lines : List ℕ → List ℕ
 add_lines es = flat_map add_line es
 
--- the schedule P that shows the pair a, b, in this form: its events, each behind its number; a script of one client
--- that builds it and asks what it shows; the canonical lines of its events and of the two
+-- the schedule P that shows the pair a, b, in this form: its events, each after its number; a script of one client
+-- that builds it and prints the pairs that it shows; or the canonical lines of its events and of the pair
 abbrev pub witness_lines : Recording → List ℕ → ℕ → ℕ → Form → List ℕ
 witness_lines r P a b Events = numbered_lines r P
 witness_lines r P a b Script = codes "1 new S\n" ++ add_lines P ++ codes "1 races S\n"

@@ -9,7 +9,7 @@ use event_index::Indexed;
 use must_order::Analysis;
 use rapid_text::OutOfMemory;
 
-/// Appends both accesses of a pair, each behind its number.
+/// Appends both accesses of a pair, each after its number.
 pub(crate) fn append_pair(
     out: &mut Vec<u8>,
     analysis: &Analysis<'_>,
@@ -23,8 +23,8 @@ pub(crate) fn append_pair(
     Ok(())
 }
 
-/// Appends the event's number, its canonical line and the locks that its thread holds before it; nothing where the trace has
-/// no such event.
+/// Appends the event's number, its canonical line and the locks that its thread holds before it. Appends nothing if
+/// the trace has no such event.
 fn append_numbered_access(
     out: &mut Vec<u8>,
     analysis: &Analysis<'_>,
@@ -40,7 +40,7 @@ fn append_numbered_access(
     Ok(())
 }
 
-/// Appends the canonical line of the event behind two blanks, and a line for each lock that its thread holds before it.
+/// Appends two blanks and the canonical line of the event, and a line for each lock that its thread holds before it.
 fn append_access(out: &mut Vec<u8>, analysis: &Analysis<'_>, event: u32) -> Result<(), OutOfMemory>
     requires event { event < length analysis.now.events }
     ensures { OnOk result (out.new.items ≡ out.old.items ++ access_text analysis.now event) }

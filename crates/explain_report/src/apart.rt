@@ -1,4 +1,4 @@
-//! Prints why a pair is no race, or why it is not known whether it is one.
+//! Prints why a pair is not a race, or why it is undecided.
 ghost use Rattle.std.specs.Prelude.{◌≡◌, ◌<◌, ◌++◌, List, ℕ, OnOk, length, codes};
 ghost use Rattle.explain_report.specs.Chains.{line_at};
 ghost use Rattle.explain_report.specs.Sections.{IsSectionTold, section_text, until_text};
@@ -14,7 +14,7 @@ use event_index::Indexed;
 use must_order::{Analysis, Chain};
 use rapid_text::OutOfMemory;
 
-/// Appends the line that the first event comes before the second.
+/// Appends the line with which a forced pair begins.
 pub(crate) fn append_forced_head(
     out: &mut Vec<u8>,
     first: u32,
@@ -30,7 +30,7 @@ pub(crate) fn append_forced_head(
     Ok(())
 }
 
-/// Appends that the first event comes before the second, the two events, and by which chains.
+/// Appends the text of a forced pair: its first line, the two events, and the chains.
 pub(crate) fn append_forced(
     out: &mut Vec<u8>,
     analysis: &Analysis<'_>,
@@ -46,7 +46,7 @@ pub(crate) fn append_forced(
     Ok(())
 }
 
-/// Appends the line that both threads hold the lock.
+/// Appends the line with which a guarded pair begins.
 pub(crate) fn append_guarded_head(
     out: &mut Vec<u8>,
     indexed: &Indexed,
@@ -60,7 +60,7 @@ pub(crate) fn append_guarded_head(
     Ok(())
 }
 
-/// Appends that both threads hold the lock, the two events, and since when and until when they do.
+/// Appends the text of a guarded pair: its first line, the two events, and the section of the lock for each.
 pub(crate) fn append_guarded(
     out: &mut Vec<u8>,
     analysis: &Analysis<'_>,
@@ -76,7 +76,7 @@ pub(crate) fn append_guarded(
     Ok(())
 }
 
-/// Appends the section of the lock in which the event lies, where it lies in one.
+/// Appends the section of the lock that the event is in, if there is one.
 fn append_section(
     out: &mut Vec<u8>,
     analysis: &Analysis<'_>,
@@ -98,7 +98,7 @@ fn append_section(
     }
 }
 
-/// Appends that the event's thread holds a lock since this acquire, and until when.
+/// Appends that the event's thread holds a lock since this acquire, and until which event.
 fn append_held(
     out: &mut Vec<u8>,
     indexed: &Indexed,
@@ -115,7 +115,7 @@ fn append_held(
     Ok(())
 }
 
-/// Appends until when a section lasts.
+/// Appends the end of a section, or that it lasts to the end.
 fn append_until(
     out: &mut Vec<u8>,
     indexed: &Indexed,
@@ -137,7 +137,7 @@ fn append_release(out: &mut Vec<u8>, indexed: &Indexed, event: u32) -> Result<()
     Ok(())
 }
 
-/// Appends the line that no schedule was found, and nothing forbids one.
+/// Appends the line with which an undecided pair begins.
 pub(crate) fn append_undecided_head(out: &mut Vec<u8>) -> Result<(), OutOfMemory>
     ensures { OnOk result (out.new.items ≡ out.old.items ++ undecided_head) }
 {
@@ -147,7 +147,7 @@ pub(crate) fn append_undecided_head(out: &mut Vec<u8>) -> Result<(), OutOfMemory
     )
 }
 
-/// Appends that neither was found, the two events, and by which events SHB orders the pair.
+/// Appends the text of an undecided pair: its first line, the two events, and the events by which SHB orders it.
 pub(crate) fn append_undecided(
     out: &mut Vec<u8>,
     analysis: &Analysis<'_>,

@@ -11,8 +11,8 @@ use event_index::Indexed;
 use must_order::{Analysis, Chain, Reason, Step};
 use rapid_text::OutOfMemory;
 
-/// Appends the first chain, and below it, each a step deeper and each once, the chains that tell why a section began
-/// before another.
+/// Appends the first chain, and below it the chains that show why a section began before another. Each of these is
+/// printed once, one step deeper than the chain that needs it.
 pub(crate) fn append_chains(
     out: &mut Vec<u8>,
     analysis: &Analysis<'_>,
@@ -28,7 +28,7 @@ pub(crate) fn append_chains(
     Ok(())
 }
 
-/// Appends, below the first chain, which was told, the others.
+/// Appends the other chains below the first one, which is already printed.
 fn append_causes(
     out: &mut Vec<u8>,
     analysis: &Analysis<'_>,
@@ -55,7 +55,7 @@ fn append_causes(
     Ok(())
 }
 
-/// Appends for what a chain stands, a step less deep, and the chain.
+/// Appends what a chain is for, one step less deep, and the chain.
 fn append_below(
     out: &mut Vec<u8>,
     analysis: &Analysis<'_>,
@@ -70,7 +70,8 @@ fn append_below(
     Ok(())
 }
 
-/// Opens the chains that tell why the sections that this chain ends began first, the first of them last.
+/// Adds to `open` the chains that show why the sections that this chain ends began first. The first one is added
+/// last.
 fn open_causes(
     open: &mut Vec<(usize, u32)>,
     told: &mut Vec<bool>,
@@ -84,7 +85,7 @@ fn open_causes(
     Ok(())
 }
 
-/// Opens the chain that tells why the section that the step ends began first, where it was not told yet.
+/// Adds the chain that shows why the section that the step ends began first, unless `told` has it.
 fn open_cause(
     open: &mut Vec<(usize, u32)>,
     told: &mut Vec<bool>,
@@ -110,7 +111,7 @@ fn open_cause(
     Ok(())
 }
 
-/// Appends for what the chain stands: the section that it begins in began before that in which it ends.
+/// Appends what the chain is for: the section where it begins began before the one where it ends.
 fn append_cause(
     out: &mut Vec<u8>,
     indexed: &Indexed,
@@ -124,7 +125,7 @@ fn append_cause(
     Ok(())
 }
 
-/// Appends the same, where it is known whether the chain's last event takes the lock.
+/// The same if it is known whether the chain's last event acquires the lock.
 fn append_holding(
     out: &mut Vec<u8>,
     indexed: &Indexed,
@@ -151,7 +152,7 @@ fn holding_of(takes: bool) -> &'static [u8]
     if takes { b" takes " } else { b" holds " }
 }
 
-/// Appends a chain so deep: where it begins, and its steps.
+/// Appends a chain at this depth: the event where it begins, and its steps.
 fn append_chain(
     out: &mut Vec<u8>,
     analysis: &Analysis<'_>,
@@ -166,7 +167,7 @@ fn append_chain(
     Ok(())
 }
 
-/// Appends the steps; those along one thread are drawn together.
+/// Appends the steps. Steps along one thread are printed as one.
 fn append_steps(
     out: &mut Vec<u8>,
     analysis: &Analysis<'_>,
@@ -183,8 +184,8 @@ fn append_steps(
     Ok(())
 }
 
-/// Appends a step, behind those along one thread that were not told yet; or lets it wait as one of them. Answers where those lead
-/// that wait now.
+/// Appends a step, after the steps along one thread that wait to be printed. A step along the thread waits itself.
+/// Returns the event to which the waiting steps lead.
 fn append_next(
     out: &mut Vec<u8>,
     analysis: &Analysis<'_>,
@@ -216,7 +217,7 @@ fn is_later(reason: Reason) -> bool
     }
 }
 
-/// Appends the event to which the thread goes on.
+/// Appends the later event of the thread, if steps wait.
 fn append_later(
     out: &mut Vec<u8>,
     indexed: &Indexed,
@@ -246,7 +247,7 @@ fn append_later_line(
     Ok(())
 }
 
-/// Appends why the step leads on, and the event to which it leads.
+/// Appends the reason of the step, and the event to which it leads.
 fn append_step(
     out: &mut Vec<u8>,
     analysis: &Analysis<'_>,
@@ -262,7 +263,7 @@ fn append_step(
     Ok(())
 }
 
-/// Appends why the step leads on; of a read that races with the write that it reads, that this is so.
+/// Appends the reason of the step. For a read that races with the write that it reads, adds a note.
 fn append_reason(out: &mut Vec<u8>, analysis: &Analysis<'_>, step: Step) -> Result<(), OutOfMemory>
     ensures { OnOk result (out.new.items ≡ out.old.items ++ reason_text analysis.now step.from step.to step.reason) }
 {
@@ -276,7 +277,7 @@ fn append_reason(out: &mut Vec<u8>, analysis: &Analysis<'_>, step: Step) -> Resu
     }
 }
 
-/// Appends that the second event reads what the first wrote, and whether the two race.
+/// Appends that the second event reads what the first wrote, and a note if the two race.
 pub(crate) fn append_written(
     out: &mut Vec<u8>,
     analysis: &Analysis<'_>,
@@ -291,7 +292,7 @@ pub(crate) fn append_written(
     Ok(())
 }
 
-/// Appends that a section of the lock which the acquire takes ends.
+/// Appends that a section ends of the lock that the event `acquire` acquires.
 fn append_ended(out: &mut Vec<u8>, indexed: &Indexed, acquire: u32) -> Result<(), OutOfMemory>
     ensures { OnOk result (out.new.items ≡ out.old.items ++ (codes "  ends a section of " ++ lock_name indexed.now acquire ++ codes " that comes before the one of\n")) }
 {

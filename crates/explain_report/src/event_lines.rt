@@ -24,7 +24,7 @@ pub(crate) fn append_event(
     Ok(())
 }
 
-/// Appends the canonical line of an event at its location.
+/// Appends the canonical line of an event with this location.
 fn append_found(
     out: &mut Vec<u8>,
     trace: &RawTrace,
@@ -114,7 +114,7 @@ pub(crate) fn append_all_numbered(
     Ok(())
 }
 
-/// Appends the number of the event and its canonical line, where the trace has it.
+/// Appends the number of the event and its canonical line, if the trace has it.
 pub(crate) fn append_line(
     out: &mut Vec<u8>,
     indexed: &Indexed,
@@ -128,7 +128,7 @@ pub(crate) fn append_line(
     Ok(())
 }
 
-/// Appends the name of the thread, where the trace has it.
+/// Appends the name of the thread, if the trace has it.
 pub(crate) fn append_thread(
     out: &mut Vec<u8>,
     indexed: &Indexed,
@@ -143,7 +143,7 @@ pub(crate) fn append_thread(
     Ok(())
 }
 
-/// Appends the name of the event's thread, where the trace has the event.
+/// Appends the name of the event's thread, if the trace has the event.
 pub(crate) fn append_thread_of(
     out: &mut Vec<u8>,
     indexed: &Indexed,
@@ -157,7 +157,7 @@ pub(crate) fn append_thread_of(
     }
 }
 
-/// Appends the name of the lock, where the trace has it.
+/// Appends the name of the lock, if the trace has it.
 pub(crate) fn append_lock(
     out: &mut Vec<u8>,
     indexed: &Indexed,
@@ -172,7 +172,7 @@ pub(crate) fn append_lock(
     Ok(())
 }
 
-/// Appends the name of the lock that the event takes.
+/// Appends the name of the lock that the event acquires.
 pub(crate) fn append_lock_of(
     out: &mut Vec<u8>,
     indexed: &Indexed,
@@ -186,7 +186,7 @@ pub(crate) fn append_lock_of(
     }
 }
 
-/// The thread of the event, where the trace has it.
+/// The thread of the event, or None if the trace lacks it.
 pub(crate) fn thread_of(indexed: &Indexed, event: u32) -> Option<u32>
     ensures thread { result ≡ thread_at indexed.now.events event }
     ensures within { IfSome result (λ t. t < length indexed.now.threads) }
@@ -198,7 +198,7 @@ pub(crate) fn thread_of(indexed: &Indexed, event: u32) -> Option<u32>
     }
 }
 
-/// What the event does, where the trace has it.
+/// The operation of the event, or None if the trace lacks it.
 pub(crate) fn op_of(indexed: &Indexed, event: u32) -> Option<Op>
     ensures { result ≡ op_at indexed.now.events event }
 {

@@ -1,4 +1,5 @@
-//! What is found of a pair of conflicting events: a schedule that shows it, or why none does, or that neither was found.
+//! The finding on a pair of conflicting events: a schedule that shows it, why no schedule does, or that neither was
+//! found.
 
 mod finding;
 mod pairing;

@@ -1,4 +1,5 @@
-//! What is printed of a pair of conflicting events: why it is a race or is apart, and the schedule that shows it.
+//! Prints the explanation of a pair of conflicting events: why it is a race or is apart, and the schedule that shows
+//! it.
 #![tactic(auto)]
 
 mod accesses;

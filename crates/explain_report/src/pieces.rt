@@ -23,7 +23,7 @@ pub(crate) fn append_number(out: &mut Vec<u8>, number: u64) -> Result<(), OutOfM
     Ok(())
 }
 
-/// Appends the number and what is counted, in the plural where it is not one.
+/// Appends the number and the words, in the plural unless the number is 1.
 pub(crate) fn append_count(out: &mut Vec<u8>, number: u64, words: &[u8]) -> Result<(), OutOfMemory>
     ensures { OnOk result (out.new.items ≡ out.old.items ++ count_text number words.now) }
 {
@@ -34,7 +34,7 @@ pub(crate) fn append_count(out: &mut Vec<u8>, number: u64, words: &[u8]) -> Resu
     Ok(())
 }
 
-/// What stands behind the word for a thing where there are so many.
+/// The ending of a noun for this number of things.
 fn plural_of(number: u64) -> &'static [u8]
     ensures { result.now ≡ plural number }
 {

@@ -1,4 +1,4 @@
-//! What a location names: the place of an access, which may be a file and a line, and the calls that led there.
+//! The parts of a location: the place of an access, which may be a file and a line, and the calls that led there.
 
 mod accesses;
 mod arrows;

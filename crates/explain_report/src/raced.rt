@@ -1,4 +1,4 @@
-//! Which links of a chain race themselves: a write and a read of what it wrote.
+//! Finds the links of a chain that race themselves: a write and a read of what it wrote.
 ghost use Rattle.std.specs.Prelude.{◌≡◌, ◌++◌, OnOk, find};
 ghost use Rattle.explain_report.specs.Chains.{CandidatesAreTold, is_candidate, is_raced, is_written, race_note, raced_step};
 
@@ -6,12 +6,12 @@ use crate::pieces::{append_number, append_words};
 use must_order::{Analysis, Chain, Reason, Step};
 use rapid_text::OutOfMemory;
 
-/// That two events race is told exactly where they are a candidate.
+/// The text says that two events race exactly if they are a candidate.
 pub fn candidates_are_told()
     ensures { CandidatesAreTold }
 {}
 
-/// Whether the two events are a candidate, the first the earlier.
+/// Whether the two events are a candidate, and the first is the earlier.
 fn is_race(analysis: &Analysis<'_>, first: u32, second: u32) -> bool
     ensures { result ≡ is_candidate analysis.now.events first second }
 {
@@ -21,7 +21,7 @@ fn is_race(analysis: &Analysis<'_>, first: u32, second: u32) -> bool
     analysis.is_candidate(first, second)
 }
 
-/// Appends that the two events race, where they do.
+/// Appends a note that the two events race, if they do.
 pub(crate) fn append_race_note(
     out: &mut Vec<u8>,
     analysis: &Analysis<'_>,
@@ -41,7 +41,7 @@ pub(crate) fn append_race_note(
     Ok(())
 }
 
-/// The first step of the chains from a write to a read of what it wrote that race themselves.
+/// The first step of the chains that leads from a write to a read of what it wrote, and whose events race.
 pub fn first_raced(analysis: &Analysis<'_>, chains: &[Chain]) -> Option<Step>
     ensures { result ≡ raced_step analysis.now.events chains.now }
 {
@@ -53,7 +53,7 @@ pub fn first_raced(analysis: &Analysis<'_>, chains: &[Chain]) -> Option<Step>
     None
 }
 
-/// The first such of these steps.
+/// The first such step of these steps.
 fn raced_of(analysis: &Analysis<'_>, steps: &[Step]) -> Option<Step>
     ensures { result ≡ find (is_raced analysis.now.events) steps.now }
 {
@@ -65,7 +65,7 @@ fn raced_of(analysis: &Analysis<'_>, steps: &[Step]) -> Option<Step>
     None
 }
 
-/// Whether the step is from a write to a read of what it wrote, and the two race.
+/// Whether the step leads from a write to a read of what it wrote, and the two race.
 fn is_raced_step(analysis: &Analysis<'_>, step: Step) -> bool
     ensures { result ≡ is_raced analysis.now.events step }
 {

@@ -1,4 +1,4 @@
-//! Prints a schedule by its runs, the longest parts that are of one thread.
+//! Prints a schedule by its runs, the longest parts that belong to one thread.
 ghost use Rattle.std.specs.Prelude.{◌≡◌, ◌++◌, ℕ, List, OnOk};
 
 use crate::event_lines::{append_line, append_thread, thread_of};
@@ -8,20 +8,20 @@ use event_index::Indexed;
 use rapid_text::OutOfMemory;
 use std::alloc::Global;
 
-/// The most runs that are printed one by one where not all are.
+/// The most runs that are all printed one by one.
 const MOST_RUNS: usize = 11;
 
-/// How many of the last are printed where there are more.
+/// If there are more, this many of the last ones are printed.
 const LAST_RUNS: usize = 10;
 
-/// A run, a longest part of a list of events that is of one thread.
+/// A run: a longest part of a list of events that belongs to one thread.
 #[derive(Clone, Copy)]
 pub struct Run {
     /// Its thread.
     pub thread: u32,
-    /// The place of its first event in the list.
+    /// The index of its first event in the list.
     pub start: u32,
-    /// The place behind its last event.
+    /// The index after its last event.
     pub end: u32,
 }
 
@@ -53,7 +53,7 @@ pub fn runs_of(alloc: Global, indexed: &Indexed, list: &[u32]) -> Result<Vec<Run
     Ok(runs)
 }
 
-/// How many runs the list has.
+/// The number of runs in the list.
 pub(crate) fn run_count(
     alloc: Global,
     indexed: &Indexed,
@@ -65,8 +65,8 @@ pub(crate) fn run_count(
     }
 }
 
-/// Appends the runs of the list. Where there are more than eleven, and not all are asked for, all but the last ten
-/// become one block.
+/// Appends the runs of the list. If there are more than eleven, and `all` is false, all except the last ten become
+/// one block.
 pub(crate) fn append_runs(
     out: &mut Vec<u8>,
     indexed: &Indexed,
@@ -81,7 +81,7 @@ pub(crate) fn append_runs(
     Ok(())
 }
 
-/// Finds the runs, and appends them.
+/// Computes the runs, and appends them.
 fn append_found(
     out: &mut Vec<u8>,
     indexed: &Indexed,
@@ -121,7 +121,7 @@ fn append_each_run(
     Ok(())
 }
 
-/// Appends a run: its first event, its last, and for which event of another thread it was.
+/// Appends a run: its first event, its last, and the event of another thread that waits for it.
 fn append_run(
     out: &mut Vec<u8>,
     indexed: &Indexed,
@@ -158,7 +158,7 @@ fn append_run(
     append_line(out, indexed, waiter)
 }
 
-/// Appends the line of the event at this place.
+/// Appends the line of the event at this index.
 fn append_place(
     out: &mut Vec<u8>,
     indexed: &Indexed,
@@ -172,7 +172,7 @@ fn append_place(
     Ok(())
 }
 
-/// Appends the first runs as one block: for each thread how many of its events they have, and the last.
+/// Appends the first `folded` runs as one block: for each thread, its number of events in them and its last event.
 fn append_folded(
     out: &mut Vec<u8>,
     indexed: &Indexed,
@@ -204,7 +204,7 @@ fn append_folded(
     Ok(())
 }
 
-/// Counts the event for its thread, as its last.
+/// Counts the event for its thread, and records it as the thread's last one.
 fn note_event(counts: &mut Vec<u32>, lasts: &mut Vec<u32>, indexed: &Indexed, event: u32) {
     let Some(thread) = thread_of(indexed, event) else {
         return;
@@ -217,7 +217,7 @@ fn note_event(counts: &mut Vec<u32>, lasts: &mut Vec<u32>, indexed: &Indexed, ev
     }
 }
 
-/// Appends how many events of a thread there are, and the last, where there is one.
+/// Appends the number of a thread's events and the last of them, if there is one.
 fn append_folded_thread(
     out: &mut Vec<u8>,
     indexed: &Indexed,

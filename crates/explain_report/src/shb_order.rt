@@ -1,4 +1,4 @@
-//! Why SHB keeps one event before another: a chain of events, walked back from its end, and its text.
+//! Computes and prints why SHB keeps one event before another: a chain of events, built backwards from its end.
 ghost use Rattle.std.specs.Prelude.{◌≡◌, ◌++◌, ℕ, List, OnOk};
 
 use crate::chains::append_written;
@@ -10,8 +10,8 @@ use must_order::Analysis;
 use rapid_text::{Op, OutOfMemory};
 use std::alloc::Global;
 
-/// Events from the first to the second, of which each is an edge of SHB before the next, where SHB keeps the first
-/// before the base of the second; else fewer.
+/// Events from the first to the second, each with an edge of SHB to the next. They are complete if SHB keeps the
+/// first before the base of the second; otherwise there are fewer.
 pub fn shb_chain(
     alloc: Global,
     analysis: &Analysis<'_>,
@@ -43,7 +43,7 @@ pub(crate) fn base_of(indexed: &Indexed, event: u32) -> Option<u32> {
     }
 }
 
-/// For each acquire the last release of its lock before it.
+/// The last release of its lock before each acquire.
 fn releases_before(alloc: Global, indexed: &Indexed) -> Result<Vec<Option<u32>>, OutOfMemory> {
     let locks = indexed.trace().raw().locks() as usize;
     let mut last = vec![in alloc; None; locks]?;
@@ -63,7 +63,7 @@ fn releases_before(alloc: Global, indexed: &Indexed) -> Result<Vec<Option<u32>>,
     Ok(before)
 }
 
-/// What comes directly before the event, and is the first event or after it in SHB.
+/// The event directly before this one that is the first event, or comes after it in SHB.
 fn step_back(
     analysis: &Analysis<'_>,
     releases: &[Option<u32>],
@@ -102,7 +102,7 @@ fn end_of(indexed: &Indexed, thread: u32) -> Option<u32> {
     last.or(indexed.fork_of(thread))
 }
 
-/// The event, where it is the first one or after it in SHB.
+/// The event, if it is the first one or comes after it in SHB.
 fn is_after(analysis: &Analysis<'_>, first: u32, event: Option<u32>) -> Option<u32> {
     let indexed = analysis.indexed();
     let event = event?;
@@ -118,7 +118,7 @@ fn is_after(analysis: &Analysis<'_>, first: u32, event: Option<u32>) -> Option<u
     None
 }
 
-/// Appends the chain; events of one thread in a row are drawn together.
+/// Appends the chain. Events of one thread in a row are printed as one step.
 pub(crate) fn append_shb_chain(
     out: &mut Vec<u8>,
     analysis: &Analysis<'_>,
@@ -132,7 +132,7 @@ pub(crate) fn append_shb_chain(
     Ok(())
 }
 
-/// Appends the events of the chain, and between those of two threads why the one comes before the other.
+/// Appends the events of the chain, and the reason between two events of different threads.
 fn append_links(
     out: &mut Vec<u8>,
     analysis: &Analysis<'_>,
@@ -180,7 +180,7 @@ fn append_link(
     append_words(out, b"\n")
 }
 
-/// Appends the event to which the thread goes on.
+/// Appends the later event of the thread, if there is one.
 fn append_later(
     out: &mut Vec<u8>,
     indexed: &Indexed,

@@ -1,4 +1,4 @@
-//! Prints what is known of a pair of conflicting events, and why.
+//! Prints the verdict on a pair of conflicting events, and the reason.
 ghost use Rattle.std.specs.Prelude.{◌≡◌, ◌++◌, List, ℕ, OnOk, OnErr, length};
 ghost use Rattle.explain_report.specs.Told.{IsRaceTold, IsTold, race_words};
 ghost use Rattle.explain_report.specs.Verdicts.{how_text, race_head, verdict_head};
@@ -14,31 +14,31 @@ use event_index::Indexed;
 use must_order::{Analysis, Chain};
 use rapid_text::OutOfMemory;
 
-/// How a race is shown.
+/// How a schedule shows a race.
 #[derive(Clone, Copy, PartialEq, Eq, Debug)]
 pub enum How {
     /// It is a candidate: the order SHB leaves the pair open.
     Candidate,
     /// SHB orders the pair, and a list in the order of the trace shows it.
     Beyond,
-    /// It is shown by critical sections in another order than in the trace.
+    /// Critical sections in another order than in the trace show the pair.
     Turned,
 }
 
-/// What is known of a pair, with the reason.
+/// The verdict on a pair, with the reason.
 #[derive(Clone, Copy)]
 pub enum Verdict<'a> {
     /// A race, which the schedule of these events shows.
     Race {
-        /// How it is shown.
+        /// How the schedule shows it.
         how: How,
-        /// The schedule.
+        /// The events of the schedule.
         events: &'a [u32],
-        /// Whether all its runs are printed; else, of more than eleven, the first are one block.
+        /// Whether all its runs are printed. If not, and there are more than eleven, the first ones are one block.
         all: bool,
     },
-    /// The first event comes before the second in every correct reordering: the first of these chains leads from one to
-    /// the other, and each section that it ends began first by a later chain.
+    /// The first event comes before the second in every correct reordering. The first of these chains leads from one
+    /// to the other. If it ends a section, a later chain shows why that section began first.
     Forced {
         /// The chains.
         chains: &'a [Chain],
@@ -48,23 +48,23 @@ pub enum Verdict<'a> {
         /// The lock.
         lock: u32,
     },
-    /// No schedule was found, and nothing forbids one. SHB keeps the first event before the second by these events, of
-    /// which each is an edge before the next.
+    /// No schedule was found, and nothing forbids one. SHB keeps the first event before the second by these events,
+    /// each with an edge to the next.
     Undecided {
         /// The events, from the first to the second.
         events: &'a [u32],
     },
 }
 
-/// Appends what is known of the pair, whose earlier event stands first, the two events, and the reason. Where memory is refused
-/// `out` stays as it was.
+/// Appends the verdict on the pair, whose earlier event comes first, the two events, and the reason. If memory runs
+/// out, `out` stays as it was.
 pub fn explain_text(
     analysis: &Analysis<'_>,
     verdict: &Verdict<'_>,
     pair: (u32, u32),
     out: &mut Vec<u8>,
 ) -> Result<(), OutOfMemory>
-    // The text tells the verdict, both accesses with the locks that are held, and the reason.
+    // The text has the verdict, both accesses with the locks held before them, and the reason.
     ensures ok { OnOk result ((text : List ℕ) × IsTold analysis.now verdict.now pair.0 pair.1 text × (out.new.items ≡ out.old.items ++ text)) }
     ensures err { OnErr result (out.new.items ≡ out.old.items) }
 {
@@ -74,7 +74,7 @@ pub fn explain_text(
     Ok(())
 }
 
-/// Appends the same. Where memory is refused a beginning of it may stand.
+/// Appends the same. If memory runs out, part of it may already be appended.
 fn append_told(
     out: &mut Vec<u8>,
     analysis: &Analysis<'_>,
@@ -93,7 +93,8 @@ fn append_told(
     }
 }
 
-/// Appends the words of the verdict, with which `explain_text` begins. Where memory is refused a beginning of them may stand.
+/// Appends the first words of the verdict, with which `explain_text` begins. If memory runs out, part of them may
+/// already be appended.
 pub fn append_head(
     out: &mut Vec<u8>,
     indexed: &Indexed,
@@ -115,7 +116,7 @@ pub fn append_head(
     }
 }
 
-/// Appends that the pair is a race, and behind how many events.
+/// Appends that the pair is a race, and the number of events in its schedule.
 fn append_race_head(out: &mut Vec<u8>, how: How, events: u64) -> Result<(), OutOfMemory>
     ensures { OnOk result (out.new.items ≡ out.old.items ++ race_head how events) }
 {
@@ -126,7 +127,7 @@ fn append_race_head(out: &mut Vec<u8>, how: How, events: u64) -> Result<(), OutO
     Ok(())
 }
 
-/// Appends that the pair is a race, the two events, and the runs of its schedule: all of them, or of many the last alone.
+/// Appends that the pair is a race, the two events, and the runs of its schedule: all, or only the last of many.
 fn append_race(
     out: &mut Vec<u8>,
     analysis: &Analysis<'_>,
@@ -142,7 +143,7 @@ fn append_race(
     Ok(())
 }
 
-/// Appends that the pair is a race, in how many runs its schedule stands, and the two events.
+/// Appends that the pair is a race, the number of runs in its schedule, and the two events.
 fn append_race_words(
     out: &mut Vec<u8>,
     analysis: &Analysis<'_>,

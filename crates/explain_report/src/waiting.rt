@@ -1,11 +1,11 @@
-//! Which later event waits for one of a schedule, and why.
+//! Finds the later event that waits for an event of a schedule, and the reason.
 use crate::event_lines::{op_of, thread_of};
 use event_index::Indexed;
 use rapid_text::{Op, OutOfMemory};
 use std::alloc::Global;
 use witness_search::trace_order::needs_of;
 
-/// For each place of the list the first later event of another thread that waits for the event there.
+/// For each index of the list, the first later event of another thread that waits for the event there.
 pub fn waiters_of(
     alloc: Global,
     indexed: &Indexed,
@@ -22,7 +22,7 @@ pub fn waiters_of(
     Ok(waiters)
 }
 
-/// Notes that the event waits for the one at this place.
+/// Records that the event waits for the one at this index, unless an earlier one does.
 fn note_waiter(
     waiters: &mut Vec<Option<u32>>,
     indexed: &Indexed,
@@ -43,7 +43,7 @@ fn note_waiter(
     }
 }
 
-/// Why the second event waits for the first, in the words that are printed between them.
+/// Why the second event waits for the first, as the words that are printed between them.
 pub fn words_between(indexed: &Indexed, first: u32, second: u32) -> &'static [u8] {
     match (op_of(indexed, first), op_of(indexed, second)) {
         (Some(Op::Fork(forked)), Some(Op::Join(joined))) => {

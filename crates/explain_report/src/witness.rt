@@ -8,18 +8,18 @@ use crate::pieces::{append_number, append_words};
 use event_index::Indexed;
 use rapid_text::OutOfMemory;
 
-/// In which form a schedule is printed.
+/// The form in which a schedule is printed.
 #[derive(Clone, Copy, PartialEq, Eq, Debug)]
 pub enum Form {
-    /// Its events, each behind its number.
+    /// The events, each after its number.
     Events,
-    /// A script of one client that builds it and asks which pairs it shows.
+    /// A script of one client that builds the schedule and prints which pairs it shows.
     Script,
-    /// A trace text: its events, and then the pair.
+    /// A trace text: the events of the schedule, and then the pair.
     Trace,
 }
 
-/// Appends the schedule of these events, which shows the pair. Where memory is refused `out` stays as it was.
+/// Appends the schedule of these events, which shows the pair. If memory runs out, `out` stays as it was.
 pub fn witness_text(
     indexed: &Indexed,
     events: &[u32],

@@ -1,6 +1,6 @@
--- What each finding says of a pair of conflicting events of this trace. `r` is a recording, `a` the earlier event, `b` the
--- later. All notions here are this project's own; correct reorderings, candidates and lists in the order of the trace are
--- those of the crates below.
+-- What each finding promises about a pair of conflicting events of this trace. `r` is a recording, `a` the earlier
+-- event, `b` the later. All notions here are this project's own. The crates below define correct reorderings,
+-- candidates and lists in the order of the trace.
 use Rattle.std.specs.Prelude.{◌≡◌, ◌⊎◌, ℕ, ◌<◌, List, length, IsPermutation, Some, None}
 use Rattle.rapid_text.specs.Recording.{Recording}
 use Rattle.rapid_text.specs.declared.event.Event.{Event}
@@ -28,15 +28,15 @@ IsListInOrder T a b Q = IsRising Q × IsCorrectReordering T Q × Shows T Q a b
 abbrev pub IsShownInOrder : List Event → ℕ → ℕ → Type 0
 IsShownInOrder T a b = (Q : List ℕ) × IsListInOrder T a b Q
 
--- a schedule shows the pair: of a candidate, or of an open pair by a list in the order of the trace, or, where there is
--- none, in another order
+-- why a schedule shows the pair: it is a candidate; or it is open, and a list in the order of the trace shows it; or
+-- it is open, and no list in that order shows it
 abbrev pub IsShownAs : Recording → ℕ → ℕ → How → Type 0
 IsShownAs r a b Candidate = IsKind r a b CandidateKind
 IsShownAs r a b Beyond = IsKind r a b OpenKind × IsShownInOrder r.events a b
 IsShownAs r a b Turned = IsKind r a b OpenKind × IsNeverShownInOrder r.events a b
 
--- The list that is found of a race: the least in the order of the trace that shows the pair; of a pair that none in that order shows, what the
--- search finds.
+-- The list that is found for a race: the least in the order of the trace that shows the pair. If no list in that
+-- order shows it, the list that the search finds.
 abbrev pub IsFoundAs : List Event → ℕ → ℕ → How → List ℕ → Type 0
 IsFoundAs T a b Candidate P = IsInOrder T a b P
 IsFoundAs T a b Beyond P = IsInOrder T a b P
@@ -52,8 +52,9 @@ pub record IsLeastShared (r : Recording) (a b l : ℕ) : Type 0 where
   pub shared : IsSharedBefore r.events a b l
   pub least : (k : ℕ) → k < l → ¬ IsSharedBefore r.events a b k
 
--- What a finding says. A race: these events are a correct reordering, show the pair, and are those of the list that is found of it. Forced:
--- these chains tell why. Guarded: by this lock. Undecided: no list in the order of the trace shows the pair, and the search found nothing.
+-- What a finding promises. Race: its events are a correct reordering, show the pair, and are those of the list that
+-- is found for it. Forced: the chains are reasons. Guarded: the lock is the least that both hold. Undecided: no list
+-- in the order of the trace shows the pair, and the search found nothing.
 abbrev pub IsFinding : Recording → ℕ → ℕ → Finding → Type 0
 IsFinding r a b (Race how events) =
     IsCorrectReordering r.events events × Shows r.events events a b × IsShownAs r a b how × AreFound r.events a b how events
@@ -65,7 +66,7 @@ IsFinding r a b (Undecided events) = IsKind r a b OpenKind × IsNeverShownInOrde
 abbrev pub IsShownByNone : List Event → ℕ → ℕ → Type 0
 IsShownByNone T a b = (P : List ℕ) → IsCorrectReordering T P → (¬ Shows T P a b) × (¬ Shows T P b a)
 
--- a pair that was found to be apart is shown by no correct reordering
+-- if the finding is that the pair is apart, no correct reordering shows it
 abbrev pub IsNeverShown : List Event → ℕ → ℕ → Finding → Type 0
 IsNeverShown T a b (Race how events) = Unit {0}
 IsNeverShown T a b (Forced chains) = IsShownByNone T a b

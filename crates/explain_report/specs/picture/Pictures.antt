@@ -1,23 +1,23 @@
--- What a picture is, and what its words say. All notions here are this project's own.
+-- What a picture is, and the content of its words. All notions here are this project's own.
 use Rattle.std.specs.Prelude.{◌≡◌, ℕ, List, [], ◌++◌, flat_map, codes, decimal}
 use Rattle.explain_report.specs.picture.Shapes.{AreShapes, attribute_text, point_text}
 use Rattle.explain_report.specs.declared.picture.style.TheConstants.{STYLE}
 
--- how a picture begins: how wide and high it is drawn, and how it is shown
+-- the beginning of a picture: the width and height in which it is drawn, and in which it is shown
 abbrev pub root_text : ℕ → ℕ → ℕ → ℕ → List ℕ
 root_text width height shown_width shown_height =
     codes "<svg xmlns=\"http://www.w3.org/2000/svg\" viewBox=\"0 0 " ++ point_text width height ++ codes "\"" ++ attribute_text (codes "width") shown_width
     ++ attribute_text (codes "height") shown_height ++ codes ">\n"
 
--- the number of event e behind a blank
+-- the number of event e after a blank
 abbrev pub spaced_event : ℕ → List ℕ
 spaced_event e = codes " " ++ decimal e
 
--- each of the numbers so
+-- each number after a blank
 abbrev pub spaced_events : List ℕ → List ℕ
 spaced_events es = flat_map spaced_event es
 
--- the picture's title: which pair it is of
+-- the picture's title, which names the pair
 abbrev pub title : ℕ → ℕ → List ℕ
 title a b = codes "<title>A schedule that shows " ++ decimal a ++ codes " and " ++ decimal b ++ codes "</title>\n"
 
@@ -25,16 +25,16 @@ title a b = codes "<title>A schedule that shows " ++ decimal a ++ codes " and " 
 abbrev pub listed : List ℕ → List ℕ
 listed P = codes "<desc>Its events:" ++ spaced_events P ++ codes "</desc>\n"
 
--- both
+-- the title and the description
 abbrev pub described : List ℕ → ℕ → ℕ → List ℕ
 described P a b = title a b ++ listed P
 
--- what stands behind the words: the paper, the shapes on it, and the end
+-- the text after the description and the style: the paper, the shapes on it, and the end
 abbrev pub drawn_text : List ℕ → List ℕ
 drawn_text shapes = codes "<rect class=\"paper\" width=\"100%\" height=\"100%\"/>\n" ++ shapes ++ codes "</svg>\n"
 
--- The text is a picture of the schedule P, which shows the pair: it has this title, this description, this style, and shapes. Which shapes, and
--- where they stand, is presentation.
+-- The text is a picture of the schedule P, which shows the pair: it has this title, this description, this style, and
+-- shapes. Which shapes there are, and where, is presentation.
 pub record IsStyled (style P : List ℕ) (a b : ℕ) (text : List ℕ) : Type 0 where
   pub width : ℕ
   pub height : ℕ
@@ -44,10 +44,10 @@ pub record IsStyled (style P : List ℕ) (a b : ℕ) (text : List ℕ) : Type 0 
   pub printed : text ≡ root_text width height shown_width shown_height ++ described P a b ++ style ++ drawn_text shapes
   pub drawn : AreShapes shapes
 
--- a picture that is a file of its own, with the style of pictures
+-- a picture that is a separate file, with the style of pictures
 abbrev pub IsPicture : List ℕ → ℕ → ℕ → List ℕ → Type 0
 IsPicture P a b text = IsStyled STYLE.now P a b text
 
--- the same without a style, for a page that has the style of pictures itself
+-- the same without a style, for a page that has the style itself
 abbrev pub IsFigure : List ℕ → ℕ → ℕ → List ℕ → Type 0
 IsFigure P a b text = IsStyled [] P a b text

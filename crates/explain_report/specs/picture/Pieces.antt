@@ -1,4 +1,4 @@
--- A text by its pieces.
+-- A text made of pieces.
 use Rattle.std.specs.Prelude.{ℕ, List, flat_map, decimal}
 use Rattle.explain_report.specs.declared.picture.pieces.Piece.{Piece}
 use Rattle.explain_report.specs.declared.picture.pieces.Piece.TheVariants.{Words, Number}
@@ -8,6 +8,6 @@ abbrev pub piece_text : Piece → List ℕ
 piece_text (Words words) = words.now
 piece_text (Number n) = decimal n
 
--- the text of pieces, one behind the other
+-- the text of pieces, one after the other
 abbrev pub pieces_text : List Piece → List ℕ
 pieces_text ps = flat_map piece_text ps

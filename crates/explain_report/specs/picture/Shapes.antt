@@ -1,4 +1,4 @@
--- Of what a drawing is made. What comes from a trace stands in it as the text of a line, escaped, and nowhere else.
+-- The shapes of a drawing. A text from a trace occurs only as the escaped text of a line.
 use Rattle.std.specs.Prelude.{ℕ, List, [], ◌++◌, codes, decimal}
 use Rattle.markup.specs.Escaped.{escaped}
 use Rattle.explain_report.specs.declared.picture.class.Class.{Class}
@@ -19,7 +19,7 @@ class_text Held = codes "held"
 abbrev pub attribute_text : List ℕ → ℕ → List ℕ
 attribute_text name n = codes " " ++ name ++ codes "=\"" ++ decimal n ++ codes "\""
 
--- with what a shape begins: its element, its class, and where it stands
+-- the beginning of a shape: its element, class and position
 abbrev pub shape_begin : List ℕ → Class → ℕ → ℕ → List ℕ
 shape_begin element class x y = element ++ codes " class=\"" ++ class_text class ++ codes "\"" ++ attribute_text (codes "x") x ++ attribute_text (codes "y") y
 
@@ -36,7 +36,7 @@ line_text class left base bytes = shape_begin (codes "<text") class left base ++
 abbrev pub point_text : ℕ → ℕ → List ℕ
 point_text x y = decimal x ++ codes " " ++ decimal y
 
--- the points of an arrow behind its first
+-- the points of an arrow after its first
 abbrev pub curve_text : ℕ → ℕ → ℕ → ℕ → ℕ → List ℕ
 curve_text from_x below to_x to_y above = point_text from_x below ++ codes " " ++ point_text to_x above ++ codes " " ++ point_text to_x to_y
 
@@ -45,7 +45,7 @@ abbrev pub arrow_text : ℕ → ℕ → ℕ → ℕ → ℕ → ℕ → List ℕ
 arrow_text from_x from_y below to_x to_y above =
     codes "<path class=\"arrow\" marker-end=\"url(#tip)\" d=\"M" ++ point_text from_x from_y ++ codes "C" ++ curve_text from_x below to_x to_y above ++ codes "\"/>\n"
 
--- the text is made of such shapes, one behind the other
+-- the text is made of such shapes, one after the other
 pub data AreShapes : List ℕ → Type 0 where
   none : AreShapes []
   rect : (class : Class) (left top width height : ℕ) (m : List ℕ) → AreShapes m → AreShapes (m ++ rect_text class left top width height)

@@ -1,5 +1,5 @@
--- Which accesses of a trace a name means: those of an event's number, or those whose locations a word fits best. `r` is the trace's recording.
--- All notions here are this project's own.
+-- The accesses of a trace that a name means: the event with a number, or the accesses whose locations a word fits
+-- best. `r` is the trace's recording. All notions here are this project's own.
 use Rattle.std.specs.Prelude.{◌≡◌, ◌≢◌, ℕ, ◌==◌, ◌&&◌, nat_lt, min, map, Bool, true, false, cond, List, length, slice_index_or}
 use Rattle.std.specs.List.{fold}
 use Rattle.rapid_text.specs.Recording.{Recording}
@@ -19,7 +19,7 @@ is_use (Read x) = true
 is_use (Write x) = true
 is_use op = false
 
--- how well the word fits the location of event e; not at all if e is no access
+-- the misfit of the word and the location of event e; 3 if e is not an access
 abbrev pub misfit_at : Recording → List ℕ → ℕ → ℕ
 misfit_at r word e = cond (passes_at (λ v. is_use v.op) r.events e) (misfit word (location_at r e)) 3
 
@@ -27,11 +27,11 @@ misfit_at r word e = cond (passes_at (λ v. is_use v.op) r.events e) (misfit wor
 abbrev pub misfits_of : Recording → List ℕ → List ℕ
 misfits_of r word = map (misfit_at r word) (before (length r.events))
 
--- the least of these, and of 3, which is no fit
+-- the least of these and of 3, which means no fit
 abbrev pub least_misfit : List ℕ → ℕ
 least_misfit misfits = fold min 3 misfits
 
--- for each event whether it is an access whose location the word fits, and none better
+-- for each event, whether it is an access whose location the word fits, and fits none better
 abbrev pub flags_of_place : Recording → List ℕ → List Bool
 flags_of_place r word = map (λ m. nat_lt m 3 && m == least_misfit (misfits_of r word)) (misfits_of r word)
 

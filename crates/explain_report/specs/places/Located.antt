@@ -7,6 +7,6 @@ abbrev pub location_by : Recording → ℕ → Option Event → List ℕ
 location_by r e None = []
 location_by r e (Some v) = slice_index_or r.locations e []
 
--- the location of event e; nothing if there is no event e
+-- the location of event e; empty if there is no such event
 abbrev pub location_at : Recording → ℕ → List ℕ
 location_at r e = location_by r e (slice_get r.events e)

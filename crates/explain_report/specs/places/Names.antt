@@ -1,4 +1,5 @@
--- How well a word names a location: a file and a line, the end of their path, or a part of the location. All notions here are this project's own.
+-- How badly a word fits a location: as a file and a line, the end of their path, or a part of the location. All
+-- notions here are this project's own.
 use Rattle.std.specs.Prelude.{ℕ, zero, suc, ◌+◌, ◌-◌, ◌==◌, ◌&&◌, ◌||◌, not, nat_eq, nat_le, nat_lt, Bool, false, cond, List, drop, length, slice_index}
 use Rattle.std.specs.List.{ends_with, starts_with}
 use Rattle.std.specs.Cmp.Lexicographic.{pointwise}
@@ -8,7 +9,7 @@ use Rattle.explain_report.specs.places.Places.{before_arrow, is_digit}
 abbrev pub is_word_byte : ℕ → Bool
 is_word_byte b = is_digit b || ((nat_le 65 b && nat_le b 90) || (b == 95 || ((nat_le 97 b && nat_le b 122) || nat_le 128 b)))
 
--- no word of the text goes on from before this index
+-- no word of the text continues across this index
 abbrev pub is_edge : List ℕ → ℕ → Bool
 is_edge text at = at == 0 || (nat_le (length text) at || not (is_word_byte (slice_index text (at - 1)) && is_word_byte (slice_index text at)))
 
@@ -39,6 +40,6 @@ is_whole word location = pointwise nat_eq (before_arrow location) word || pointw
 abbrev pub is_path : List ℕ → List ℕ → Bool
 is_path word location = is_tail (before_arrow location) word || is_tail word (before_arrow location)
 
--- how well the word fits the location, the less the better: 0 whole, 1 as a path, 2 as a part, 3 not at all
+-- how badly the word fits the location: 0 for the whole, 1 as a path, 2 as a part, 3 not at all
 abbrev pub misfit : List ℕ → List ℕ → ℕ
 misfit word location = cond (is_whole word location) 0 (cond (is_path word location) 1 (cond (is_part word location) 2 3))

@@ -1,5 +1,5 @@
--- What a location names: the place of an access, and after it, each after an arrow ` < `, the calls that led there. All notions here are this
--- project's own.
+-- The parts of a location: the place of an access, and then the calls that led there, each after an arrow ` < `. All
+-- notions here are this project's own.
 use Rattle.std.specs.Prelude.{ℕ, zero, suc, ◌+◌, ◌==◌, ◌&&◌, nat_eq, nat_le, nat_lt, Bool, cond, List, [], ◌∷◌, drop, take, length, codes, Option, Some, None}
 use Rattle.std.specs.List.{after_last, before_last, list_all, starts_with}
 use Rattle.std.specs.Option.{option_map}
@@ -17,7 +17,7 @@ abbrev pub before_by : List ℕ → Option ℕ → List ℕ
 before_by text None = text
 before_by text (Some n) = take n text
 
--- what comes before the first arrow, or all
+-- the text before the first arrow, or all
 abbrev pub before_arrow : List ℕ → List ℕ
 before_arrow text = before_by text (arrow_at text)
 
@@ -25,7 +25,7 @@ abbrev pub behind_by : List ℕ → Option ℕ → Option (List ℕ)
 behind_by text None = None
 behind_by text (Some n) = Some (drop (n + 3) text)
 
--- what comes after it, if there is one
+-- the text after the first arrow, if there is one
 abbrev pub behind_arrow : List ℕ → Option (List ℕ)
 behind_arrow text = behind_by text (arrow_at text)
 
@@ -44,15 +44,16 @@ is_colon b = b == 58
 abbrev pub is_digit : ℕ → Bool
 is_digit b = nat_le 48 b && nat_le b 57
 
--- the text is `FILE:LINE`: a last colon with something before it, and after it digits alone, one at least
+-- the text is `FILE:LINE`: before its last colon there is some text, and after it are one or more digits and nothing
+-- else
 abbrev pub is_line : List ℕ → Bool
 is_line text =
     nat_lt 0 (length (before_last is_colon text)) && (nat_lt 0 (length (after_last is_colon text)) && list_all is_digit (after_last is_colon text))
 
--- the file and the line of a call `FUNCTION FILE:LINE` or `FILE:LINE`; nothing if it names none
+-- the file and the line of a call `FUNCTION FILE:LINE` or `FILE:LINE`; empty if it names none
 abbrev pub call_place : List ℕ → List ℕ
 call_place call = cond (is_line (after_last is_blank call)) (after_last is_blank call) []
 
--- the function of a call, in which blanks may be
+-- the function of a call, which may have blanks
 abbrev pub call_function : List ℕ → List ℕ
 call_function call = cond (is_line (after_last is_blank call)) (before_last is_blank call) call

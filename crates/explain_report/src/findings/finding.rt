@@ -1,31 +1,31 @@
-//! What may be found of a pair.
+//! The findings on a pair.
 use crate::How;
 use event_index::EventList;
 use must_order::Chain;
 
-/// What is found of a conflicting pair, with the reason.
+/// The finding on a conflicting pair, with the reason.
 #[derive(Drop)]
 pub enum Finding {
     /// A race: a schedule of these events shows the pair.
     Race {
         /// How the schedule was found.
         how: How,
-        /// Its events, in order.
+        /// The events of the schedule, in order.
         events: EventList,
     },
-    /// The earlier event comes before the later in every correct reordering that has that.
+    /// The earlier event comes before the later one in every correct reordering that has the later one.
     Forced {
-        /// Why: the first chain leads from the one event to the other.
+        /// Why: the first chain leads from the earlier event to the later one.
         chains: Vec<Chain>,
     },
-    /// Both threads hold a lock before their event.
+    /// Both threads hold one lock before their events.
     Guarded {
         /// The least such lock.
         lock: u32,
     },
     /// Nothing forbids a schedule, and none was found.
     Undecided {
-        /// Events from the earlier to the later, by which SHB orders them.
+        /// Events from the earlier one to the later one, by which SHB orders them.
         events: Vec<u32>,
     },
 }

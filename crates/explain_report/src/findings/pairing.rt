@@ -1,10 +1,10 @@
-//! Which two events make a pair.
+//! Which two events form a pair.
 ghost use Rattle.std.specs.Prelude.{◌≡◌, ◌<◌, length, min, max, None, IfSome};
 ghost use Rattle.event_index.specs.Relations.{IsConflicting};
 
 use event_index::Indexed;
 
-/// The two events, the earlier first, where they conflict; None where they do not, or one is no event.
+/// The two events, the earlier first, if they conflict. None if they do not, or if the trace lacks one of them.
 pub fn pair_of(indexed: &Indexed, one: u32, other: u32) -> Option<(u32, u32)>
     ensures first { IfSome result (λ pair. pair.0 ≡ min one other) }
     ensures second { IfSome result (λ pair. pair.1 ≡ max one other) }

@@ -1,4 +1,4 @@
-//! Finds what is to be said of a pair.
+//! Computes the finding on a pair.
 ghost use Rattle.std.specs.Prelude.{◌≡◌, ◌≢◌, ◌<◌, length, false, None, IfOk, IfSome};
 ghost use Rattle.schedule.specs.Reordering.{IsCorrectReordering};
 ghost use Rattle.schedule.specs.Shows.{Shows};
@@ -20,11 +20,12 @@ use witness_search::trace_order::{
     InOrderRefusal, candidates_are_in_order, fewer_runs, in_order, turned,
 };
 
-/// The most steps of the search for a schedule in another order than the trace's.
+/// The most steps of the search for a schedule in another order than that of the trace.
 pub const BUDGET: u32 = 1_048_576;
 
-/// What is found of a conflicting pair, whose earlier event is the first. A candidate has a schedule. What is neither forced nor
-/// guarded is tried by the least list in the order of the trace, and then by a search of at most `BUDGET` steps.
+/// The finding on a conflicting pair, whose earlier event is `first`. A candidate has a schedule. For a pair that is
+/// neither forced nor guarded, the call tries the least list in the order of the trace, and then a search of at most
+/// `BUDGET` steps. Fails if memory runs out.
 pub fn find(
     alloc: Global,
     analysis: &Analysis<'_>,
@@ -34,7 +35,7 @@ pub fn find(
     requires first { first < length analysis.now.events }
     requires second { second < length analysis.now.events }
     ensures finding { IfOk result (IsFinding analysis.now first second) }
-    // A pair that is found to be forced or guarded is shown by no correct reordering.
+    // No correct reordering shows a pair that is found to be forced or guarded.
     ensures apart { IfOk result (IsNeverShown analysis.now.events first second) }
 {
     apart_is_never_shown();
@@ -43,7 +44,7 @@ pub fn find(
     Ok(finding)
 }
 
-// What is found of a pair, by the first kind that fits.
+// The finding on a pair, by the first kind that fits.
 fn find_by_kind(
     alloc: Global,
     analysis: &Analysis<'_>,
@@ -66,7 +67,7 @@ fn find_by_kind(
     }
 }
 
-// The least list in the order of the trace that shows the pair. None where there is no such list.
+// The least list in the order of the trace that shows the pair. None if there is no such list.
 fn list_in_order(
     alloc: Global,
     analysis: &Analysis<'_>,
@@ -89,7 +90,7 @@ fn list_in_order(
     }
 }
 
-// Whether there may be a list, and memory was wanting.
+// Whether the refusal means that memory ran out, so there may be a list.
 fn wants_memory(refusal: InOrderRefusal) -> bool
     ensures { result ≡ false → refusal ≢ NoMemory }
 {
@@ -101,7 +102,7 @@ fn wants_memory(refusal: InOrderRefusal) -> bool
     }
 }
 
-// The schedule of a candidate: there is always one in the order of the trace.
+// The schedule of a candidate, which is always in the order of the trace.
 fn candidate(
     alloc: Global,
     analysis: &Analysis<'_>,
@@ -158,7 +159,7 @@ fn forced(
     }
 }
 
-// What is found of a pair that nothing forbids.
+// The finding on an open pair.
 fn open_pair(
     alloc: Global,
     analysis: &Analysis<'_>,
@@ -176,7 +177,7 @@ fn open_pair(
     }
 }
 
-// What is found of it beyond the order of the trace.
+// The finding on a pair that no list in the order of the trace shows.
 fn beyond_order(
     alloc: Global,
     analysis: &Analysis<'_>,

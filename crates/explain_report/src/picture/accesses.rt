@@ -1,4 +1,4 @@
-//! The two accesses under all, one below the other: so both are seen on a narrow page too.
+//! Draws the two accesses at the bottom, one below the other, so that a narrow page shows both.
 use crate::picture::canvas::Canvas;
 use crate::picture::class::Class;
 use crate::picture::columns::MARGIN;
@@ -9,10 +9,10 @@ use crate::picture::rows::{BoxLine, draw_box, draw_label, draw_pieces};
 use event_index::Indexed;
 use rapid_text::{Op, OutOfMemory};
 
-/// The most locks that are named, of those held before an access.
+/// The most locks that are named, of the locks held before an access.
 const MOST_LOCKS: usize = 8;
 
-/// Appends the locks that the event's thread holds before it, in rising number.
+/// Appends the locks that the event's thread holds before it, in rising order of their numbers.
 pub(crate) fn note_locks(
     locks: &mut Vec<u32>,
     indexed: &Indexed,
@@ -42,7 +42,7 @@ fn note_held(locks: &mut Vec<u32>, depths: &[u32]) -> Result<(), OutOfMemory> {
     Ok(())
 }
 
-/// Counts what an event does to how often each lock is held.
+/// Updates the number of holds of each lock for an operation.
 fn note(depths: &mut Vec<u32>, op: Option<Op>) {
     match op {
         Some(Op::Acquire(lock)) => {
@@ -59,7 +59,7 @@ fn note(depths: &mut Vec<u32>, op: Option<Op>) {
     }
 }
 
-/// How high the box of an access with these locks is.
+/// The height of an access's box with these locks.
 pub(crate) fn access_height(locks: &[u32]) -> u64 {
     let lines = locks.len().min(MOST_LOCKS.saturating_add(1)) as u64;
     height_of(lines.saturating_add(2))
@@ -92,7 +92,7 @@ fn line_at(top: u64, line: u64) -> BoxLine {
     }
 }
 
-/// Draws a line for each of the locks, and one for those that are too many.
+/// Draws a line for each of the locks, and one line with the number of further locks.
 fn draw_locks(
     canvas: &mut Canvas,
     indexed: &Indexed,

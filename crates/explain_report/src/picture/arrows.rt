@@ -1,4 +1,4 @@
-//! The arrow from a run to the event that waits for it.
+//! Draws the arrows from a run to the event that waits for it.
 use crate::picture::canvas::Canvas;
 use crate::picture::columns::Columns;
 use crate::picture::labels::thread_of;
@@ -7,10 +7,10 @@ use crate::picture::shapes::Arrow;
 use event_index::Indexed;
 use rapid_text::OutOfMemory;
 
-/// How far an arrow goes down before it turns, and after.
+/// The distance that an arrow goes down before it turns, and after.
 const BEND: u64 = 18;
 
-/// Draws the arrows of all runs. They are drawn under the boxes.
+/// Draws the arrows of all runs. The boxes are drawn over them later.
 pub(crate) fn draw_arrows(
     canvas: &mut Canvas,
     indexed: &Indexed,
@@ -29,7 +29,7 @@ pub(crate) fn draw_arrows(
     Ok(())
 }
 
-/// The first run behind this one that has the event of the thread.
+/// The first later run of the thread that has the event.
 fn waiting_run<'a>(
     list: &[u32],
     placed: &'a [Placed],

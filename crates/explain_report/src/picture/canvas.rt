@@ -1,4 +1,4 @@
-//! What is drawn on. It takes shapes and nothing else, so whoever draws can't write markup.
+//! The canvas of a drawing. It accepts only shapes, so a function that draws cannot write markup.
 ghost use Rattle.std.specs.Prelude.{◌≡◌};
 ghost use Rattle.explain_report.specs.picture.Shapes.{AreShapes};
 
@@ -8,7 +8,7 @@ use rapid_text::OutOfMemory;
 use std::alloc::Global;
 use std::marker::Model;
 
-/// A drawing that is being made. Contracts see its text so far.
+/// A drawing in progress. Contracts see its text so far.
 #[derive(Drop)]
 pub(crate) struct Canvas {
     text: Vec<u8>,
@@ -26,7 +26,7 @@ impl Model for Canvas {
 }
 
 impl Canvas {
-    /// A canvas on which nothing is drawn.
+    /// An empty canvas.
     pub(crate) fn new(alloc: Global) -> Canvas {
         Canvas {
             text: Vec::new(alloc),
@@ -38,7 +38,7 @@ impl Canvas {
         *self.text.allocator()
     }
 
-    /// What was drawn.
+    /// The text of the shapes drawn so far.
     pub(crate) fn bytes(&self) -> &[u8]
         ensures text { result.now ≡ self.now }
         ensures shapes { AreShapes self.now }
@@ -61,7 +61,7 @@ impl Canvas {
         Ok(())
     }
 
-    /// Draws a line of text, whatever it is.
+    /// Draws a line of text, which may have any bytes.
     pub(crate) fn line(
         &mut self,
         class: Class,

@@ -1,4 +1,5 @@
-//! Which runs of a schedule are drawn one by one: all of a few; of many the last ones, and the last of those that they waited for.
+//! Chooses the runs that a picture draws one by one: all of a few; of many the last ones, and the last that those
+//! waited for.
 use crate::Run;
 use event_index::Indexed;
 use rapid_text::OutOfMemory;
@@ -6,10 +7,10 @@ use rapid_text::OutOfMemory;
 /// The most runs that are drawn one by one.
 pub(crate) const MOST_RUNS: usize = 40;
 
-/// Of more so many of the last are drawn.
+/// If there are more runs, this many of the last ones are drawn.
 const LAST_RUNS: usize = 20;
 
-/// Appends for each run whether it is drawn.
+/// Appends for each run whether it is drawn one by one.
 pub(crate) fn choose_runs(
     shown: &mut Vec<bool>,
     indexed: &Indexed,
@@ -31,7 +32,7 @@ pub(crate) fn choose_runs(
     Ok(())
 }
 
-/// Notes the events of the runs from this one on.
+/// Marks the events of the runs from run `last` on.
 fn note_late(late: &mut Vec<bool>, list: &[u32], runs: &[Run], last: usize) {
     let start = match runs.get(last) {
         Some(run) => run.start as usize,
@@ -44,7 +45,7 @@ fn note_late(late: &mut Vec<bool>, list: &[u32], runs: &[Run], last: usize) {
     }
 }
 
-/// Chooses the last of the runs before this one for which a late event waited.
+/// Chooses the last runs before run `last` for which a marked event waits.
 fn choose_earlier(
     shown: &mut Vec<bool>,
     late: &[bool],
@@ -64,7 +65,7 @@ fn choose_earlier(
     }
 }
 
-/// Whether a late event waited for one of the run.
+/// Whether a marked event waits for an event of the run.
 fn is_waited_for(run: Option<Run>, late: &[bool], waiters: &[Option<u32>]) -> bool {
     let Some(run) = run else {
         return false;

@@ -1,17 +1,17 @@
-//! How the parts of a drawing look: a closed list, each of which the style of a picture knows.
+//! The look of the parts of a drawing: a closed list of classes, each of which the style of a picture has.
 ghost use Rattle.std.specs.Prelude.{◌≡◌};
 ghost use Rattle.explain_report.specs.picture.Shapes.{class_text};
 
-/// How a part of a drawing looks.
+/// The look of a part of a drawing.
 #[derive(Clone, Copy, PartialEq, Eq, Debug)]
 pub enum Class {
-    /// A line that names what stands under it.
+    /// A line with the name of what is below it.
     Name,
     /// A line beside the events.
     Note,
-    /// A line that tells an event, or a lock that is held before it.
+    /// A line with an event, or with a lock that is held before it.
     Event,
-    /// A line that tells one of the two accesses.
+    /// A line with one of the two accesses.
     Access,
     /// The box of a run.
     Run,
@@ -19,11 +19,11 @@ pub enum Class {
     Race,
     /// The bar at the edge of a run.
     Edge,
-    /// The part of it where the thread holds a lock.
+    /// The part of that bar where the thread holds a lock.
     Held,
 }
 
-/// The name under which the style knows it.
+/// The name of the class in the style.
 pub(crate) fn name_of(class: Class) -> &'static [u8]
     ensures { result.now ≡ class_text class }
 {

@@ -1,20 +1,20 @@
-//! Which thread stands in which column.
+//! The column of each thread.
 use crate::picture::labels::thread_of;
 use crate::picture::layout::Placed;
 use event_index::Indexed;
 use rapid_text::OutOfMemory;
 use std::alloc::Global;
 
-/// How wide a column is.
+/// The width of a column.
 pub(crate) const COLUMN: u64 = 320;
 
-/// How much stands free at the edges of a picture.
+/// The margin at the edges of a picture.
 pub(crate) const MARGIN: u64 = 12;
 
-/// The most columns: a picture of so many is 1,292 wide, and shown 1,550 wide.
+/// The most columns: a picture with this many is 1,292 wide, and shown 1,550 wide.
 const MOST_COLUMNS: usize = 4;
 
-/// The number of the column that the threads share, if they are more: behind those of the pair.
+/// The number of the column that the other threads share if there are more: it comes after those of the pair.
 pub(crate) const SHARED: usize = 2;
 
 /// The threads that are drawn, and the column of each.
@@ -25,7 +25,7 @@ pub(crate) struct Columns {
 }
 
 impl Columns {
-    /// No column.
+    /// No columns.
     pub(crate) fn new(alloc: Global) -> Columns {
         Columns {
             threads: Vec::new(alloc),
@@ -51,7 +51,7 @@ impl Columns {
         Ok(())
     }
 
-    /// Gives the event's thread a column, where it has none.
+    /// Gives the event's thread a column, unless it has one.
     fn add_of(&mut self, indexed: &Indexed, event: u32) -> Result<(), OutOfMemory> {
         match thread_of(indexed, event) {
             Some(thread) => self.add(thread),
@@ -59,7 +59,7 @@ impl Columns {
         }
     }
 
-    /// Gives the thread a column, where it has none.
+    /// Gives the thread a column, unless it has one.
     fn add(&mut self, thread: u32) -> Result<(), OutOfMemory> {
         let next = u32::try_from(self.threads.len()).unwrap_or(u32::MAX);
         let Some(place) = self.places.get_mut(thread as usize) else {
@@ -72,7 +72,7 @@ impl Columns {
         Ok(())
     }
 
-    /// The threads that have a column of their own, column by column.
+    /// The threads that have a column for themselves, column by column.
     pub(crate) fn own(&self) -> &[u32] {
         let threads = self.threads.as_slice();
         if self.is_shared() {
@@ -82,12 +82,12 @@ impl Columns {
         }
     }
 
-    /// Whether there are so many threads that all but the two of the pair stand in one column.
+    /// Whether there are so many threads that all except the two of the pair share a column.
     pub(crate) fn is_shared(&self) -> bool {
         self.threads.len() > MOST_COLUMNS
     }
 
-    /// Where the column of the thread begins.
+    /// The left edge of the thread's column.
     pub(crate) fn left(&self, thread: u32) -> u64 {
         let place = self.places.get(thread as usize).copied().flatten();
         let column = place.unwrap_or(0) as usize;
@@ -98,7 +98,7 @@ impl Columns {
         })
     }
 
-    /// How wide all are, with the edges.
+    /// The width of all columns, with the margins.
     pub(crate) fn width(&self) -> u64 {
         left_of(if self.is_shared() {
             SHARED.saturating_add(1)
@@ -108,7 +108,7 @@ impl Columns {
     }
 }
 
-/// Where the column of this number begins.
+/// The left edge of the column with this number.
 pub(crate) fn left_of(column: usize) -> u64 {
     (column as u64)
         .saturating_mul(COLUMN)

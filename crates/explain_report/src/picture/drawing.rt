@@ -20,7 +20,7 @@ use event_index::Indexed;
 use rapid_text::OutOfMemory;
 use std::alloc::Global;
 
-/// What is drawn, and where.
+/// The parts of a drawing, and their positions.
 #[derive(Drop)]
 struct Drawing {
     columns: Columns,
@@ -34,7 +34,7 @@ struct Drawing {
 }
 
 impl Drawing {
-    /// Nothing.
+    /// An empty drawing.
     fn new(alloc: Global) -> Drawing {
         Drawing {
             columns: Columns::new(alloc),
@@ -48,7 +48,7 @@ impl Drawing {
         }
     }
 
-    /// Finds what is drawn of the schedule.
+    /// Computes the parts of a drawing of the schedule.
     fn fill(
         &mut self,
         indexed: &Indexed,
@@ -64,7 +64,7 @@ impl Drawing {
         note_locks(&mut self.second_locks, indexed, second)
     }
 
-    /// Finds which runs are drawn, and where their boxes stand.
+    /// Chooses the runs that are drawn, and the positions of their boxes.
     fn place(&mut self, indexed: &Indexed, events: &[u32]) -> Result<(), OutOfMemory> {
         match waiters_of(*self.placed.allocator(), indexed, events) {
             Ok(waiters) => self.place_with(indexed, events, &waiters),
@@ -72,7 +72,7 @@ impl Drawing {
         }
     }
 
-    /// The same, with those that wait for the events.
+    /// The same, given the event that waits for each event.
     fn place_with(
         &mut self,
         indexed: &Indexed,
@@ -89,14 +89,14 @@ impl Drawing {
         Ok(())
     }
 
-    /// Where the box of the second access begins, below that of the first.
+    /// The top of the second access's box, below that of the first.
     fn below_first(&self) -> u64 {
         let top = self.end.saturating_add(GAP);
         top.saturating_add(access_height(&self.first_locks))
             .saturating_add(MARGIN)
     }
 
-    /// How large it is.
+    /// The size of the drawing.
     fn size(&self) -> Size {
         let bottom = self
             .below_first()
@@ -105,9 +105,10 @@ impl Drawing {
     }
 }
 
-/// Appends a picture (SVG) of the schedule of these events, which shows the pair: a column for each thread, a box for each run below the one before, and
-/// the two accesses under all, one below the other. Of more than 40 runs the last 20 are drawn, and the last 20 of those that they waited for; the
-/// rest is one box. Of more than four threads all but the two of the pair share a column. Where memory is refused `out` stays as it was.
+/// Appends a picture (SVG) of the schedule of these events, which shows the pair. It has a column for each thread, a
+/// box for each run below the one before, and the two accesses at the bottom. If there are more than 40 runs, it
+/// draws the last 20, and the last 20 that those waited for; the rest is one box. If there are more than four
+/// threads, all except the two of the pair share a column. If memory runs out, `out` stays as it was.
 pub fn picture_text(
     indexed: &Indexed,
     events: &[u32],
@@ -115,14 +116,15 @@ pub fn picture_text(
     second: u32,
     out: &mut Vec<u8>,
 ) -> Result<(), OutOfMemory>
-    // The picture says which schedule it shows.
+    // The picture names the events of the schedule and the pair.
     ensures ok { OnOk result ((text : List ℕ) × (out.new.items ≡ out.old.items ++ text) × IsPicture events.now first second text) }
     ensures err { OnErr result (out.new.items ≡ out.old.items) }
 {
     styled_text(indexed, events, (first, second), STYLE, out)
 }
 
-/// Appends the same picture without its style: for a page that has the style of its pictures itself. Where memory is refused `out` stays as it was.
+/// Appends the same picture without its style, for a page that has the style itself. If memory runs out, `out` stays
+/// as it was.
 pub fn figure_text(
     indexed: &Indexed,
     events: &[u32],
@@ -130,14 +132,14 @@ pub fn figure_text(
     second: u32,
     out: &mut Vec<u8>,
 ) -> Result<(), OutOfMemory>
-    // The picture says which schedule it shows.
+    // The figure names the events of the schedule and the pair.
     ensures ok { OnOk result ((text : List ℕ) × (out.new.items ≡ out.old.items ++ text) × IsFigure events.now first second text) }
     ensures err { OnErr result (out.new.items ≡ out.old.items) }
 {
     styled_text(indexed, events, (first, second), b"", out)
 }
 
-/// Appends the picture with this style, whole or not at all.
+/// Appends the picture with this style, all of it or nothing.
 fn styled_text(
     indexed: &Indexed,
     events: &[u32],
@@ -154,7 +156,7 @@ fn styled_text(
     Ok(())
 }
 
-/// Appends the picture. Where memory is refused a beginning of it may stand.
+/// Appends the picture. If memory runs out, part of it may already be appended.
 fn append_styled(
     out: &mut Vec<u8>,
     indexed: &Indexed,
@@ -171,7 +173,7 @@ fn append_styled(
     }
 }
 
-/// Appends the picture that has what was drawn.
+/// Appends the picture with the shapes of the canvas.
 fn append_drawing(
     out: &mut Vec<u8>,
     size: Size,
@@ -189,7 +191,7 @@ fn append_drawing(
     Ok(())
 }
 
-/// Draws the schedule. How large the drawing is.
+/// Draws the schedule, and returns the size of the drawing.
 fn draw(
     canvas: &mut Canvas,
     indexed: &Indexed,
@@ -204,7 +206,7 @@ fn draw(
     }
 }
 
-/// Draws all of it. How large that is.
+/// Draws all parts, and returns the size of the drawing.
 fn draw_all(
     canvas: &mut Canvas,
     indexed: &Indexed,
@@ -221,7 +223,7 @@ fn draw_all(
     Ok(drawing.size())
 }
 
-/// Draws the line on top.
+/// Draws the line at the top.
 fn draw_top_line(
     canvas: &mut Canvas,
     drawing: &Drawing,
@@ -251,7 +253,7 @@ fn draw_top_line(
     canvas.line(Class::Name, MARGIN, 20, &text)
 }
 
-/// Draws over each column the name of its thread, or that it has several.
+/// Draws above each column the name of its thread, or that several threads share it.
 fn draw_names(
     canvas: &mut Canvas,
     indexed: &Indexed,

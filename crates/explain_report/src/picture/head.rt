@@ -1,4 +1,4 @@
-//! What stands around the shapes of a picture: its size, in words what it shows, the paper, and the end.
+//! The parts of a picture around its shapes: its size, its title and description, the paper, and the end.
 ghost use Rattle.std.specs.Prelude.{◌≡◌, ◌++◌, ◌∷◌, [], OnOk};
 ghost use Rattle.explain_report.specs.picture.Pictures.{described, drawn_text, listed, root_text, spaced_events, title};
 
@@ -6,7 +6,7 @@ use crate::picture::pieces::{Piece, append_pieces, append_words};
 use crate::picture::shapes::{append_attribute, append_point};
 use rapid_text::OutOfMemory;
 
-/// How large a picture is.
+/// The size of a picture.
 #[derive(Clone, Copy)]
 pub(crate) struct Size {
     width: u64,
@@ -16,7 +16,7 @@ pub(crate) struct Size {
 }
 
 impl Size {
-    /// That of a picture which is drawn so large.
+    /// The size of a picture that is drawn with this width and height.
     pub(crate) fn new(width: u64, height: u64) -> Size {
         Size {
             width,
@@ -27,12 +27,12 @@ impl Size {
     }
 }
 
-/// The size with a fifth more.
+/// The size plus a fifth.
 fn larger(size: u64) -> u64 {
     size.saturating_add(size / 5)
 }
 
-/// Appends the beginning of the root, which is shown a fifth larger than it is drawn: a line of 10 pixels is one of 12.
+/// Appends the beginning of the root. The picture is shown a fifth larger than it is drawn: 10 pixels become 12.
 pub(crate) fn append_root(out: &mut Vec<u8>, size: Size) -> Result<(), OutOfMemory>
     ensures { OnOk result (out.new.items ≡ out.old.items ++ root_text size.width size.height size.shown_width size.shown_height) }
 {
@@ -63,7 +63,7 @@ pub(crate) fn append_drawn(out: &mut Vec<u8>, shapes: &[u8]) -> Result<(), OutOf
     Ok(())
 }
 
-/// Appends which pair the picture is of, and the events of the schedule, in its order.
+/// Appends the pair of the picture, and the events of the schedule in order.
 pub(crate) fn append_description(
     out: &mut Vec<u8>,
     events: &[u32],
@@ -77,7 +77,7 @@ pub(crate) fn append_description(
     Ok(())
 }
 
-/// Appends which pair the picture is of.
+/// Appends the title, which names the pair.
 fn append_title(out: &mut Vec<u8>, first: u32, second: u32) -> Result<(), OutOfMemory>
     ensures { OnOk result (out.new.items ≡ out.old.items ++ title first second) }
 {
@@ -104,7 +104,7 @@ fn append_list(out: &mut Vec<u8>, events: &[u32]) -> Result<(), OutOfMemory>
     Ok(())
 }
 
-/// Appends each number behind a blank.
+/// Appends each number after a blank.
 fn append_events(out: &mut Vec<u8>, events: &[u32]) -> Result<(), OutOfMemory>
     ensures { OnOk result (out.new.items ≡ out.old.items ++ spaced_events events.now) }
 {

@@ -8,7 +8,7 @@ use crate::picture::pieces::append_cut;
 use event_index::Indexed;
 use rapid_text::{Op, OutOfMemory, RawTrace};
 
-/// Draws a line of text, which is cut where it is longer than a box is wide.
+/// Draws a line of text, which is cut if it is longer than a box is wide.
 pub(crate) fn draw_line(
     canvas: &mut Canvas,
     class: Class,
@@ -21,7 +21,7 @@ pub(crate) fn draw_line(
     canvas.line(class, left, base, &line)
 }
 
-/// The word for what an operation does.
+/// The word for an operation.
 pub(crate) fn word_of(op: Op) -> &'static [u8] {
     match op {
         Op::Read(_) => b"r",
@@ -33,7 +33,7 @@ pub(crate) fn word_of(op: Op) -> &'static [u8] {
     }
 }
 
-/// The name of what it is done to.
+/// The name of the operation's variable, lock or thread.
 pub(crate) fn name_in(trace: &RawTrace, op: Op) -> &[u8]
     requires { IsNamedOp trace.now op }
 {
@@ -44,7 +44,7 @@ pub(crate) fn name_in(trace: &RawTrace, op: Op) -> &[u8]
     }
 }
 
-/// The name of the thread, where the trace has it.
+/// The name of the thread; empty if the trace lacks it.
 pub(crate) fn thread_name(indexed: &Indexed, thread: u32) -> &[u8] {
     let raw = indexed.trace().raw();
     if thread < raw.threads() {
@@ -54,7 +54,7 @@ pub(crate) fn thread_name(indexed: &Indexed, thread: u32) -> &[u8] {
     }
 }
 
-/// The name of the lock, where the trace has it.
+/// The name of the lock; empty if the trace lacks it.
 pub(crate) fn lock_name(indexed: &Indexed, lock: u32) -> &[u8] {
     let raw = indexed.trace().raw();
     if lock < raw.locks() {
@@ -64,7 +64,7 @@ pub(crate) fn lock_name(indexed: &Indexed, lock: u32) -> &[u8] {
     }
 }
 
-/// The thread of the event, where the trace has it.
+/// The thread of the event, or None if the trace lacks it.
 pub(crate) fn thread_of(indexed: &Indexed, event: u32) -> Option<u32>
     ensures { IfSome result (λ t. t < length indexed.now.threads) }
 {
@@ -75,7 +75,7 @@ pub(crate) fn thread_of(indexed: &Indexed, event: u32) -> Option<u32>
     }
 }
 
-/// What the event does, where the trace has it.
+/// The operation of the event, or None if the trace lacks it.
 pub(crate) fn op_of(indexed: &Indexed, event: u32) -> Option<Op> {
     if event < indexed.len() {
         Some(indexed.trace().raw().event(event).op)

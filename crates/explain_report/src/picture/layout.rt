@@ -1,31 +1,31 @@
-//! Where each box stands.
+//! The positions of boxes.
 use crate::Run;
 use rapid_text::OutOfMemory;
 
-/// How wide a box is.
+/// The width of a box.
 pub(crate) const BOX: u64 = 296;
 
-/// How much lower a line of text stands than the one before.
+/// The distance between lines of text.
 pub(crate) const LINE: u64 = 13;
 
-/// How far the text begins from the left edge of a box.
+/// The distance of the text from the left edge of a box.
 pub(crate) const INDENT: u64 = 13;
 
-/// How much of a box stands free over and under its lines.
+/// The free space of a box, above and below its lines together.
 const FREE: u64 = 9;
 
-/// How much stands free between two boxes, for arrows.
+/// The free space between two boxes, for arrows.
 pub(crate) const GAP: u64 = 22;
 
-/// Where the first box begins.
+/// The top of the first box.
 pub(crate) const TOP: u64 = 62;
 
-/// How high a box with so many lines is.
+/// The height of a box with this many lines.
 pub(crate) fn height_of(lines: u64) -> u64 {
     lines.saturating_mul(LINE).saturating_add(FREE)
 }
 
-/// The base of a line of a box that begins at `top`.
+/// The baseline of line `line` of a box whose top is at `top`.
 pub(crate) fn base_of(top: u64, line: u64) -> u64 {
     top.saturating_add(height_of(line)).saturating_add(5)
 }
@@ -35,17 +35,18 @@ pub(crate) fn base_of(top: u64, line: u64) -> u64 {
 pub(crate) struct Placed {
     /// The run.
     pub(crate) run: Run,
-    /// Which it is among all, from 1.
+    /// The run's number among all runs, counted from 1.
     pub(crate) number: u64,
-    /// The event of another thread that waits for its last one.
+    /// The event of another thread that waits for the run's last event.
     pub(crate) waiter: Option<u32>,
-    /// Where its box begins.
+    /// The top of the run's box.
     pub(crate) top: u64,
-    /// How high that is.
+    /// The height of the run's box.
     pub(crate) height: u64,
 }
 
-/// Appends the boxes of the runs that are drawn one by one, each below the one before; the first begins at `top`.
+/// Appends the boxes of the runs that are drawn one by one, each below the one before. The top of the first is at
+/// `top`.
 pub(crate) fn place_runs(
     all: &mut Vec<Placed>,
     runs: &[Run],
@@ -67,7 +68,7 @@ pub(crate) fn place_runs(
     Ok(())
 }
 
-/// The box of a run that begins at `top`.
+/// The box of a run, whose top is at `top`.
 fn placed_at(run: Run, number: u64, waiters: &[Option<u32>], top: u64) -> Placed {
     let last = run.end.saturating_sub(1);
     let waiter = waiters.get(last as usize).copied().flatten();
@@ -87,7 +88,7 @@ fn placed_at(run: Run, number: u64, waiters: &[Option<u32>], top: u64) -> Placed
     }
 }
 
-/// Where the last box ends, with what stands free below it; `top` where there is none.
+/// The end of the last box and the free space below it; `top` if there is no box.
 pub(crate) fn end_of(placed: &[Placed], top: u64) -> u64 {
     match placed.last() {
         Some(last) => last.top.saturating_add(last.height).saturating_add(GAP),

@@ -1,14 +1,14 @@
-//! Words and numbers, and where a long text is cut.
+//! Words and numbers of a line, and the end of a line that is too long.
 ghost use Rattle.std.specs.Prelude.{◌≡◌, ◌≤◌, ◌++◌, length, OnOk, decimal};
 ghost use Rattle.explain_report.specs.picture.Pieces.{piece_text, pieces_text};
 
 use itoa::Buffer;
 use rapid_text::OutOfMemory;
 
-/// The most bytes of a line of text: at 10 pixels a line, and 6 a character, it fits into a box.
+/// The most bytes of a line of text. With 10 pixels a line and 6 a character, it fits into a box.
 const MOST_BYTES: usize = 46;
 
-/// How many bytes are left of a longer one, before the ellipsis.
+/// The number of bytes that are kept of a longer line, before the ellipsis.
 const KEPT_BYTES: usize = 45;
 
 /// A piece of a text.
@@ -20,7 +20,7 @@ pub(crate) enum Piece<'a> {
     Number(u64),
 }
 
-/// Appends the pieces, one behind the other.
+/// Appends the pieces, one after the other.
 pub(crate) fn append_pieces(out: &mut Vec<u8>, pieces: &[Piece<'_>]) -> Result<(), OutOfMemory>
     ensures { OnOk result (out.new.items ≡ out.old.items ++ pieces_text pieces.now) }
 {
@@ -56,12 +56,12 @@ fn append_number(out: &mut Vec<u8>, number: u64) -> Result<(), OutOfMemory>
     Ok(())
 }
 
-/// What stands behind the word for a thing where there are so many.
+/// The ending of a noun for this number of things.
 pub(crate) fn plural_of(number: u64) -> &'static [u8] {
     if number == 1 { b"" } else { b"s" }
 }
 
-/// Appends a text; what is longer than a line is cut, and ends with an ellipsis.
+/// Appends a text. If it is longer than a line, it is cut and ends with an ellipsis.
 pub(crate) fn append_cut(out: &mut Vec<u8>, text: &[u8]) -> Result<(), OutOfMemory> {
     if text.len() <= MOST_BYTES {
         append_words(out, text)
@@ -71,7 +71,7 @@ pub(crate) fn append_cut(out: &mut Vec<u8>, text: &[u8]) -> Result<(), OutOfMemo
     }
 }
 
-/// Where a long text is cut: not within a character, if it is UTF-8.
+/// The index at which a long text is cut: not within a character, if the text is UTF-8.
 fn cut_at(text: &[u8]) -> usize
     ensures { result ≤ length text.now }
 {
@@ -85,7 +85,7 @@ fn cut_at(text: &[u8]) -> usize
     at.min(text.len())
 }
 
-/// Whether the byte at this place goes on with a character.
+/// Whether the byte at this index continues a character.
 fn is_within_character(text: &[u8], at: usize) -> bool {
     match text.get(at) {
         Some(byte) => *byte & 0xC0 == 0x80,

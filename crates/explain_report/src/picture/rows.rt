@@ -21,7 +21,7 @@ pub(crate) fn draw_box(
     canvas.rect(class, left, top, BOX, height)
 }
 
-/// A line of a box: where the box begins, and which of its lines it is, from 0.
+/// A line of a box: the position of the box, and the number of the line, counted from 0.
 #[derive(Clone, Copy)]
 pub(crate) struct BoxLine {
     pub(crate) left: u64,
@@ -45,7 +45,7 @@ fn draw_box_line(
     )
 }
 
-/// Draws a line of a box, of these pieces.
+/// Draws a line of a box with these pieces.
 pub(crate) fn draw_pieces(
     canvas: &mut Canvas,
     class: Class,
@@ -57,7 +57,8 @@ pub(crate) fn draw_pieces(
     draw_box_line(canvas, class, at, &text)
 }
 
-/// Draws the box of a run: how many events it has, its first, its last, and for which event of another thread it was.
+/// Draws the box of a run: its number of events, its first, its last, and the event of another thread that waits for
+/// it.
 pub(crate) fn draw_run(
     canvas: &mut Canvas,
     indexed: &Indexed,
@@ -74,7 +75,7 @@ pub(crate) fn draw_run(
     draw_ends(canvas, indexed, list, placed, left)
 }
 
-/// Draws the line that tells which run it is, how many events it has, and of which thread.
+/// Draws the line with the number of the run, its number of events, and its thread.
 fn draw_count(
     canvas: &mut Canvas,
     indexed: &Indexed,
@@ -99,12 +100,13 @@ fn draw_count(
     )
 }
 
-/// How many events it has.
+/// The number of events of the run.
 fn count_of(run: &Run) -> u32 {
     run.end.saturating_sub(run.start)
 }
 
-/// Draws the lines for the first event of the run, where it is not the last, for the last, and for the event that waits for it.
+/// Draws the lines for the first event of the run, unless it is the last too, for the last, and for the event that
+/// waits.
 fn draw_ends(
     canvas: &mut Canvas,
     indexed: &Indexed,
@@ -132,7 +134,7 @@ fn line_of(placed: &Placed, left: u64, line: u64) -> BoxLine {
     }
 }
 
-/// Draws a line with the event at this place of the list.
+/// Draws a line with the event at this index of the list.
 fn draw_event(
     canvas: &mut Canvas,
     indexed: &Indexed,
@@ -146,7 +148,7 @@ fn draw_event(
     }
 }
 
-/// Draws a line of a box that tells the event.
+/// Draws a line of a box with the event.
 pub(crate) fn draw_label(
     canvas: &mut Canvas,
     class: Class,
@@ -175,7 +177,7 @@ pub(crate) fn draw_label(
     )
 }
 
-/// Draws a line that tells why an event of another thread waits for the run, if one does.
+/// Draws the line with the reason why an event of another thread waits for the run, if one does.
 fn draw_waiter(
     canvas: &mut Canvas,
     indexed: &Indexed,
@@ -203,7 +205,8 @@ fn draw_waiter(
     )
 }
 
-/// Draws one box for the runs that are not drawn one by one: how many they are, of how many threads, and how many events they have.
+/// Draws one box for the runs that are not drawn one by one, with the number of these runs, of their threads and of
+/// their events.
 pub(crate) fn draw_earlier(
     canvas: &mut Canvas,
     indexed: &Indexed,
@@ -238,7 +241,7 @@ pub(crate) fn draw_earlier(
     )
 }
 
-/// How high the box of earlier runs is, with what stands free below it.
+/// The height of the box of earlier runs, with the free space below it.
 pub(crate) fn earlier_height() -> u64 {
     height_of(2).saturating_add(GAP)
 }
@@ -253,7 +256,7 @@ fn draw_counted(canvas: &mut Canvas, line: u64, pieces: &[Piece<'_>]) -> Result<
     draw_pieces(canvas, Class::Note, at, pieces)
 }
 
-/// How many runs are not drawn one by one, of how many threads, and how many events they have.
+/// The number of runs that are not drawn one by one, of their threads, and of their events.
 #[derive(Clone, Copy)]
 struct Earlier {
     runs: u64,
@@ -261,7 +264,7 @@ struct Earlier {
     events: u64,
 }
 
-/// Counts the runs that are not shown. In `seen` no thread is noted yet.
+/// Counts the runs that are not shown. `seen` has no thread yet.
 fn earlier_of(runs: &[Run], shown: &[bool], seen: &mut Vec<bool>) -> Earlier {
     let mut earlier = Earlier {
         runs: 0,
@@ -278,7 +281,7 @@ fn earlier_of(runs: &[Run], shown: &[bool], seen: &mut Vec<bool>) -> Earlier {
     earlier
 }
 
-/// Counts a run more, and its thread where it is the first of it.
+/// Counts one more run; and its thread, if `is_new` is true.
 fn with_run(earlier: Earlier, run: &Run, is_new: bool) -> Earlier {
     Earlier {
         runs: earlier.runs.saturating_add(1),
@@ -287,7 +290,7 @@ fn with_run(earlier: Earlier, run: &Run, is_new: bool) -> Earlier {
     }
 }
 
-/// Whether the thread was not noted before. It is noted.
+/// Whether the thread is new in `seen`, which then has it.
 fn is_first(seen: &mut Vec<bool>, thread: u32) -> bool {
     let Some(is_seen) = seen.get_mut(thread as usize) else {
         return false;

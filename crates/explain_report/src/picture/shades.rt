@@ -1,4 +1,4 @@
-//! The bar at the left edge of a box, shaded where the thread holds a lock.
+//! Draws the bar at the left edge of a box, which is shaded where the thread holds a lock.
 use crate::picture::canvas::Canvas;
 use crate::picture::class::Class;
 use crate::picture::labels::{op_of, thread_of};
@@ -6,10 +6,10 @@ use crate::picture::layout::Placed;
 use event_index::Indexed;
 use rapid_text::{Op, OutOfMemory};
 
-/// How wide the bar is.
+/// The width of the bar.
 const BAR: u64 = 6;
 
-/// Appends for each place of the list whether the thread of its event holds a lock before the event or after it.
+/// Appends for each index of the list whether the thread of its event holds a lock before or after the event.
 pub(crate) fn note_held(
     held: &mut Vec<bool>,
     indexed: &Indexed,
@@ -23,7 +23,7 @@ pub(crate) fn note_held(
     Ok(())
 }
 
-/// Counts what the event does to how many locks its thread holds; whether it holds one before the event or after it.
+/// Updates the number of locks that the event's thread holds. Returns whether it holds one before or after the event.
 fn note_event(depths: &mut Vec<u32>, indexed: &Indexed, event: u32) -> bool {
     let Some(thread) = thread_of(indexed, event) else {
         return false;
@@ -34,7 +34,7 @@ fn note_event(depths: &mut Vec<u32>, indexed: &Indexed, event: u32) -> bool {
     }
 }
 
-/// Counts what the event does to how many locks are held; whether one is held before it or after it.
+/// Updates the number of locks held. Returns whether one is held before or after the operation.
 fn note(depth: &mut u32, op: Option<Op>) -> bool {
     let before = *depth;
     match op {
@@ -69,7 +69,7 @@ pub(crate) fn draw_bar(
     draw_shade(canvas, left, placed, begun, place, count)
 }
 
-/// Draws the shade from the event at one place of the run up to that at another, if it has begun.
+/// Draws the shade between two indices of the run, if a shade has begun.
 fn draw_shade(
     canvas: &mut Canvas,
     left: u64,
@@ -89,7 +89,7 @@ fn draw_shade(
     canvas.rect(Class::Held, left, top, BAR, high)
 }
 
-/// So many of `count` parts of a height.
+/// `parts` of `count` parts of a height.
 fn part_of(height: u64, parts: u64, count: u64) -> u64 {
     height.saturating_mul(parts).checked_div(count).unwrap_or(0)
 }

@@ -1,4 +1,4 @@
-//! The three shapes of which a drawing is made: rectangles, lines of text, arrows. A text is escaped here, and nowhere else.
+//! The three kinds of shapes in a drawing: rectangles, lines of text and arrows. Only this module escapes texts.
 ghost use Rattle.std.specs.Prelude.{◌≡◌, ◌++◌, OnOk};
 ghost use Rattle.explain_report.specs.picture.Shapes.{arrow_text, attribute_text, line_text, point_text, rect_text, shape_begin};
 
@@ -25,7 +25,7 @@ pub(crate) fn append_rect(
     Ok(())
 }
 
-/// Appends a line of text, whatever it is: it is escaped.
+/// Appends a line of text, which is escaped and so may have any bytes.
 pub(crate) fn append_line(
     out: &mut Vec<u8>,
     class: Class,
@@ -42,7 +42,7 @@ pub(crate) fn append_line(
     Ok(())
 }
 
-/// An arrow, which leaves a point downwards as if to `below`, and comes to another from above as if from `above`.
+/// An arrow: a curve that leaves its first point downwards, towards `below`, and reaches its last point from above.
 #[derive(Clone, Copy)]
 pub(crate) struct Arrow {
     pub(crate) from: (u64, u64),
@@ -80,7 +80,7 @@ pub(crate) fn append_arrow(out: &mut Vec<u8>, arrow: Arrow) -> Result<(), OutOfM
     Ok(())
 }
 
-/// Appends with what a shape begins: its element, how it looks, and where it stands.
+/// Appends the beginning of a shape: its element, class and position.
 fn append_begin(
     out: &mut Vec<u8>,
     element: &[u8],
@@ -115,7 +115,7 @@ pub(crate) fn append_point(out: &mut Vec<u8>, x: u64, y: u64) -> Result<(), OutO
     Ok(())
 }
 
-/// Appends `name="number"` behind a blank.
+/// Appends a blank and `name="number"`.
 pub(crate) fn append_attribute(
     out: &mut Vec<u8>,
     name: &[u8],

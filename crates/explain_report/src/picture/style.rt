@@ -1,6 +1,7 @@
-//! How things look. The colours are of the set by Okabe and Ito, which those who see red and green alike tell apart; on a dark page lighter ones stand for them.
+//! The style of pictures. The colours are those of Okabe and Ito, which people who cannot tell red from green can
+//! distinguish. On a dark page, lighter ones replace them.
 
-/// What stands behind the title: how each class looks, and the tip of an arrow.
+/// The text after the title and the description: the look of each class, and the tip of an arrow.
 pub(crate) const STYLE: &[u8] = b"<style>
 text{font:10px monospace;fill:#1b1b1b}
 .paper{fill:#ffffff}

@@ -1,4 +1,4 @@
-//! The accesses that a word names.
+//! The accesses that a word means.
 ghost use Rattle.std.specs.Prelude.{◌≡◌, ◌==◌, ℕ, IfOk, IfSome, None, length, map, true, false};
 ghost use Rattle.event_index.specs.Lookups.{before};
 ghost use Rattle.explain_report.specs.places.Accesses.{AreApart, HasFlag, HaveSeveral, HaveShared, IsAtOnePlace, flags_of, flags_of_place, is_use, least_misfit, misfit_at, misfits_of, place_of};
@@ -11,7 +11,8 @@ use event_index::Indexed;
 use rapid_text::{Op, OutOfMemory};
 use std::alloc::Global;
 
-/// For each event whether it is named. A word names the accesses whose locations it fits best.
+/// For each event, whether the name means it. A word means the accesses whose locations it fits best. Fails if memory
+/// runs out.
 pub fn flags_of(alloc: Global, indexed: &Indexed, name: Name<'_>) -> Result<Vec<bool>, OutOfMemory>
     ensures flags { IfOk result (λ flags. flags.items ≡ flags_of indexed.now name.entry) }
     ensures len { IfOk result (λ flags. length flags.items ≡ length indexed.now.events) }
@@ -45,7 +46,7 @@ fn flags_of_place(alloc: Global, indexed: &Indexed, word: &[u8]) -> Result<Vec<b
     Ok(flags)
 }
 
-/// How well the word fits the location of each event.
+/// The misfit of the word and the location of each event.
 fn misfits_of(alloc: Global, indexed: &Indexed, word: &[u8]) -> Result<Vec<u32>, OutOfMemory>
     ensures { IfOk result (λ misfits. misfits.items ≡ misfits_of indexed.now word.now) }
 {
@@ -55,7 +56,7 @@ fn misfits_of(alloc: Global, indexed: &Indexed, word: &[u8]) -> Result<Vec<u32>,
     Ok(misfits)
 }
 
-/// How well the word fits the location of the event; not at all if the event is no access.
+/// The misfit of the word and the event's location; `NO_FIT` if the event is not an access.
 fn misfit_at(indexed: &Indexed, word: &[u8], event: u32) -> u32
     ensures { result ≡ misfit_at indexed.now word.now event }
 {
@@ -81,7 +82,7 @@ fn is_use(op: Op) -> bool
     }
 }
 
-/// The least of these, and of `NO_FIT`.
+/// The least of these and of `NO_FIT`.
 fn least_misfit(misfits: &[u32]) -> u32
     ensures { result ≡ least_misfit misfits.now }
 {
@@ -116,7 +117,7 @@ fn first_flagged(indexed: &Indexed, flags: &[bool]) -> Option<u32>
     None
 }
 
-/// Whether all events with a flag are at the place of this one.
+/// Whether all events with a flag are at the place of event `first`.
 fn are_where(indexed: &Indexed, flags: &[bool], first: u32) -> bool
     requires len { length flags.now ≡ length indexed.now.events }
     requires first { HasFlag flags.now first }

@@ -5,7 +5,7 @@ ghost use Rattle.explain_report.specs.places.Places.{arrow_at, before_arrow, beh
 /// The most calls of a location that are read. The recorder writes up to eight.
 pub const MAX_CALLS: u32 = 64;
 
-/// What comes before the first arrow ` < `, or all, and what comes after it, if there is one.
+/// The text before the first arrow ` < `, or all; and the text after it, if there is an arrow.
 pub fn cut_at_arrow(text: &[u8]) -> (&[u8], Option<&[u8]>)
     ensures before { result.0.now ≡ before_arrow text.now }
     ensures after { option_map (λ rest. rest.now) result.1 ≡ behind_arrow text.now }
@@ -16,7 +16,7 @@ pub fn cut_at_arrow(text: &[u8]) -> (&[u8], Option<&[u8]>)
     }
 }
 
-/// Where the first arrow is.
+/// The index of the first arrow.
 fn arrow_in(text: &[u8]) -> Option<usize>
     ensures place { result ≡ arrow_at text.now }
     ensures within { IfSome result (λ at. at + 3 ≤ length text.now) }

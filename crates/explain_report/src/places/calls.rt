@@ -10,11 +10,12 @@ use memchr::memrchr;
 pub struct Call<'a> {
     /// The function, or the whole call if it names no line.
     pub function: &'a [u8],
-    /// `FILE:LINE`, from where it calls; nothing if the call names no line.
+    /// `FILE:LINE`, the line of the call; empty if the call names no line.
     pub place: &'a [u8],
 }
 
-/// The parts of a call `FUNCTION FILE:LINE`. The function of an access comes without a line, and a call may have a line alone.
+/// The parts of a call `FUNCTION FILE:LINE`. The function of an access has no line, and a call may consist of a line
+/// alone.
 pub fn call_of(call: &[u8]) -> Call<'_>
     ensures function { result.function.now ≡ call_function call.now }
     ensures place { result.place.now ≡ call_place call.now }
@@ -45,7 +46,7 @@ fn are_digits(text: &[u8]) -> bool
     text.iter().all(|byte| b'0' <= *byte && *byte <= b'9')
 }
 
-/// What comes before the last of these bytes, or nothing, and what comes after it, or all.
+/// The text before the last such byte, and the text after it. If there is no such byte: nothing, and all.
 pub fn cut_at_last(byte: u8, text: &[u8]) -> (&[u8], &[u8])
     ensures before { result.0.now ≡ before_last (λ b. b == byte) text.now }
     ensures after { result.1.now ≡ after_last (λ b. b == byte) text.now }

@@ -4,11 +4,11 @@ ghost use Rattle.explain_report.specs.places.Names.{is_edge, is_part, is_part_at
 
 use crate::places::arrows::cut_at_arrow;
 
-/// The misfit of a word that does not fit at all.
+/// The misfit if a word does not fit at all.
 pub const NO_FIT: u32 = 3;
 
-/// How well the word fits the location, the less the better: 0 if it is the place, or all of the location; 1 if one of
-/// place and word is the end of the other's path; 2 if it is a part that cuts no word of the location; else `NO_FIT`.
+/// How badly the word fits the location: 0 if it is the place, or all of the location; 1 if the place or the word is
+/// the end of the other's path; 2 if it is a part that cuts no word of the location; otherwise `NO_FIT`.
 pub fn misfit(word: &[u8], location: &[u8]) -> u32
     ensures misfit { result ≡ misfit word.now location.now }
     ensures most { result ≤ NO_FIT }
@@ -69,7 +69,7 @@ fn is_part_at(part: &[u8], text: &[u8], at: usize) -> bool
     text[at..].starts_with(part) && is_edge(text, at) && is_edge(text, at + part.len())
 }
 
-/// Whether no word of the text goes on from before this index.
+/// Whether no word of the text continues across this index.
 fn is_edge(text: &[u8], at: usize) -> bool
     ensures { result ≡ is_edge text.now at }
 {
