@@ -10,11 +10,12 @@ use Rattle.race_groups.specs.declared.classes.Classes.{Classes}
 use Rattle.race_groups.specs.declared.rows.Sums.{Sums}
 use Rattle.race_groups.specs.declared.shares.Loose.{Loose}
 
--- so much of a part from the class of this number: where its events clash with those of class j, and the places are p and q
+-- the amount n, if the events of the class with this number clash with those of class j and the places are p and q;
+-- otherwise 0
 abbrev pub added_of : Classes → Class → Part → ℕ → ℕ → ℕ → ℕ → ℕ
 added_of classes j k p q c n = if adds_to (keeps classes.lists.keys k) p q j (slice_get classes.infos.items c) then n else 0
 
--- each part has more by what these classes add
+-- each part grows by what these classes add
 abbrev pub AreGrown : {S : Type 0} → Classes → Class → (Part → ℕ → ℕ) → List ℕ → IndexMap (ℕ × ℕ) Sums S → IndexMap (ℕ × ℕ) Sums S → Type 0
 AreGrown classes j amounts members old new =
     (k : Part) (p q : ℕ) → p ≤ q
@@ -24,6 +25,6 @@ AreGrown classes j amounts members old new =
 abbrev pub HasRoomFor : {S : Type 0} → (Part → ℕ → ℕ) → List ℕ → IndexMap (ℕ × ℕ) Sums S → Type 0
 HasRoomFor amounts members rows = (k : Part) (p q : ℕ) → p ≤ q → count_at k rows p q + sum_by (amounts k) members < 2 ^ 64
 
--- what each class adds to a part, from what is loose
+-- what each class adds to a part, from the loose pairs
 abbrev pub loose_in : Loose → Part → ℕ → ℕ
 loose_in loose = loose_of loose.earlier.now loose.known.now loose.forced.now

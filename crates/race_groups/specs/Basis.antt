@@ -1,4 +1,5 @@
--- What the counts of a trace go by, and what is known of it. No public clause cites this module.
+-- The tables from which the pairs of a trace are counted, and what holds for them. No public clause cites this
+-- module.
 use Rattle.std.specs.Prelude.{◌≡◌, ℕ, ◌+◌, ◌-◌, ◌^◌, ◌<◌, ◌≤◌, All, Bool, List, length, slice_index, slice_index_or, sum_by, Result, Err, IfOk}
 use Rattle.indexmap.specs.IndexMap.{IndexMap, index_map_len}
 use Rattle.rapid_text.specs.Recording.{IsWellFormed}
@@ -24,7 +25,7 @@ use Rattle.race_groups.specs.declared.rows.RowsRefusal.{RowsRefusal}
 use Rattle.race_groups.specs.declared.rows.RowsRefusal.TheVariants.{TooMany}
 use Rattle.race_groups.specs.declared.rows.Sums.{Sums}
 
--- All of it is of one trace.
+-- All tables are of one trace.
 pub record IsBasis (b : Basis) : Type 0 where
   pub clocks : b.clocks.now ≡ b.indexed.now
   pub width : b.forced.now.width ≡ length b.indexed.now.threads
@@ -47,86 +48,87 @@ abbrev pub AreFrontsBefore : Basis → ℕ → ℕ → Fronts → Type 0
 AreFrontsBefore b u i fronts =
     AreFrontsAt b.indexed.now.events (length b.indexed.now.threads) (length b.classes.now.infos.items) b.classes.now.numbers.items u b.forced.now i fronts
 
--- how many pairs a later event has below a cut, of those that are kept and lie between two places: event e of thread u
+-- the number of pairs that event e of thread u has below a cut, among those that are kept and between two places
 abbrev pub later_of : Basis → ℕ → ℕ → (Class → Class → Bool) → (ℕ → ℕ → ℕ) → ℕ → ℕ → ℕ
 later_of b u e keep end p q = later_count b.indexed.now.events keep b.classes.now.numbers.items b.classes.now.infos.items u end p q e
 
--- the same event, where it is not of a flagged class
+-- the same, or 0 if the event is of a flagged class
 abbrev pub unflagged_of : Basis → ℕ → List ℕ → ℕ → (Class → Class → Bool) → (ℕ → ℕ → ℕ) → ℕ → ℕ → ℕ
 unflagged_of b u flags e keep end p q = unflagged_count b.indexed.now.events keep b.classes.now.numbers.items b.classes.now.infos.items u end p q flags e
 
--- all events of thread u that are of class c
+-- the same for all events of thread u that are of class c
 abbrev pub class_of : Basis → ℕ → ℕ → (Class → Class → Bool) → (ℕ → ℕ → ℕ) → ℕ → ℕ → ℕ
 class_of b u c keep end p q = class_sum b.indexed.now.events keep b.classes.now.numbers.items b.classes.now.infos.items u end p q c
 
--- the same, where the class is flagged
+-- the same, or 0 if the class is not flagged
 abbrev pub flagged_of : Basis → ℕ → List ℕ → ℕ → (Class → Class → Bool) → (ℕ → ℕ → ℕ) → ℕ → ℕ → ℕ
 flagged_of b u flags c keep end p q = flagged_class b.indexed.now.events keep b.classes.now.numbers.items b.classes.now.infos.items u end p q flags c
 
--- the same of the first n classes
+-- the same for the first n classes
 abbrev pub all_flagged : Basis → ℕ → List ℕ → ℕ → (Class → Class → Bool) → (ℕ → ℕ → ℕ) → ℕ → ℕ → ℕ
 all_flagged b u flags n keep end p q = flagged_sum b.indexed.now.events keep b.classes.now.numbers.items b.classes.now.infos.items u end p q flags n
 
--- all events of thread u
+-- the same for all events of thread u
 abbrev pub thread_of : Basis → ℕ → (Class → Class → Bool) → (ℕ → ℕ → ℕ) → ℕ → ℕ → ℕ
 thread_of b u keep end p q = thread_sum b.indexed.now.events keep b.classes.now.numbers.items b.classes.now.infos.items end p q u
 
--- Each part has more than it had by what comes below its upper cut and not below its lower one.
+-- Each part grows by what is below its upper cut and not below its lower one.
 abbrev pub AreAdded : {S : Type 0} → Basis → ((Class → Class → Bool) → (ℕ → ℕ → ℕ) → ℕ → ℕ → ℕ) → IndexMap (ℕ × ℕ) Sums S → IndexMap (ℕ × ℕ) Sums S → Type 0
 AreAdded b pairs old new =
     (k : Part) (p q : ℕ) → p ≤ q
     → count_at k new p q + pairs (keeps b.classes.now.lists.keys k) (lower_of b.indexed.now.events b.forced.now k) p q
     ≡ count_at k old p q + pairs (keeps b.classes.now.lists.keys k) (upper_of b.indexed.now.events k) p q
 
--- Each part has no more than it had and what comes below its upper cut.
+-- Each part grows by at most what is below its upper cut.
 abbrev pub AreFew : {S : Type 0} → Basis → ((Class → Class → Bool) → (ℕ → ℕ → ℕ) → ℕ → ℕ → ℕ) → IndexMap (ℕ × ℕ) Sums S → IndexMap (ℕ × ℕ) Sums S → Type 0
 AreFew b pairs old new =
     (k : Part) (p q : ℕ) → p ≤ q
     → count_at k new p q ≤ count_at k old p q + pairs (keeps b.classes.now.lists.keys k) (upper_of b.indexed.now.events k) p q
 
--- all pairs, each twice, as they are told class by class
+-- all pairs, each counted twice, by the formula over the classes
 abbrev pub totals_of : Basis → Part → ℕ → ℕ → ℕ
 totals_of b k p q =
     threads_sum b.indexed.now.events (keeps b.classes.now.lists.keys k) b.classes.now.numbers.items b.classes.now.infos.items (total_ends b.indexed.now.events k) p q
     (length b.indexed.now.threads)
 
--- all events of the first n threads
+-- the same for all events of the first n threads
 abbrev pub threads_of : Basis → ℕ → (Class → Class → Bool) → (ℕ → ℕ → ℕ) → ℕ → ℕ → ℕ
 threads_of b n keep end p q = threads_sum b.indexed.now.events keep b.classes.now.numbers.items b.classes.now.infos.items end p q n
 
--- All pairs are counted twice, and besides what the events of the first n threads have below one cut and not below the next.
+-- All pairs are counted twice, and also the pairs that events of the first n threads have below one cut and not below
+-- the next.
 abbrev pub AreSummed : {S : Type 0} → Basis → ℕ → IndexMap (ℕ × ℕ) Sums S → Type 0
 AreSummed b n rows =
     (k : Part) (p q : ℕ) → p ≤ q
     → count_at k rows p q + threads_of b n (keeps b.classes.now.lists.keys k) (lower_of b.indexed.now.events b.forced.now k) p q
     ≡ totals_of b k p q + threads_of b n (keeps b.classes.now.lists.keys k) (upper_of b.indexed.now.events k) p q
 
--- what class c has, of all pairs
+-- the part of class c in all pairs
 abbrev pub total_of : Basis → Part → ℕ → ℕ → ℕ → ℕ
 total_of b k p q c =
     total_sum b.indexed.now.events (keeps b.classes.now.lists.keys k) b.classes.now.numbers.items b.classes.now.infos.items (length b.indexed.now.threads)
     (total_ends b.indexed.now.events k) p q c
 
--- what the classes have whose turn it is for this worker
+-- the part of the classes whose turn it is for this worker
 abbrev pub totals_in : Basis → ℕ → Part → ℕ → ℕ → ℕ
 totals_in b from k p q = turns_of b.every from (total_of b k p q) (length b.classes.now.infos.items)
 
--- what thread u has, where it is its turn
+-- the part of thread u, if it is its turn
 abbrev pub thread_in : Basis → ℕ → ℕ → (Class → Class → Bool) → (ℕ → ℕ → ℕ) → ℕ → ℕ → ℕ
 thread_in b from u keep end p q = in_turn b.every from (λ t. thread_of b t keep end p q) u
 
--- what those of the first n threads have
+-- the part of the first n threads whose turn it is
 abbrev pub threads_in : Basis → ℕ → ℕ → (Class → Class → Bool) → (ℕ → ℕ → ℕ) → ℕ → ℕ → ℕ
 threads_in b from n keep end p q = turns_of b.every from (λ t. thread_of b t keep end p q) n
 
--- A worker has counted its classes, and of its threads those below n.
+-- A worker has counted its classes, and its threads below n.
 abbrev pub AreInTurn : {S : Type 0} → Basis → ℕ → ℕ → IndexMap (ℕ × ℕ) Sums S → Type 0
 AreInTurn b from n rows =
     (k : Part) (p q : ℕ) → p ≤ q
     → count_at k rows p q + threads_in b from n (keeps b.classes.now.lists.keys k) (lower_of b.indexed.now.events b.forced.now k) p q
     ≡ totals_in b from k p q + threads_in b from n (keeps b.classes.now.lists.keys k) (upper_of b.indexed.now.events k) p q
 
--- The first n workers have counted theirs.
+-- The first n workers have counted their classes and threads.
 abbrev pub AreJoined : {S : Type 0} → Basis → ℕ → IndexMap (ℕ × ℕ) Sums S → Type 0
 AreJoined b n rows =
     (k : Part) (p q : ℕ) → p ≤ q
@@ -135,23 +137,23 @@ AreJoined b n rows =
     ≡ sum_by (λ w. totals_in b w k p q) (before n)
     + sum_by (λ w. threads_in b w (length b.indexed.now.threads) (keeps b.classes.now.lists.keys k) (upper_of b.indexed.now.events k) p q) (before n)
 
--- None counts more than that of all threads.
+-- No count exceeds that of all threads.
 abbrev pub AreFewAll : {S : Type 0} → Basis → IndexMap (ℕ × ℕ) Sums S → Type 0
 AreFewAll b rows =
     (k : Part) (p q : ℕ) → p ≤ q
     → count_at k rows p q ≤ totals_of b k p q + threads_of b (length b.indexed.now.threads) (keeps b.classes.now.lists.keys k) (upper_of b.indexed.now.events k) p q
 
--- so many more may be added to each
+-- n may be added to each count
 abbrev pub HasRoom : {S : Type 0} → ℕ → IndexMap (ℕ × ℕ) Sums S → Type 0
 HasRoom n rows = (k : Part) (p q : ℕ) → p ≤ q → count_at k rows p q + n ≤ 2 ^ 42
 
--- nothing comes before the fronts yet
+-- no event comes before the fronts yet
 pub record AreBlank (b : Basis) (below : Below) : Type 0 where
   pub earlier : IsBlank (length b.indexed.now.threads) (length b.classes.now.infos.items) below.earlier
   pub known : IsBlank (length b.indexed.now.threads) (length b.classes.now.infos.items) below.known
   pub forced : IsBlank (length b.indexed.now.threads) (length b.classes.now.infos.items) below.forced
 
--- The counts are how many events of each class come below the cuts of thread u's events of class j, together.
+-- Each count is the number of events of a class below the cuts of thread u's events of class j, together.
 pub record IsBelow (b : Basis) (u j : ℕ) (end : ℕ → ℕ → ℕ) (front : Front) : Type 0 where
   pub len : length front.counts.items ≡ length b.classes.now.infos.items
   pub counted : (c : ℕ) → c < length b.classes.now.infos.items → slice_index front.counts.items c
@@ -162,8 +164,8 @@ pub record AreBelow (b : Basis) (u j : ℕ) (below : Below) : Type 0 where
   pub known : IsBelow b u j (known_before b.indexed.now.events) below.known
   pub forced : IsBelow b u j (counted_before b.forced.now b.indexed.now.events) below.forced
 
--- Of each class, how many events come below the three cuts, each of them within the one before it; none of a class of which thread u has all
--- events.
+-- The number of events of each class below the three cuts, each within the one before it. It is 0 for a class whose
+-- events are all thread u's.
 pub record AreLoose (b : Basis) (u : ℕ) (earlier known forced : List ℕ) : Type 0 where
   pub earlier_len : length earlier ≡ length b.classes.now.infos.items
   pub known_len : length known ≡ length b.classes.now.infos.items
@@ -173,18 +175,18 @@ pub record AreLoose (b : Basis) (u : ℕ) (earlier known forced : List ℕ) : Ty
   pub own : (c : ℕ) → c < length b.classes.now.infos.items → slice_index b.conflicts.now.owners.items c ≡ u → slice_index earlier c ≡ 0
   pub few : (c : ℕ) → c < length b.classes.now.infos.items → slice_index earlier c ≤ 1099511627776
 
--- what each class adds to a part, from what comes below the three cuts
+-- what each class adds to a part, from the numbers below the three cuts
 abbrev pub loose_of : List ℕ → List ℕ → List ℕ → Part → ℕ → ℕ
 loose_of earlier known forced k c = by_part 0 (slice_index earlier c - slice_index known c) (slice_index known c - slice_index forced c) k
 
--- What one worker counted; refused only where there are more than `limit` rows.
+-- The counts of one worker. It fails only if memory runs out, or if there are more than `limit` rows.
 pub record IsPart {S : Type 0} (b : Basis) (place : ℕ → ℕ) (limit from : ℕ) (part : Result (IndexMap (ℕ × ℕ) Sums S) RowsRefusal) : Type 0 where
   pub counted : IfOk part (AreInTurn b from (length b.indexed.now.threads))
   pub rows : IfOk part (λ m. AreRows m)
   pub kept : IfOk part (λ m. index_map_len m ≤ limit)
   pub too_many : part ≡ Err TooMany → AreTooMany b.indexed.now.events place limit
 
--- what each worker counted
+-- the counts of each worker
 abbrev pub AreParts : {S : Type 0} → Basis → (ℕ → ℕ) → ℕ → List (Result (IndexMap (ℕ × ℕ) Sums S) RowsRefusal) → Type 0
 AreParts {S} b place limit parts =
     (w : ℕ) (d : Result (IndexMap (ℕ × ℕ) Sums S) RowsRefusal) → w < length parts → IsPart b place limit w (slice_index_or parts w d)

@@ -1,4 +1,4 @@
--- Classes and places in the making. No public clause cites this module. `T` is the events of a trace.
+-- Classes and places in progress. No public clause cites this module. `T` is the events of a trace.
 use Rattle.std.specs.Prelude.{true, ◌≡◌, ℕ, ◌+◌, ◌<◌, ◌≤◌, List, filter, length, slice_get, slice_index, option_map, Option, Some, Vec}
 use Rattle.std.specs.declared.alloc.Global.{Global}
 use Rattle.rapid_text.specs.declared.event.Event.{Event}
@@ -9,13 +9,14 @@ use Rattle.race_groups.specs.Classes.{accesses}
 use Rattle.race_groups.specs.Holding.{AreLocksOf}
 use Rattle.race_groups.specs.declared.class.Class.{Class}
 
--- The list keeps what it had, and has one element more, or none.
+-- The list has the same elements as before, and at most one more.
 pub record IsGrown {X : Type 0} (old new : List X) : Type 0 where
   pub kept : (k : ℕ) (x : X) → slice_get old k ≡ Some x → slice_get new k ≡ Some x
   pub le : length old ≤ length new
   pub few : length new ≤ length old + 1
 
--- class c has the operation and the place of event e, and for an access the locks that the event's thread holds before it
+-- class c has the operation and the place of event e; for an access, also the locks that the event's thread holds
+-- before it
 pub record IsClassOf (T : List Event) (place : ℕ → ℕ) (infos : List Class) (lists : List (Vec ℕ Global)) (e c : ℕ) : Type 0 where
   pub info : Class
   pub at : slice_get infos c ≡ Some info
@@ -37,20 +38,20 @@ abbrev pub AreMembersBelow : List Class → ℕ → List (Vec ℕ Global) → Ty
 AreMembersBelow infos n members =
     (x : ℕ) (v : Vec ℕ Global) → slice_get members x ≡ Some v → v.items ≡ filter (λ c. accesses x (slice_get infos c)) (before n)
 
--- the texts of a numbered set
+-- the bytes of entry n of a numbered set
 abbrev pub text_at : List (Vec ℕ Global) → ℕ → Option (List ℕ)
 text_at keys n = option_map (λ v. v.items) (slice_get keys n)
 
--- each element of the second list stands in the first
+-- each element of the second list is in the first
 abbrev pub AreElements : List Class → List Class → Type 0
 AreElements infos made = (k : ℕ) (i : Class) → slice_get made k ≡ Some i → (c : ℕ) × (slice_get infos c ≡ Some i)
 
--- the first n events have the same class by both
+-- the first n events have the same class in both tables
 abbrev pub AreAlike : List ℕ → List Class → List ℕ → List Class → ℕ → Type 0
 AreAlike numbers infos after made n =
     (e : ℕ) → e < n → (i : Class) × (slice_get infos (slice_index numbers e) ≡ Some i) × (slice_get made (slice_index after e) ≡ Some i)
 
--- All events have the same class by both, and no class is new.
+-- All events have the same class in both tables, and no class is new.
 pub record IsRenumbered (numbers : List ℕ) (infos : List Class) (after : List ℕ) (made : List Class) : Type 0 where
   pub len : length after ≡ length numbers
   pub few : length made ≤ length infos

@@ -1,4 +1,5 @@
--- What holds of the classes of a trace, as one table. `T` is the events of a trace, and `place` tells the place of each.
+-- What holds for the classes of a trace, as one table. `T` is the events of a trace; `place` has the place of each
+-- event.
 use Rattle.std.specs.Prelude.{ℕ, ◌≤◌, List, length}
 use Rattle.rapid_text.specs.declared.event.Event.{Event}
 use Rattle.race_groups.specs.Classes.{AreClasses, AreLocks, AreMembers}
@@ -8,7 +9,7 @@ use Rattle.race_groups.specs.declared.classes.Classes.{Classes}
 abbrev pub HaveClasses : List Event → (ℕ → ℕ) → Classes → Type 0
 HaveClasses T place c = AreClasses T place c.numbers.items c.infos.items
 
--- there are no more classes than events may be
+-- there are at most as many classes as a trace may have events
 abbrev pub AreFewClasses : Classes → Type 0
 AreFewClasses c = length c.infos.items ≤ 1048576
 
@@ -16,6 +17,6 @@ AreFewClasses c = length c.infos.items ≤ 1048576
 abbrev pub HaveMembers : Classes → Type 0
 HaveMembers c = AreMembers c.infos.items c.members.items
 
--- the class of an access names the locks that the event's thread holds before it
+-- the class of an access refers to locks that the event's thread holds before it
 abbrev pub HaveLocks : List Event → Classes → Type 0
 HaveLocks T c = AreLocks T c.lists.keys c.numbers.items c.infos.items

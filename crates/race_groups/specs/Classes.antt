@@ -1,4 +1,4 @@
--- Classes of events: events of one class are alike in place and operation. `T` is the events of a trace.
+-- Classes of events: events of one class have the same place and operation. `T` is the events of a trace.
 use Rattle.std.specs.Prelude.{◌≡◌, ◌⊎◌, ℕ, ◌<◌, ◌&&◌, Bool, true, false, List, filter, length, All, slice_get, slice_index, Option, Some, None, Vec}
 use Rattle.std.specs.declared.alloc.Global.{Global}
 use Rattle.rapid_text.specs.declared.event.Event.{Event}
@@ -17,7 +17,7 @@ pub record AreClasses (T : List Event) (place : ℕ → ℕ) (classes : List ℕ
   pub op : (e : ℕ) (v : Event) (i : Class) → slice_get T e ≡ Some v → slice_get infos (slice_index classes e) ≡ Some i → i.op ≡ v.op
   pub located : (e : ℕ) (i : Class) → e < length T → slice_get infos (slice_index classes e) ≡ Some i → i.place ≡ place e
 
--- there is such a class, and it accesses the variable
+-- the class exists and accesses the variable
 abbrev pub accesses : ℕ → Option Class → Bool
 accesses x None = false
 accesses x (Some i) = is_access x i.op
@@ -26,7 +26,7 @@ accesses x (Some i) = is_access x i.op
 abbrev pub members_of : List Class → ℕ → List ℕ
 members_of infos x = filter (λ c. accesses x (slice_get infos c)) (before (length infos))
 
--- there is such a class, and it writes
+-- the operation writes; the class exists and writes
 abbrev pub is_writing_op : Op → Bool
 is_writing_op (Write x) = true
 is_writing_op op = false
@@ -39,12 +39,12 @@ is_writing (Some i) = is_writing_op i.op
 abbrev pub writers_of : List Class → ℕ → List ℕ
 writers_of infos x = filter (λ c. is_writing (slice_get infos c)) (members_of infos x)
 
--- These are the classes of the variable, or those of them that write it where the operation only reads.
+-- These are the classes of the variable; or, if the operation only reads, those of them that write it.
 abbrev pub AreConflicting : List Class → ℕ → Op → List ℕ → Type 0
 AreConflicting infos x op cs = (cs ≡ members_of infos x) ⊎ ((is_writing_op op ≡ false) × (cs ≡ writers_of infos x))
 
--- there is such a class, an event of it clashes with one of class j that is later and of another thread, their places
--- are p and q, and the pair is one of those that are kept
+-- the class exists, an event of it clashes with a later event of class j in another thread, their places are p and q,
+-- and the pair is kept
 abbrev pub adds_to : (Class → Class → Bool) → ℕ → ℕ → Class → Option Class → Bool
 adds_to keeps p q j None = false
 adds_to keeps p q j (Some i) = is_clash_of_ops i.op j.op && keeps i j && is_between p q i.place j.place
@@ -59,7 +59,7 @@ pub record AreWriters (infos : List Class) (members writers : List (Vec ℕ Glob
   pub len : length writers ≡ length members
   pub lists : (x : ℕ) (v : Vec ℕ Global) → slice_get writers x ≡ Some v → v.items ≡ writers_of infos x
 
--- The class of an access names the locks that the event's thread holds before it.
+-- The class of an access refers to locks that the event's thread holds before it.
 abbrev pub AreLocks : List Event → List (Vec ℕ Global) → List ℕ → List Class → Type 0
 AreLocks T lists classes infos =
     (e x : ℕ) (i : Class) → e < length T → slice_get infos (slice_index classes e) ≡ Some i → is_access x i.op ≡ true → AreLocksOf T lists e i.held
@@ -69,6 +69,6 @@ abbrev pub keeps_by : (Class → Class → Bool) → Option Class → Option Cla
 keeps_by keeps (Some i) (Some j) = keeps i j
 keeps_by keeps i j = false
 
--- whether the pair of events is kept, by the classes of the two
+-- whether the pair of events is kept, by the classes of both
 abbrev pub is_kept_pair : (Class → Class → Bool) → List ℕ → List Class → ℕ → ℕ → Bool
 is_kept_pair keeps classes infos a b = keeps_by keeps (slice_get infos (slice_index classes a)) (slice_get infos (slice_index classes b))

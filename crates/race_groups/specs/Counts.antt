@@ -1,5 +1,5 @@
--- The counts of a trace's conflicting pairs below its cuts. `T` is the events of a trace, `place` tells the place of each, `classes`
--- and `infos` its class, and `lists` the locks of each class.
+-- The counts of a trace's conflicting pairs below its cuts. `T` is the events of a trace; `place` has the place of
+-- each event, `classes` and `infos` its class, and `lists` the locks of each class.
 use Rattle.std.specs.Prelude.{◌≡◌, ℕ, ◌+◌, ◌*◌, ◌≤◌, ◌&&◌, Bool, true, List, Vec, length}
 use Rattle.std.specs.declared.alloc.Global.{Global}
 use Rattle.rapid_text.specs.declared.event.Event.{Event}
@@ -15,30 +15,30 @@ use Rattle.race_groups.specs.Shared.{is_sharing}
 use Rattle.race_groups.specs.declared.class.Class.{Class}
 use Rattle.race_groups.specs.declared.rows.Sums.{Sums}
 
--- whether a part counts pairs whose classes have a lock in common, or have not
+-- whether a part counts a pair whose classes have a common lock, or have none
 abbrev pub is_counted : Part → Bool → Bool
 is_counted of_all shared = true
 is_counted of_candidates shared = true
 is_counted of_ordered shared = true
 is_counted of_guarded shared = shared
 
--- whether it counts pairs of these classes
+-- whether the part counts pairs of these classes
 abbrev pub keeps : List (Vec ℕ Global) → Part → Class → Class → Bool
 keeps lists k i j = is_counted k (is_sharing lists i.held j.held)
 
--- the pair comes before the ends, and is of classes that the part counts
+-- the pair is below the ends, and the part counts pairs of its classes
 abbrev pub is_below : List Event → List ℕ → List Class → List (Vec ℕ Global) → Part → (ℕ → ℕ → ℕ) → ℕ × ℕ → Bool
 is_below T classes infos lists k end e = is_cut_off T end e.0 e.1 && is_kept_pair (keeps lists k) classes infos e.0 e.1
 
--- n is how many more of the pairs that the part counts come before the upper ends than before the lower
+-- n is the number of pairs of the part below the upper ends minus the number below the lower ends
 abbrev pub IsMore : List Event → (ℕ → ℕ) → List ℕ → List Class → List (Vec ℕ Global) → Part → (ℕ → ℕ → ℕ) → (ℕ → ℕ → ℕ) → ℕ → ℕ → ℕ → Type 0
 IsMore T place classes infos lists k lower upper p q n =
     n + count_of T place (is_below T classes infos lists k lower) p q ≡ count_of T place (is_below T classes infos lists k upper) p q
 
--- All conflicting pairs are counted twice, and of the other parts those below one cut that are not below the next.
+-- All conflicting pairs are counted twice. The other parts count the pairs below one cut that are not below the next.
 pub record AreCounted {S : Type 0} (T : List Event) (place : ℕ → ℕ) (classes : List ℕ) (infos : List Class) (lists : List (Vec ℕ Global)) (rows : IndexMap (ℕ × ℕ) Sums S) : Type 0 where
   pub are : AreRows rows
-  -- where the cut of what is forced ends
+  -- the ends of the cut of forced pairs
   pub ends : ℕ → ℕ → ℕ
   pub all : (p q : ℕ) → p ≤ q → count_at of_all rows p q ≡ 2 * length (group_of T place p q)
   pub candidates : (p q : ℕ) → p ≤ q

@@ -1,5 +1,5 @@
--- Which rows there are: one for each pair of places with a conflicting pair of events. `T` is the events of a trace, `place` tells the
--- place of each.
+-- Which rows there are: one for each pair of places with a conflicting pair of events. `T` is the events of a trace;
+-- `place` has the place of each event.
 use Rattle.std.specs.Prelude.{◌≡◌, ℕ, ◌<◌, ◌≤◌, nat_lt, not, ◌&&◌, Bool, true, false, List, [], ◌∷◌, length, All, slice_get, Some}
 use Rattle.rapid_text.specs.declared.event.Event.{Event}
 use Rattle.event_index.specs.Relations.{IsConflicting}
@@ -15,14 +15,14 @@ pub record HaveConflict (T : List Event) (place : ℕ → ℕ) (places : ℕ × 
   pub conflict : IsConflicting T first second
   pub between : is_between places.0 places.1 (place first) (place second) ≡ true
 
--- a row of the places of these two events
+-- a row with the places of these two events
 pub record IsFound (place : ℕ → ℕ) (rows : List Row) (a b : ℕ) : Type 0 where
   pub at : ℕ
   pub row : Row
   pub is : slice_get rows at ≡ Some row
   pub between : is_between row.places.0 row.places.1 (place a) (place b) ≡ true
 
--- each two events that conflict have a row
+-- each two conflicting events have a row
 abbrev pub AreComplete : List Event → (ℕ → ℕ) → List Row → Type 0
 AreComplete T place rows = (a b : ℕ) → a < b → IsConflicting T a b → IsFound place rows a b
 
@@ -30,7 +30,8 @@ AreComplete T place rows = (a b : ℕ) → a < b → IsConflicting T a b → IsF
 abbrev pub AreOnce : List Row → Type 0
 AreOnce rows = (i k : ℕ) (v w : Row) → slice_get rows i ≡ Some v → slice_get rows k ≡ Some w → v.places ≡ w.places → i ≡ k
 
--- More than so many pairs of places have a conflicting pair of events: a list of them, the lesser place first, none of them twice.
+-- More than `limit` pairs of places have a conflicting pair of events: a list of them, the lesser place first, none
+-- twice.
 pub record AreTooMany (T : List Event) (place : ℕ → ℕ) (limit : ℕ) : Type 0 where
   pub places : List (ℕ × ℕ)
   pub more : limit < length places

@@ -1,5 +1,5 @@
--- The kinds of pairs, how many there are of each in a list, and rows that tell it of a pair of places. `r` is a recording, `place`
--- tells the place of each event.
+-- The kinds of pairs, the number of each kind in a list, and rows with these numbers for a pair of places. `r` is a
+-- recording; `place` has the place of each event.
 use Rattle.std.specs.Prelude.{◌≡◌, ℕ, ◌-◌, ◌/◌, ◌≤◌, Bool, true, false, List, count_by}
 use Rattle.rapid_text.specs.Recording.{Recording}
 use Rattle.rapid_text.specs.declared.event.Event.{Event}
@@ -20,11 +20,11 @@ is_kind Guarded Guarded = true
 is_kind Forced Forced = true
 is_kind k l = false
 
--- how many of the pairs are of the kind, from the three tests of a pair
+-- the number of pairs of the kind, from the three tests of a pair
 abbrev pub kind_count : {X : Type 0} → (X → Bool) → (X → Bool) → (X → Bool) → Kind → List X → ℕ
 kind_count known forced guarded k xs = count_by (λ e. is_kind k (kind_by (known e) (forced e) (guarded e))) xs
 
--- Each count is that of the conflicting pairs of the two places that are of the kind; the lesser place is the first.
+-- Each count is the number of conflicting pairs of the two places, by kind; the lesser place is the first.
 pub record IsRowAt (r : Recording) (place : ℕ → ℕ) (places : ℕ × ℕ) (counts : Counts) : Type 0 where
   pub rising : places.0 ≤ places.1
   pub candidates : IsCountOf (λ e. IsKind r e.0 e.1 Candidate) (group_of r.events place places.0 places.1) counts.candidates
@@ -35,12 +35,12 @@ pub record IsRowAt (r : Recording) (place : ℕ → ℕ) (places : ℕ × ℕ) (
 abbrev pub IsRow : Recording → (ℕ → ℕ) → Row → Type 0
 IsRow r place row = IsRowAt r place row.places row.counts
 
--- no correct reordering shows two events of these places
+-- no correct reordering shows a pair of events of these places
 abbrev pub IsNeverShownBetween : List Event → (ℕ → ℕ) → ℕ → ℕ → Type 0
 IsNeverShownBetween T place p q =
     (a b : ℕ) (P : List ℕ) → is_between p q (place a) (place b) ≡ true → IsCorrectReordering T P → ¬ Shows T P a b
 
--- The counts are what was counted and differences of it: what is forced is the rest.
+-- The counts follow from the sums: some are sums, others are differences of sums, and the forced pairs are the rest.
 pub record IsDifference (sums : Sums) (counts : Counts) : Type 0 where
   pub candidates : counts.candidates ≡ sums.candidates
   pub guarded : counts.guarded ≡ sums.guarded

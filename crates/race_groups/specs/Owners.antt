@@ -1,5 +1,5 @@
--- Which classes are passed by for a later thread: those that have events of this thread alone. No public clause cites this module.
--- `T` is the events of a trace.
+-- Which classes a later thread skips: those whose events are all its own. No public clause cites this module. `T` is
+-- the events of a trace.
 use Rattle.std.specs.Prelude.{◌≡◌, ℕ, ◌<◌, ◌≤◌, List, length, slice_get, slice_index, Some, Vec}
 use Rattle.std.specs.declared.alloc.Global.{Global}
 use Rattle.rapid_text.specs.declared.event.Event.{Event}
@@ -8,33 +8,33 @@ use Rattle.race_groups.specs.Classes.{AreWriters}
 use Rattle.race_groups.specs.declared.class.Class.{Class}
 use Rattle.race_groups.specs.declared.writers.Conflicts.{Conflicts}
 
--- Where the owner of a class is a thread, all events of the class are of this thread.
+-- If the owner of a class is a thread, all events of the class are of this thread.
 abbrev pub AreOwners : List Event → ℕ → List ℕ → List ℕ → Type 0
 AreOwners T threads classes owners =
     (e t : ℕ) → thread_at T e ≡ Some t → slice_index owners (slice_index classes e) < threads → slice_index owners (slice_index classes e) ≡ t
 
--- the same of the first n events
+-- the same for the first n events
 abbrev pub AreOwnersBelow : List Event → ℕ → List ℕ → ℕ → List ℕ → Type 0
 AreOwnersBelow T threads classes n owners =
     (e t : ℕ) → e < n → thread_at T e ≡ Some t → slice_index owners (slice_index classes e) < threads → slice_index owners (slice_index classes e) ≡ t
 
--- From place i up to n the classes have one owner.
+-- From index i up to n the classes have one owner.
 pub record IsRun (owners cs : List ℕ) (i n : ℕ) : Type 0 where
   pub more : i < n
   pub within : n ≤ length cs
   pub one : (k : ℕ) → i ≤ k → k < n → slice_index owners (slice_index cs k) ≡ slice_index owners (slice_index cs i)
 
--- For each place, how far the classes have one owner from there.
+-- For each index, the end of the run of classes with one owner.
 pub record AreRuns (owners cs runs : List ℕ) : Type 0 where
   pub len : length runs ≡ length cs
   pub each : (i : ℕ) → i < length cs → IsRun owners cs i (slice_index runs i)
 
--- the same of the list of each variable
+-- the same for the list of each variable
 pub record AreRunsOf (owners : List ℕ) (lists runs : List (Vec ℕ Global)) : Type 0 where
   pub len : length runs ≡ length lists
   pub each : (x : ℕ) (v r : Vec ℕ Global) → slice_get lists x ≡ Some v → slice_get runs x ≡ Some r → AreRuns owners v.items r.items
 
--- They are of this trace's classes.
+-- The tables are those of this trace's classes.
 pub record AreConflicts (T : List Event) (threads : ℕ) (classes : List ℕ) (infos : List Class) (members : List (Vec ℕ Global)) (c : Conflicts) : Type 0 where
   pub writers : AreWriters infos members c.writers.items
   pub owners : AreOwners T threads classes c.owners.items

@@ -15,45 +15,45 @@ items_of (Some v) = v.items
 abbrev pub entries_at : List (Vec (ℕ × ℕ) Global) → ℕ → List (ℕ × ℕ)
 entries_at spread c = items_of (slice_get spread c)
 
--- their numbers, each weighed by its thread
+-- the sum of their numbers, each times the weight of its thread
 abbrev pub weighed_sum : (ℕ → ℕ) → List (ℕ × ℕ) → ℕ
 weighed_sum w entries = sum_by (λ e. e.1 * w e.0) entries
 
--- each class has more entries, by these events of thread t
+-- the entries of each class grow by these events of thread t
 abbrev pub AreNoted : List ℕ → List ℕ → ℕ → List (Vec (ℕ × ℕ) Global) → List (Vec (ℕ × ℕ) Global) → Type 0
 AreNoted classes events t old new =
     (c : ℕ) (w : ℕ → ℕ) → weighed_sum w (entries_at new c) ≡ weighed_sum w (entries_at old c) + class_count classes c events * w t
 
--- how many events all threads have of class c
+-- the number of events of class c in all threads
 abbrev pub total_count : List Event → ℕ → List ℕ → ℕ → ℕ
 total_count T threads classes c = sum_by (λ t. class_count classes c (events_of T t)) (before threads)
 
--- There are so many of each class.
+-- Each total is the number of events of its class.
 pub record AreTotals (T : List Event) (threads : ℕ) (classes : List ℕ) (n : ℕ) (totals : List ℕ) : Type 0 where
   pub len : length totals ≡ n
   pub counted : (c : ℕ) → c < n → slice_index totals c ≡ total_count T threads classes c
 
--- The entries of each class tell how many events of it each thread has.
+-- The entries of each class have the number of its events in each thread.
 pub record AreSpread (T : List Event) (threads : ℕ) (classes : List ℕ) (n : ℕ) (spread : List (Vec (ℕ × ℕ) Global)) : Type 0 where
   pub len : length spread ≡ n
   pub within : (c : ℕ) → All (λ e. e.0 < threads) (entries_at spread c)
   pub weighed : (c : ℕ) (w : ℕ → ℕ) → c < n
       → weighed_sum w (entries_at spread c) ≡ sum_by (λ t. class_count classes c (events_of T t) * w t) (before threads)
 
--- So many events of class j each thread has.
+-- Each weight is the number of events of class j in its thread.
 pub record AreWeights (T : List Event) (threads : ℕ) (classes : List ℕ) (j : ℕ) (weights : List ℕ) : Type 0 where
   pub len : length weights ≡ threads
   pub each : (t : ℕ) → t < threads → slice_index weights t ≡ class_count classes j (events_of T t)
 
--- how many pairs events of class j have with events of class c of other threads before the ends
+-- the number of pairs that events of class j have with events of class c of other threads before the ends
 abbrev pub two_sum : List Event → ℕ → List ℕ → (ℕ → ℕ → ℕ) → ℕ → ℕ → ℕ
 two_sum T threads classes end j c = sum_by (λ u. below_sum T threads classes u end j c (events_of T u)) (before threads)
 
--- Two classes are looked at once, at the greater of the two, for both of them.
+-- Two classes are visited once, at the greater one, for both.
 abbrev pub at_greater : ℕ → ℕ → ℕ → ℕ
 at_greater j c n = cond (nat_lt c j) (2 * n) (cond (c == j) n 0)
 
--- whether the pairs of two classes are of the places p and q, and are kept
+-- whether the pairs of two classes have the places p and q, and are kept
 abbrev pub adds_both : (Class → Class → Bool) → ℕ → ℕ → Option Class → Option Class → Bool
 adds_both keeps p q None other = false
 adds_both keeps p q (Some j) other = adds_to keeps p q j other

@@ -1,4 +1,5 @@
--- Rows and the candidates that wait for them, by the places of the later and of the earlier event. No public clause cites this module.
+-- Rows and the candidates that wait for them, by the places of the later and of the earlier event. No public clause
+-- cites this module.
 use Rattle.std.specs.Prelude.{◌≡◌, ℕ, ◌+◌, ◌-◌, ◌<◌, ◌≤◌, ◌^◌, List, [], map, slice_get, slice_index, Option, Some, None, Vec}
 use Rattle.std.specs.declared.alloc.Global.{Global}
 use Rattle.indexmap.specs.IndexMap.{IndexMap, with_entries}
@@ -9,22 +10,22 @@ abbrev pub numbers_of : Option (Vec ℕ Global) → List ℕ
 numbers_of None = []
 numbers_of (Some v) = v.items
 
--- 0 where no row of the places of a later and an earlier event is known; else one more than how many candidates wait for it
+-- 0 if the row for the places of a later and an earlier event is not known; otherwise its waiting candidates plus one
 abbrev pub cell_at : List (Vec ℕ Global) → ℕ → ℕ → ℕ
 cell_at cells q p = slice_index (numbers_of (slice_get cells q)) p
 
--- how many candidates of two places wait
+-- the number of candidates of two places that wait
 abbrev pub waiting_at : List (Vec ℕ Global) → ℕ → ℕ → ℕ
 waiting_at cells p q = (cell_at cells q p - 1) + (cell_at cells p q - 1)
 
--- what a part has of so many candidates
+-- what n candidates add to a part
 abbrev pub waiting_of : Part → ℕ → ℕ
 waiting_of of_all n = 0
 waiting_of of_candidates n = n
 waiting_of of_ordered n = 0
 waiting_of of_guarded n = 0
 
--- with so many candidates more
+-- the sums with n further candidates
 abbrev pub with_more : Sums → ℕ → Sums
 with_more s n = record { all = s.all; candidates = s.candidates + n; ordered = s.ordered; guarded = s.guarded }
 
@@ -36,7 +37,7 @@ entry_with cells e = (e.0, with_more e.1 (waiting_at cells e.0.0 e.0.1))
 abbrev pub rows_with : {S : Type 0} → List (Vec ℕ Global) → IndexMap (ℕ × ℕ) Sums S → IndexMap (ℕ × ℕ) Sums S
 rows_with cells m = with_entries m (map (entry_with cells) m.entries)
 
--- Only candidates of two places that have a row wait, none of one place twice, and each row can take what waits for it.
+-- Only candidates of two places with a row wait, and none of one place twice. Each row can take what waits for it.
 pub record AreWaiting {S : Type 0} (cells : List (Vec ℕ Global)) (m : IndexMap (ℕ × ℕ) Sums S) : Type 0 where
   pub rows : AreRows m
   pub there : (p q : ℕ) → p ≤ q → ((k : Part) → count_at k m p q ≡ 0) → (cell_at cells p q ≡ 0) × (cell_at cells q p ≡ 0)

@@ -6,11 +6,12 @@ use crate::kinds::Row;
 use event_index::Indexed;
 use must_order::apart_is_never_shown;
 
-/// Whether all conflicting pairs of the row's two places are forced or guarded. `places` has for each event the number of its place.
+/// Whether all conflicting pairs of the row's two places are forced or guarded. `places` has the number of each
+/// event's place.
 pub fn is_apart(indexed: &Indexed, places: &[u32], row: Row) -> bool
     requires { IsRow indexed.now (slice_index places.now) row }
     ensures counts { IsTrue result ↔ ((row.counts.candidates ≡ 0) × (row.counts.open_pairs ≡ 0)) }
-    // Then no correct reordering shows any two events of these places.
+    // Then no correct reordering shows a pair of events of these places.
     ensures never { result ≡ true → IsNeverShownBetween indexed.now.events (slice_index places.now) row.places.0 row.places.1 }
 {
     apart_is_never_shown();

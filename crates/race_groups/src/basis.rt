@@ -1,4 +1,4 @@
-//! What the counts of a trace go by.
+//! The tables from which the pairs of a trace are counted.
 ghost use Rattle.std.specs.Prelude.{◌≡◌, ◌<◌, ◌≤◌, length, slice_index};
 ghost use Rattle.race_groups.specs.Basis.{IsBasis};
 ghost use Rattle.race_groups.specs.Classes.{AreClasses, AreMembers};
@@ -10,23 +10,24 @@ use event_index::Indexed;
 use must_order::Must;
 use shb_clocks::{Clocks, SharedRows, known_tells_shb};
 
-/// A trace, what is known of its orders, and its classes.
+/// A trace, its orders and its classes.
 #[derive(Clone, Copy)]
 pub(crate) struct Basis<'a> {
     pub(crate) indexed: &'a Indexed,
     pub(crate) clocks: &'a Clocks,
-    /// What is must-before.
+    /// The counts of must-before.
     pub(crate) forced: &'a SharedRows,
     pub(crate) classes: &'a Classes,
     pub(crate) conflicts: &'a Conflicts,
-    /// How many workers share the counting.
+    /// The number of workers that share the counting.
     pub(crate) every: usize,
-    /// Which of them counts: the threads and classes whose numbers leave this rest.
+    /// The number of this worker. It counts the threads and classes whose numbers leave this remainder, divided by
+    /// `every`.
     pub(crate) from: usize,
 }
 
 impl<'a> Basis<'a> {
-    /// What the first of so many workers goes by. `_places` has for each event the number of its place.
+    /// The tables of the first of `every` workers. `_places` has the number of each event's place.
     pub(crate) fn of(
         indexed: &'a Indexed,
         _places: &[u32],

@@ -1,4 +1,4 @@
-//! For all events of one class of a thread together: how many events of each class come below their cuts.
+//! For all events of one class of a thread together: the number of events of each class below their cuts.
 ghost use Rattle.std.specs.Prelude.{◌≡◌, ◌<◌, IfOk, length};
 ghost use Rattle.race_groups.specs.Basis.{AreBelow, AreBlank, IsBasis};
 
@@ -19,7 +19,7 @@ pub(crate) struct Below {
 }
 
 impl Below {
-    /// Nothing comes before the cuts yet.
+    /// The sums before any event is counted.
     pub(crate) fn new(alloc: Global, basis: Basis<'_>) -> Result<Below, OutOfMemory>
         ensures { IfOk result (AreBlank basis.entry) }
     {
@@ -32,7 +32,8 @@ impl Below {
         })
     }
 
-    /// For all events of the thread that are of the class: how many events of each class come below their cuts, together.
+    /// Counts, for all events of the thread that are of the class together, the events of each class below their
+    /// cuts.
     pub(crate) fn sum_up(&mut self, basis: Basis<'_>, thread: u32, class: u32)
         requires basis { IsBasis basis }
         requires thread { thread < length basis.indexed.now.threads }
@@ -56,7 +57,7 @@ impl Below {
         sum_below(&mut self.forced, classed, &forced, thread, class);
     }
 
-    /// What is loose of them.
+    /// The counts from which the loose pairs follow.
     pub(crate) fn loose(&self) -> Loose<'_>
         ensures earlier { result.earlier.now ≡ self.now.earlier.counts.items }
         ensures known { result.known.now ≡ self.now.known.counts.items }

@@ -16,31 +16,32 @@ use indexmap::IndexSet;
 use rapid_text::{Op, OutOfMemory};
 use std::alloc::Global;
 
-/// What a class is looked up by: its place and its locks, what is done, and to what.
+/// The key of a class: its place and its locks, the kind of operation, and its operand.
 type Key = ((u32, u32), (u32, u32));
 
-/// The classes of a trace, and for each event its own.
+/// The classes of a trace, and the class of each event.
 #[derive(Drop)]
 pub struct Classes {
     /// The number of each event's class.
     pub numbers: Vec<u32>,
     /// The classes.
     pub infos: Vec<Class>,
-    /// For each variable the classes that access it.
+    /// For each variable, the classes that access it.
     pub members: Vec<Vec<u32>>,
-    /// The lists of locks that the classes name.
+    /// The lists of locks to which the classes refer.
     pub lists: IndexSet<Vec<u32>>,
 }
 
 impl Classes {
-    /// The classes of all events. `places` has for each event the number of its place.
+    /// The classes of all events. `places` has the number of each event's place. Fails if memory runs out.
     pub fn of(alloc: Global, indexed: &Indexed, places: &[u32]) -> Result<Classes, OutOfMemory>
         requires places { length places.now ≡ length indexed.now.events }
         ensures classes { IfOk result
             (λ made. AreClasses indexed.now.events (slice_index places.now) made.numbers.items made.infos.items) }
         ensures few { IfOk result (λ made. length made.infos.items ≤ 1048576) }
         ensures members { IfOk result (λ made. AreMembers made.infos.items made.members.items) }
-        // The locks of a class are held by the threads of its accesses before them. None is left out that more than one thread takes.
+        // The locks of a class are held by the threads of its accesses before them. The list has each such lock that
+        // more than one thread acquires.
         ensures locks { IfOk result (λ made. AreLocks indexed.now.events made.lists.keys made.numbers.items made.infos.items) }
     {
         let _len = indexed.len();
@@ -72,7 +73,7 @@ impl Classes {
 }
 
 impl Regrouped {
-    // The classes, with the members of each variable.
+    // The classes, with the classes that access each variable.
     fn with_members(
         self,
         alloc: Global,
@@ -100,7 +101,7 @@ impl Regrouped {
     }
 }
 
-/// The classes of the events that were gone through.
+/// The classes of the events so far.
 #[derive(Drop)]
 struct Numbering {
     keys: IndexSet<Key>,
@@ -110,7 +111,7 @@ struct Numbering {
     listing: Listing,
 }
 
-// The classes of all events.
+// Computes the classes of all events.
 fn numbering_of(
     alloc: Global,
     indexed: &Indexed,
@@ -143,7 +144,7 @@ fn numbering_of(
 }
 
 impl Numbering {
-    // Takes in the next event.
+    // Adds the next event.
     fn add(&mut self, holds: Holds<'_>, places: &[u32], event: u32) -> Result<(), OutOfMemory>
         requires event { event < length holds.indexed.now.events }
         requires places { length places.now ≡ length holds.indexed.now.events }
@@ -173,7 +174,7 @@ impl Numbering {
     }
 }
 
-// The number of the class, which is noted as the last one if it is new.
+// The number of the class. If it is new, the function appends it.
 fn class_number(
     keys: &mut IndexSet<Key>,
     infos: &mut Vec<Class>,
@@ -195,7 +196,7 @@ fn class_number(
     Ok(at)
 }
 
-/// Whether the class stands at this place.
+/// Whether the class is at this index.
 pub(crate) fn is_at(infos: &[Class], at: usize, class: Class) -> bool
     ensures within { result ≡ true → at < length infos.now }
     ensures found { result ≡ true → slice_get infos.now at ≡ Some class }
@@ -232,7 +233,7 @@ fn is_same_op(first: Op, second: Op) -> bool
     }
 }
 
-// For each variable the classes that access it.
+// For each variable, the classes that access it.
 fn members_of(
     alloc: Global,
     indexed: &Indexed,
@@ -252,7 +253,7 @@ fn members_of(
     Ok(members)
 }
 
-// Adds the class to those of its variable, where it has one.
+// Adds the class to those of its variable, if it has one.
 fn add_member(members: &mut Vec<Vec<u32>>, infos: &[Class], class: usize) -> Result<(), OutOfMemory>
     requires class { class < length infos.now }
     requires few { length infos.now ≤ 1048576 }
@@ -272,7 +273,7 @@ fn key_of(class: Class) -> Key {
     ((class.place, class.held), word_of(class.op))
 }
 
-// What an operation does, and to what.
+// The kind of the operation, and its operand.
 fn word_of(op: Op) -> (u32, u32) {
     match op {
         Op::Read(variable) => (0, variable),
@@ -284,7 +285,7 @@ fn word_of(op: Op) -> (u32, u32) {
     }
 }
 
-/// The variable that the operation accesses, where it does.
+/// The variable that the operation accesses, or None.
 pub(crate) fn variable_of(op: Op) -> Option<u32>
     ensures some { IfSome result (λ x. is_access x op ≡ true) }
     ensures one { IfSome result (λ x. (y : ℕ) → is_access y op ≡ true → y ≡ x) }

@@ -1,6 +1,6 @@
-//! The counts of a trace's conflicting pairs between three cuts: what is earlier in the trace, what SHB keeps before, what is forced.
-//! For each later thread the events of the others are counted by class as they come below the cuts. Several workers may share the threads and
-//! the classes.
+//! Counts a trace's conflicting pairs between three cuts: what is earlier in the trace, what SHB keeps before, and
+//! what is forced. For each later thread, the events of the others are counted by class when they come below the
+//! cuts. Several workers may share the threads and the classes.
 ghost use Rattle.std.specs.Prelude.{◌≡◌, ℕ, ◌+◌, ◌<◌, ◌≤◌, length, All, IfOk, OnOk, Err, Some, slice_get, slice_index, sum_by};
 ghost use Rattle.indexmap.specs.IndexMap.{index_map_len};
 ghost use Rattle.event_index.specs.Lookups.{events_of};
@@ -34,7 +34,7 @@ fn class_of(classes: &Classes, event: u32) -> Class
     classes.infos[classes.numbers[event as usize] as usize]
 }
 
-// Adds the pairs whose later event is that at this place of the thread.
+// Adds the pairs whose later event is the one at this index of the thread.
 fn add_later(
     rows: &mut GrowingRows,
     fronts: &mut Fronts,
@@ -63,7 +63,7 @@ fn add_later(
     Ok(())
 }
 
-// The same, but for an event of a class that is flagged.
+// The same, unless the event is of a flagged class.
 fn add_light(
     rows: &mut GrowingRows,
     fronts: &mut Fronts,
@@ -110,7 +110,7 @@ fn add_thread(
     ensures ok { OnOk result (AreAdded basis.entry (thread_of basis.entry thread) rows.old rows.new) }
     ensures rows { OnOk result (AreRows rows.new) }
     ensures kept { OnOk result (index_map_len rows.new ≤ limit) }
-    // Where there are too many, none of them counts more than there is.
+    // If there are too many rows, none of them counts more pairs than exist.
     ensures too_many { result ≡ Err RowsRefusal.TooMany → AreMore limit rows.new × AreFew basis.entry (thread_of basis.entry thread) rows.old rows.new }
 {
     let flags = heavies(alloc, basis, thread)?;
@@ -120,7 +120,7 @@ fn add_thread(
     }
 }
 
-// The same, where it is the turn of the thread.
+// The same, if it is the turn of the thread.
 fn add_own(
     alloc: Global,
     rows: &mut GrowingRows,
@@ -147,7 +147,7 @@ fn add_own(
     }
 }
 
-// The same, those of each class that is flagged together.
+// The same; the pairs of each flagged class are counted together.
 fn add_flags(
     alloc: Global,
     rows: &mut GrowingRows,
@@ -178,8 +178,8 @@ fn add_flags(
     Ok(())
 }
 
-/// The counts of a trace's conflicting pairs; refused where there are more than `limit` pairs of places. `places` has for each
-/// event the number of its place.
+/// The counts of a trace's conflicting pairs. Fails if there are more than `limit` pairs of places, or if memory runs
+/// out. `places` has the number of each event's place.
 pub(crate) fn count_cuts(
     alloc: Global,
     indexed: &Indexed,
@@ -210,7 +210,7 @@ pub(crate) fn count_cuts(
     }
 }
 
-/// What one worker counts; refused where there are more than `limit` pairs of places.
+/// The counts of one worker. Fails if there are more than `limit` pairs of places, or if memory runs out.
 pub(crate) fn count_in_turn(
     alloc: Global,
     _places: &[u32],
@@ -228,7 +228,7 @@ pub(crate) fn count_in_turn(
     }
 }
 
-/// What all workers counted are the counts of the trace.
+/// The sums of all workers are the counts of the trace.
 pub(crate) fn are_all(_rows: &Rows, _places: &[u32], _basis: Basis<'_>)
     requires basis { IsBasis _basis }
     requires classes { AreClasses _basis.indexed.now.events (slice_index _places.now) _basis.classes.now.numbers.items _basis.classes.now.infos.items }
@@ -238,7 +238,7 @@ pub(crate) fn are_all(_rows: &Rows, _places: &[u32], _basis: Basis<'_>)
         _basis.entry.classes.now.numbers.items _basis.entry.classes.now.infos.items _basis.entry.classes.now.lists.keys _rows.now }
 {}
 
-// Adds all pairs of what is in turn, and what comes below one cut and not below the next.
+// Adds all pairs of the worker's classes, and the pairs of its threads below one cut and not below the next.
 fn add_pairs(
     alloc: Global,
     rows: &mut GrowingRows,

@@ -1,5 +1,5 @@
-//! Counts by class of the events that come before a cut, as the events of one thread are gone through. No event is
-//! counted twice: each front only moves on.
+//! Counts the events that come before a cut, by class, for one later event of a thread after the other. Each front
+//! only moves forward, so no event is counted twice.
 ghost use Rattle.std.specs.Prelude.{◌≡◌, ◌≢◌, ℕ, ◌+◌, ◌^◌, ◌<◌, ◌≤◌, length, All, Some, IfOk, replicate, slice_index, slice_set};
 ghost use Rattle.rapid_text.specs.Recording.{IsWellFormed};
 ghost use Rattle.event_index.specs.Events.{thread_at};
@@ -11,21 +11,21 @@ use event_index::Indexed;
 use rapid_text::OutOfMemory;
 use std::alloc::Global;
 
-/// For each later event and each other thread, how many of that thread's events come before it.
+/// For each later event and each other thread, the number of that thread's events that come before it.
 pub(crate) trait Cut {
-    /// Which ends it tells.
+    /// The arguments for which `end` is defined.
     ghost can_end: { Self → ℕ → ℕ → Type 0 };
 
     ghost end_of: { Self → ℕ → ℕ → ℕ };
 
-    /// How many of the thread's events come before the later one, of which it is known that so many do.
+    /// The number of the thread's events that come before the later one. It is known to be at least `from`.
     fn end(&self, later: u32, thread: u32, from: u32) -> u32
         requires can { can_end self.now later thread }
         requires from { from ≤ end_of self.now later thread }
         ensures end { result ≡ end_of self.now later thread };
 }
 
-/// A trace, with the number of each event's class.
+/// A trace, and the number of each event's class.
 #[derive(Clone, Copy)]
 pub(crate) struct Classed<'a> {
     pub(crate) indexed: &'a Indexed,
@@ -39,7 +39,7 @@ pub(crate) struct Later {
     pub(crate) thread: u32,
 }
 
-/// How many of each thread's events come before a cut, and how many of these are of each class.
+/// The number of each thread's events before a cut, and how many of these are of each class.
 #[derive(Drop)]
 pub(crate) struct Front {
     pub(crate) fronts: Vec<u32>,
@@ -47,7 +47,7 @@ pub(crate) struct Front {
 }
 
 impl Front {
-    /// Nothing comes before the cut yet.
+    /// A front before which no event comes.
     pub(crate) fn new(alloc: Global, threads: usize, classes: usize) -> Result<Front, OutOfMemory>
         ensures fronts { IfOk result (λ front. front.fronts.items ≡ replicate threads 0) }
         ensures counts { IfOk result (λ front. front.counts.items ≡ replicate classes 0) }
@@ -58,7 +58,7 @@ impl Front {
         })
     }
 
-    /// Moves on to the ends of a later event.
+    /// Moves the front to the ends of a later event.
     pub(crate) fn advance<C: Cut>(&mut self, classed: Classed<'_>, cut: &C, later: Later)
         requires len { length classed.numbers.now ≡ length classed.indexed.now.events }
         requires classes { All (λ c. c < length self.old.counts.items) classed.numbers.now }
@@ -81,7 +81,7 @@ impl Front {
     }
 }
 
-/// Counts these events, each by its class.
+/// Counts these events by class.
 pub(crate) fn count(counts: &mut [u64], classes: &[u32], events: &[u32])
     requires events { All (λ e. e < length classes.now) events.now }
     requires classes { All (λ c. c < length counts.old) classes.now }
@@ -94,7 +94,7 @@ pub(crate) fn count(counts: &mut [u64], classes: &[u32], events: &[u32])
     }
 }
 
-// Moves the front of one thread on.
+// Moves the front of one thread.
 fn move_on(counts: &mut [u64], fronts: &mut [u32], classed: Classed<'_>, thread: u32, to: u32)
     requires formed { IsWellFormed classed.indexed.now }
     requires thread { thread < length classed.indexed.now.threads }
@@ -115,7 +115,7 @@ fn move_on(counts: &mut [u64], fronts: &mut [u32], classed: Classed<'_>, thread:
     fronts[thread as usize] = to;
 }
 
-// Moves the fronts of all other threads on to the ends of a later event. Most are there already.
+// Moves the fronts of all other threads to the ends of a later event. Most of them are there already.
 fn advance<C: Cut>(
     counts: &mut [u64],
     fronts: &mut [u32],

@@ -1,12 +1,12 @@
-//! The three cuts below which pairs are counted: what is earlier in the trace than an event, what SHB keeps before its base, and
-//! what is must-before that base.
+//! The three cuts below which pairs are counted: what is earlier in the trace than an event, what SHB keeps before
+//! its base, and what is must-before that base.
 ghost use Rattle.std.specs.Prelude.{◌≡◌, ◌<◌, ◌≤◌, length};
 
 use crate::counting::Cut;
 use event_index::Indexed;
 use shb_clocks::{Clocks, SharedRows};
 
-/// What is earlier in the trace.
+/// The events that are earlier in the trace.
 #[derive(Clone, Copy)]
 pub(crate) struct Earlier<'a> {
     pub(crate) indexed: &'a Indexed,
@@ -30,7 +30,7 @@ impl Cut for Earlier<'_> {
     }
 }
 
-/// What SHB keeps before the base.
+/// The events that SHB keeps before the base, with the base.
 #[derive(Clone, Copy)]
 pub(crate) struct Known<'a> {
     pub(crate) indexed: &'a Indexed,
@@ -54,7 +54,7 @@ impl Cut for Known<'_> {
     }
 }
 
-/// What is must-before the base.
+/// The events that are must-before the base, with the base.
 #[derive(Clone, Copy)]
 pub(crate) struct Forced<'a> {
     pub(crate) indexed: &'a Indexed,

@@ -1,4 +1,4 @@
-//! The row of two places.
+//! Finds the row of two places.
 ghost use Rattle.std.specs.Prelude.{◌≡◌, IfSome, Some, None, true, slice_get};
 ghost use Rattle.race_groups.specs.GroupRows.{HasNoRow, IsRowAt};
 
@@ -6,9 +6,9 @@ use crate::kinds::{Groups, Row};
 use crate::rows::{ordered, row_at};
 
 impl Groups {
-    /// Where the row of two places stands, given in either order.
+    /// The index of the row of two places, which are given in either order; None if they have no row.
     pub fn row_of(&self, first: u32, second: u32) -> Option<usize>
-        // It answers a row of these places, and None where there is none.
+        // The row has these places; None means that there is no such row.
         ensures found { IfSome result (IsRowAt self.now first second) }
         ensures none { result ≡ None → HasNoRow self.now first second }
     {
@@ -22,7 +22,7 @@ impl Groups {
     }
 }
 
-// Whether the row of these places stands there.
+// Whether the row at this index has these places.
 fn is_row(rows: &[Row], at: usize, places: (u32, u32)) -> bool
     ensures { result ≡ true → (row : Row) × (slice_get rows.now at ≡ Some row) × (row.places ≡ places) }
 {

@@ -1,4 +1,4 @@
-//! What comes below the three cuts, moved on event by event of one thread.
+//! The events below the three cuts, for one later event of a thread after the other.
 ghost use Rattle.std.specs.Prelude.{◌≡◌, ℕ, ◌+◌, ◌<◌, IfOk, length, slice_index};
 ghost use Rattle.event_index.specs.Lookups.{events_of};
 ghost use Rattle.race_groups.specs.Basis.{AreFrontsBefore, IsBasis};
@@ -12,7 +12,7 @@ use crate::shares::Loose;
 use rapid_text::OutOfMemory;
 use std::alloc::Global;
 
-/// What is earlier in the trace, and the fronts of what SHB keeps before and of what is forced.
+/// The events that are earlier in the trace, and the fronts of the other two cuts.
 #[derive(Drop)]
 pub(crate) struct Fronts {
     pub(crate) earlier: Passed,
@@ -21,7 +21,7 @@ pub(crate) struct Fronts {
 }
 
 impl Fronts {
-    /// Nothing comes before the cuts yet.
+    /// The fronts before any event is counted.
     pub(crate) fn new(alloc: Global, basis: Basis<'_>) -> Result<Fronts, OutOfMemory>
         ensures { IfOk result (λ fronts. (thread : ℕ) → AreFrontsBefore basis.entry thread 0 fronts) }
     {
@@ -34,7 +34,8 @@ impl Fronts {
         })
     }
 
-    /// Passes the event at this place of the thread, and those before it. The fronts stay: they move on with a later event.
+    /// Passes the event at this index of the thread, and the events before it. The other two fronts stay; a later
+    /// event moves them.
     pub(crate) fn pass(&mut self, basis: Basis<'_>, thread: u32, at: usize)
         requires basis { IsBasis basis }
         requires thread { thread < length basis.indexed.now.threads }
@@ -46,7 +47,7 @@ impl Fronts {
         self.earlier.pass(basis.indexed, numbers, thread, at);
     }
 
-    /// Moves on to the ends of the event at this place of the thread.
+    /// Moves the fronts to the ends of the event at this index of the thread.
     pub(crate) fn advance(&mut self, basis: Basis<'_>, thread: u32, at: usize)
         requires basis { IsBasis basis }
         requires thread { thread < length basis.indexed.now.threads }
@@ -74,7 +75,7 @@ impl Fronts {
         self.earlier.pass(indexed, numbers, thread, at);
     }
 
-    /// What is loose of them.
+    /// The counts from which the loose pairs follow.
     pub(crate) fn loose(&self) -> Loose<'_>
         ensures earlier { result.earlier.now ≡ self.now.earlier.counts.items }
         ensures known { result.known.now ≡ self.now.known.counts.items }

@@ -1,4 +1,4 @@
-//! Classes in the order of their variables, so that a walk over those of one variable goes through memory from one end to the other.
+//! Sorts classes by their variables, so that a walk over those of one variable goes through memory in one direction.
 ghost use Rattle.std.specs.Prelude.{◌≡◌, ◌≤◌, ◌<◌, ℕ, All, IfOk, IfSome, Some, length, slice_get, slice_index};
 ghost use Rattle.race_groups.specs.Building.{AreAlike, AreElements, IsRenumbered};
 
@@ -7,14 +7,15 @@ use crate::classes::{is_at, variable_of};
 use rapid_text::OutOfMemory;
 use std::alloc::Global;
 
-/// The classes in another order, and for each event the number of its own.
+/// The classes in another order, and the number of each event's class.
 #[derive(Drop)]
 pub(crate) struct Regrouped {
     pub(crate) numbers: Vec<u32>,
     pub(crate) infos: Vec<Class>,
 }
 
-/// The classes in the order of their variables. What is made is compared with what was before it is believed; None where it is not the same.
+/// The classes in the order of their variables. The result is compared with the original before it is used; None if
+/// they differ.
 pub(crate) fn grouped(
     alloc: Global,
     numbers: &[u32],
@@ -51,7 +52,7 @@ fn order_of(alloc: Global, infos: &[Class], members: &[Vec<u32>]) -> Result<Vec<
     Ok(order)
 }
 
-// The classes of these numbers.
+// The classes with these numbers.
 fn picked(alloc: Global, infos: &[Class], order: &[u32]) -> Result<Vec<Class>, OutOfMemory>
     ensures { IfOk result (λ made. AreElements infos.now made.items) }
 {
@@ -64,7 +65,7 @@ fn picked(alloc: Global, infos: &[Class], order: &[u32]) -> Result<Vec<Class>, O
     Ok(made)
 }
 
-// Where each of so many numbers stands in the order.
+// The index of each of `many` numbers in the order.
 fn places_in(alloc: Global, many: usize, order: &[u32]) -> Result<Vec<u32>, OutOfMemory> {
     let mut places = vec![in alloc; 0u32; many]?;
     for at in 0..order.len() {
@@ -75,7 +76,7 @@ fn places_in(alloc: Global, many: usize, order: &[u32]) -> Result<Vec<u32>, OutO
     Ok(places)
 }
 
-// For each event the number of its class among those that were made. None where it stands elsewhere than expected.
+// The number of each event's class among the new ones. None if a class is not at its index.
 fn renumbered(
     alloc: Global,
     numbers: &[u32],

@@ -1,5 +1,5 @@
-//! The pairs of many later events of one class, counted together: each earlier event is passed once for all of them, so that it does
-//! not matter how many there are.
+//! Counts the pairs of many later events of one class together. It visits each earlier event once for all of them,
+//! however many there are.
 ghost use Rattle.std.specs.Prelude.{◌≡◌, ℕ, ◌<◌, ◌≤◌, length, true, IfOk, OnOk, Err, sum_by};
 ghost use Rattle.indexmap.specs.IndexMap.{index_map_len};
 ghost use Rattle.event_index.specs.Lookups.{events_of};
@@ -18,7 +18,7 @@ use crate::writers::{Walk, conflicting};
 use rapid_text::{Op, OutOfMemory};
 use std::alloc::Global;
 
-// Adds the pairs whose later event is of the thread and of the class of this number.
+// Adds the pairs whose later event is of the thread and of class number `class`.
 fn add_class(
     alloc: Global,
     rows: &mut GrowingRows,
@@ -41,7 +41,7 @@ fn add_class(
     }
 }
 
-// The same, with sums below which nothing comes yet.
+// The same with sums that are still empty.
 fn add_sums(
     rows: &mut GrowingRows,
     below: &mut Below,
@@ -67,7 +67,7 @@ fn add_sums(
     Ok(())
 }
 
-// The same where the class is flagged by 1.
+// The same if the class is flagged with 1.
 fn add_flagged(
     alloc: Global,
     rows: &mut GrowingRows,
@@ -92,7 +92,7 @@ fn add_flagged(
     Ok(())
 }
 
-/// Adds the pairs whose later event is of the thread and of a class that is flagged by 1.
+/// Adds the pairs whose later event is of the thread and of a class that is flagged with 1.
 pub(crate) fn add_classes(
     alloc: Global,
     rows: &mut GrowingRows,
@@ -121,7 +121,7 @@ pub(crate) fn add_classes(
     Ok(())
 }
 
-/// Flags the classes by 1 whose events in the thread are so many that it takes fewer steps to count them together.
+/// Flags with 1 the classes with so many events in the thread that it takes fewer steps to count them together.
 pub(crate) fn heavies(alloc: Global, basis: Basis<'_>, thread: u32) -> Result<Vec<u32>, OutOfMemory>
     requires basis { IsBasis basis }
     requires thread { thread < length basis.indexed.now.threads }
@@ -132,7 +132,7 @@ pub(crate) fn heavies(alloc: Global, basis: Basis<'_>, thread: u32) -> Result<Ve
     Ok(flags)
 }
 
-// Flags the heavy classes. No class is flagged yet.
+// Flags the heavy classes. No class is flagged before.
 fn flag(flags: &mut [u32], basis: Basis<'_>, thread: u32)
     requires basis { IsBasis basis }
     requires thread { thread < length basis.indexed.now.threads }
@@ -155,7 +155,7 @@ fn flag(flags: &mut [u32], basis: Basis<'_>, thread: u32)
     }
 }
 
-// 1 where so many events that do this are worth it.
+// 1 if counting so many events together saves steps, otherwise 0.
 fn flag_of(basis: Basis<'_>, op: Op, count: u32, thread: u32) -> u32
     requires basis { IsBasis basis }
     requires op { (x : ℕ) → is_access x op ≡ true → x < length basis.classes.now.members.items }
@@ -170,7 +170,7 @@ fn flag_of(basis: Basis<'_>, op: Op, count: u32, thread: u32) -> u32
     u32::from(steps > u64::from(basis.indexed.len()).saturating_mul(4))
 }
 
-// How many classes are gone through that are not the thread's own.
+// The number of classes to visit that are not the thread's own.
 fn steps_of(walk: Walk<'_>, thread: u32) -> u64
     requires runs { AreRuns walk.owners.now walk.members.now walk.runs.now }
 {

@@ -1,4 +1,4 @@
-//! Which locks the threads hold while the events of a trace are gone through, as numbered lists.
+//! The locks that threads hold while the events of a trace are visited, as numbered lists.
 ghost use Rattle.std.specs.Prelude.{◌≡◌, ◌+◌, ◌<◌, ℕ, Some, None, IfOk, IfSome, OnOk, length, All, false, slice_get, cond, ◌==◌};
 ghost use Rattle.rapid_text.specs.Operations.{is_acquire, is_release};
 ghost use Rattle.rapid_text.specs.declared.event.Op.TheVariants.{Acquire, Release};
@@ -10,10 +10,10 @@ use indexmap::IndexSet;
 use rapid_text::{Event, Op, OutOfMemory};
 use std::alloc::Global;
 
-/// Lists of locks, one a thread. A lock that is taken twice stands twice in a list.
+/// A list of locks for each thread. A lock that is held twice is in the list twice.
 pub(crate) type Held = Vec<Vec<u32>>;
 
-/// Nothing is held before the first event.
+/// The lists before the first event: no lock is held.
 pub(crate) fn begin(alloc: Global, indexed: &Indexed) -> Result<Held, OutOfMemory>
     ensures held { IfOk result (λ held. AreHeld indexed.now.events 0 held.items) }
     ensures len { IfOk result (λ held. length held.items ≡ length indexed.now.threads) }
@@ -26,7 +26,7 @@ pub(crate) fn begin(alloc: Global, indexed: &Indexed) -> Result<Held, OutOfMemor
     Ok(held)
 }
 
-/// Takes in what an event does: the lists are those after it.
+/// Updates the lists for an event: they are then those after it.
 pub(crate) fn note(held: &mut Held, indexed: &Indexed, event: u32) -> Result<(), OutOfMemory>
     requires event { event < length indexed.now.events }
     requires held { AreHeld indexed.now.events event held.old.items }
@@ -45,7 +45,7 @@ pub(crate) fn note(held: &mut Held, indexed: &Indexed, event: u32) -> Result<(),
     Ok(())
 }
 
-// The event takes the lock.
+// Adds the lock that the event acquires.
 fn take(
     held: &mut Held,
     indexed: &Indexed,
@@ -65,7 +65,7 @@ fn take(
     Ok(())
 }
 
-// The event lets the lock go.
+// Removes the lock that the event releases.
 fn free(held: &mut Held, indexed: &Indexed, event: u32, found: Event, lock: u32)
     requires found { slice_get indexed.now.events event ≡ Some found }
     requires op { found.op ≡ Release lock }
@@ -78,7 +78,7 @@ fn free(held: &mut Held, indexed: &Indexed, event: u32, found: Event, lock: u32)
     let_go(&mut held[found.thread as usize], lock);
 }
 
-/// The lock that the operation takes, where it takes one.
+/// The lock that the operation acquires, or None.
 pub(crate) fn acquired(op: Op) -> Option<u32>
     ensures some { IfSome result (λ l. op ≡ Acquire l) }
     ensures none { result ≡ None → (l : ℕ) → is_acquire l op ≡ false }
@@ -93,7 +93,7 @@ pub(crate) fn acquired(op: Op) -> Option<u32>
     }
 }
 
-// The lock that the operation lets go, where it lets one go.
+// The lock that the operation releases, or None.
 fn released(op: Op) -> Option<u32>
     ensures some { IfSome result (λ l. op ≡ Release l) }
     ensures none { result ≡ None → (l : ℕ) → is_release l op ≡ false }
@@ -108,12 +108,12 @@ fn released(op: Op) -> Option<u32>
     }
 }
 
-// The lock stands in the list once less.
+// Removes the lock from the list once.
 fn let_go(locks: &mut Vec<u32>, lock: u32)
     requires { 0 < times lock locks.old.items }
     ensures { (k : ℕ) → times k locks.new.items + cond (lock == k) 1 0 ≡ times k locks.old.items }
 {
-    // The lock that was taken last is mostly let go first.
+    // The lock that was acquired last is usually released first.
     let mut at = locks.len();
     while at > 0 {
         at -= 1;
@@ -124,7 +124,7 @@ fn let_go(locks: &mut Vec<u32>, lock: u32)
     }
 }
 
-/// The number of the list, which is noted as the last one if it is new.
+/// The number of the list. If it is new, the function appends it.
 pub(crate) fn number_of(
     lists: &mut IndexSet<Vec<u32>>,
     alloc: Global,

@@ -20,41 +20,41 @@ use shb_clocks::Clocks;
 use std::alloc::Global;
 use std::thread::Threads;
 
-/// How many conflicting pairs of a pair of places are of each kind.
+/// The number of conflicting pairs of each kind, for one pair of places.
 #[derive(Clone, Copy, PartialEq, Eq, Debug)]
 pub struct Counts {
-    /// How many are candidates.
+    /// The number of candidates.
     pub candidates: u64,
-    /// How many are open.
+    /// The number of open pairs.
     pub open_pairs: u64,
-    /// How many are guarded.
+    /// The number of guarded pairs.
     pub guarded: u64,
-    /// How many are forced.
+    /// The number of forced pairs.
     pub forced: u64,
 }
 
-/// The conflicting pairs of one pair of places, which may be one place twice.
+/// The conflicting pairs of one pair of places, which may be the same place twice.
 #[derive(Clone, Copy, PartialEq, Eq, Debug)]
 pub struct Row {
     /// The numbers of the two places, the lesser first.
     pub places: (u32, u32),
-    /// How many pairs there are of each kind.
+    /// The number of pairs of each kind.
     pub counts: Counts,
 }
 
 /// All pairs of places.
 #[derive(Drop)]
 pub struct Groups {
-    /// A row for each.
+    /// A row for each pair of places.
     pub rows: Vec<Row>,
-    // The rows' places, in the same order.
+    // The places of the rows, in the same order.
     pub(crate) index: Rows,
-    // Where the row of two places may stand, which spares most look-ups.
+    // The likely index of the row of two places, which spares most look-ups.
     pub(crate) guesses: Guesses,
     ghost places: { are_places rows.items (keys index) ≡ true },
 }
 
-// Where the rows stand.
+// The indices of the rows.
 fn guesses_of(alloc: Global, classes: &Classes, rows: &[Row]) -> Result<Guesses, OutOfMemory> {
     let mut guesses = Guesses::new(alloc, classes.infos.as_slice())?;
     for at in 0..rows.len() {
@@ -65,8 +65,8 @@ fn guesses_of(alloc: Global, classes: &Classes, rows: &[Row]) -> Result<Guesses,
     Ok(guesses)
 }
 
-/// The conflicting pairs of a trace by pair of places and by kind; refused where there are more than `limit` pairs of places.
-/// `places` has for each event the number of its place.
+/// The conflicting pairs of a trace by pair of places and by kind. Fails if there are more than `limit` pairs of
+/// places, or if memory runs out. `places` has the number of each event's place.
 pub fn groups_of(
     alloc: Global,
     indexed: &Indexed,
@@ -82,15 +82,15 @@ pub fn groups_of(
     requires few { AreFewClasses classes.now }
     requires members { HaveMembers classes.now }
     requires locks { HaveLocks indexed.now.events classes.now }
-    // The four counts of each row are those of the conflicting pairs of its places that are of each kind.
+    // The four counts of each row are the numbers of conflicting pairs of its places, by kind.
     ensures rows { IfOk result (λ found. All (IsRow indexed.now (slice_index places.now)) found.rows.items) }
-    // Each two events that conflict have a row, each row's places have two, no two rows have the same places, and there are no more
-    // than `limit`.
+    // Each two conflicting events have a row, and the places of each row have two conflicting events. No two rows
+    // have the same places, and there are at most `limit` rows.
     ensures complete { IfOk result (λ found. AreComplete indexed.now.events (slice_index places.now) found.rows.items) }
     ensures there { IfOk result (λ found. All (λ row. HaveConflict indexed.now.events (slice_index places.now) row.places) found.rows.items) }
     ensures once { IfOk result (λ found. AreOnce found.rows.items) }
     ensures few_rows { IfOk result (λ found. length found.rows.items ≤ limit) }
-    // It is refused only where more pairs of places have a conflicting pair, or for want of memory.
+    // It fails only if more than `limit` pairs of places have a conflicting pair, or if memory runs out.
     ensures too_many { result ≡ Err RowsRefusal.TooMany → AreTooMany indexed.now.events (slice_index places.now) limit }
 {
     match count_cuts(alloc, indexed, places, clocks, must, classes, limit) {
@@ -99,7 +99,7 @@ pub fn groups_of(
     }
 }
 
-/// The same by so many workers, which share the counting. They are threads, where these can be started.
+/// The same with `workers` workers, which share the counting. They are threads if threads can be started.
 pub fn groups_by_workers<R: Threads + Sync>(
     rt: &R,
     alloc: Global,
@@ -118,15 +118,15 @@ pub fn groups_by_workers<R: Threads + Sync>(
     requires members { HaveMembers classes.now }
     requires locks { HaveLocks indexed.now.events classes.now }
     requires workers { 0 < workers }
-    // The four counts of each row are those of the conflicting pairs of its places that are of each kind.
+    // The four counts of each row are the numbers of conflicting pairs of its places, by kind.
     ensures rows { IfOk result (λ found. All (IsRow indexed.now (slice_index places.now)) found.rows.items) }
-    // Each two events that conflict have a row, each row's places have two, no two rows have the same places, and there are no more
-    // than `limit`.
+    // Each two conflicting events have a row, and the places of each row have two conflicting events. No two rows
+    // have the same places, and there are at most `limit` rows.
     ensures complete { IfOk result (λ found. AreComplete indexed.now.events (slice_index places.now) found.rows.items) }
     ensures there { IfOk result (λ found. All (λ row. HaveConflict indexed.now.events (slice_index places.now) row.places) found.rows.items) }
     ensures once { IfOk result (λ found. AreOnce found.rows.items) }
     ensures few_rows { IfOk result (λ found. length found.rows.items ≤ limit) }
-    // It is refused only where more pairs of places have a conflicting pair, or for want of memory.
+    // It fails only if more than `limit` pairs of places have a conflicting pair, or if memory runs out.
     ensures too_many { result ≡ Err RowsRefusal.TooMany → AreTooMany indexed.now.events (slice_index places.now) limit }
 {
     match count_by_workers(
@@ -137,7 +137,7 @@ pub fn groups_by_workers<R: Threads + Sync>(
     }
 }
 
-// The same, once all is counted.
+// The same after all pairs are counted.
 fn groups_in(
     alloc: Global,
     indexed: &Indexed,
@@ -194,7 +194,7 @@ fn rows_of(
 }
 
 impl Sums {
-    // The counts of the four kinds. What is forced is the rest.
+    // The counts of the four kinds. The forced pairs are the rest.
     fn counts(self) -> Counts
         ensures { IsDifference self result }
     {

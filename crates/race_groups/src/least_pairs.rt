@@ -1,4 +1,5 @@
-//! For each pair of places the least of its conflicting pairs of events: the least candidate, the least open pairs, and the least of all.
+//! For each pair of places its least pairs of events: the least candidate, the least open pairs, and the least
+//! conflicting pair.
 
 mod firsts;
 mod lanes;

@@ -1,4 +1,4 @@
-//! Exact counts of conflicting pairs by pair of places, without going over the pairs.
+//! Exact counts of conflicting pairs by pair of places, without visiting the pairs.
 #![tactic(auto)]
 
 mod apart;

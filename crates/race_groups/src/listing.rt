@@ -1,4 +1,5 @@
-//! The numbers of the lists of locks that threads hold. A list is made again only after its thread took a lock or let one go.
+//! Numbers the lists of locks that threads hold. A thread's list is made again only after an event of the thread that
+//! is not an access.
 ghost use Rattle.std.specs.Prelude.{◌≡◌, ◌+◌, ◌<◌, ℕ, IfOk, OnOk, Some, Vec, filter, length, slice_get, true};
 ghost use Rattle.std.specs.List.Sorted.{IsPermutation};
 ghost use Rattle.std.specs.declared.alloc.Global.{Global};
@@ -17,14 +18,14 @@ use indexmap::IndexSet;
 use rapid_text::OutOfMemory;
 use std::alloc::Global;
 
-/// The most locks that the lists may have together which are made one after another. A trace whose threads never hold
-/// more than 1,024 locks at once stays below this.
+/// The most locks that all lists may have that are made, one after the other. A trace whose threads never hold more
+/// than 1,024 locks at once stays below this.
 const MOST_MADE: u64 = 1_073_741_824;
 
-/// The most locks that the different lists may have together: half a gigabyte.
+/// The most locks that the different lists may have in all: half a gigabyte.
 const MOST_KEPT: u64 = 134_217_728;
 
-/// What the threads hold before an event, and for each lock the thread that takes it if only one does.
+/// The locks that the threads hold before an event. For each lock the thread that acquires it, if only one does.
 #[derive(Clone, Copy)]
 pub(crate) struct Holds<'a> {
     pub(crate) indexed: &'a Indexed,
@@ -35,17 +36,17 @@ pub(crate) struct Holds<'a> {
 /// The lists that were made last.
 #[derive(Drop)]
 pub(crate) struct Listing {
-    /// For each thread the number of its list, if it was made since the thread last took a lock or let one go.
+    /// For each thread the number of its list, if the thread has had only accesses since the list was made.
     pub(crate) known: Vec<Option<u32>>,
-    // The locks of the list that is being made.
+    // The locks of the list in progress.
     lent: Vec<u32>,
-    // How many locks the lists have that were made, and how many those have that are kept.
+    // The number of locks in the lists that were made, and in those that are kept.
     made: u64,
     kept: u64,
 }
 
 impl Listing {
-    /// No list was made yet.
+    /// The state before the first list.
     pub(crate) fn new(alloc: Global, indexed: &Indexed) -> Result<Listing, OutOfMemory>
         ensures known { IfOk result (λ made. AreUnknown made.known.items) }
         ensures threads { IfOk result (λ made. length made.known.items ≡ length indexed.now.threads) }
@@ -63,8 +64,8 @@ impl Listing {
         })
     }
 
-    /// The number of the list of locks under which the event accesses a variable; 0 if it is no access. The lists of one
-    /// trace take at most half a gigabyte: beyond that the answer is that there is no memory.
+    /// The number of the list of locks held at the event, if it is an access; otherwise 0. The lists of one trace
+    /// take at most half a gigabyte; beyond that the call fails as if memory ran out.
     pub(crate) fn number(
         &mut self,
         lists: &mut IndexSet<Vec<u32>>,
@@ -123,7 +124,7 @@ impl Listing {
         Ok(number)
     }
 
-    // Makes the thread's list: those of its locks that more than one thread takes, in the order of their numbers.
+    // Makes the thread's list: the locks that it holds and that more than one thread acquires, in rising order.
     fn gather(&mut self, holds: Holds<'_>, thread: u32) -> Result<(), OutOfMemory>
         requires thread { thread < length holds.held.now }
         ensures lent { OnOk result ((u : Vec ℕ Global) → slice_get holds.entry.held.now thread ≡ Some u

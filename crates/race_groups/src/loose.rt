@@ -1,4 +1,4 @@
-//! Adds what is loose: the pairs below one cut that are not below the next.
+//! Adds the loose pairs: those below one cut and not below the next.
 ghost use Rattle.std.specs.Prelude.{◌≡◌, ◌<◌, OnOk, true, length};
 ghost use Rattle.event_index.specs.Lookups.{before};
 ghost use Rattle.event_index.specs.Relations.{is_access};
@@ -14,7 +14,7 @@ use crate::walk::add_members;
 use crate::writers::conflicting;
 use rapid_text::OutOfMemory;
 
-/// Adds the pairs of an event of the class `later`, or of several of them, with those of other threads.
+/// Adds the pairs of one or several events of the class `later` with the events of other threads.
 pub(crate) fn add_loose(
     rows: &mut GrowingRows,
     loose: Loose<'_>,

@@ -1,4 +1,4 @@
-//! Which thread has all events of a class. No event is in a pair with one of its own thread.
+//! Finds the classes whose events are all of one thread. No event is in a pair with one of its own thread.
 ghost use Rattle.std.specs.Prelude.{◌≡◌, ◌+◌, ◌<◌, length, All, IfOk, IfSome, slice_index};
 ghost use Rattle.race_groups.specs.Owners.{AreOwners, AreOwnersBelow};
 
@@ -7,7 +7,7 @@ use event_index::Indexed;
 use rapid_text::OutOfMemory;
 use std::alloc::Global;
 
-/// For each class the thread that has all its events; the number of the threads where more than one has some.
+/// For each class the thread that has all its events; if more than one has some, the number of threads.
 pub(crate) fn owners_of(
     alloc: Global,
     indexed: &Indexed,
@@ -29,7 +29,7 @@ pub(crate) fn owners_of(
     Ok(owners)
 }
 
-// The class of the event is nobody's where another thread has it.
+// Marks the class of the event as shared if another thread has it.
 fn part(owners: &mut [u32], numbers: &[u32], indexed: &Indexed, many: u32, event: u32)
     requires numbers { length numbers.now ≡ length indexed.now.events }
     requires classes { All (λ c. c < length owners.old) numbers.now }
@@ -55,7 +55,7 @@ pub(crate) fn owner_of(owners: &[u32], class: u32) -> u32
     }
 }
 
-/// The thread that has all events of the class. None if more than one has some.
+/// The thread that has all events of the class. None if more than one thread has some.
 pub(crate) fn only_owner(owners: &[u32], class: u32, threads: u32) -> Option<u32>
     ensures some { IfSome result (λ owner. (owner ≡ slice_index owners.now class) × (owner < threads)) }
 {

@@ -1,6 +1,6 @@
-//! Counts by class of the events that are earlier in the trace, and of other threads, as the events of one thread are gone
-//! through. They are counted in the order of the trace: between two events of the thread there is none of it, so no
-//! event's thread is looked at.
+//! Counts the events of other threads that are earlier in the trace, by class, for one later event of a thread after
+//! the other. Events are counted in the order of the trace. Between two events of the thread all events are of
+//! others, so no event's thread is looked up.
 ghost use Rattle.std.specs.Prelude.{◌≡◌, ◌==◌, ℕ, ◌+◌, ◌^◌, ◌<◌, length, All, IfOk, count_by, replicate, slice_index};
 ghost use Rattle.event_index.specs.Lookups.{events_of};
 ghost use Rattle.race_groups.specs.Counting.{IsPassed};
@@ -9,7 +9,7 @@ use event_index::Indexed;
 use rapid_text::OutOfMemory;
 use std::alloc::Global;
 
-/// How many events were passed, and how many of these are of each class, without the thread's own.
+/// The number of events passed, and how many of them are of each class, without the thread's own.
 #[derive(Drop)]
 pub(crate) struct Passed {
     pub(crate) upto: u32,
@@ -17,7 +17,7 @@ pub(crate) struct Passed {
 }
 
 impl Passed {
-    /// Nothing was passed yet.
+    /// The state before any event is passed.
     pub(crate) fn new(alloc: Global, classes: usize) -> Result<Passed, OutOfMemory>
         ensures upto { IfOk result (λ passed. passed.upto ≡ 0) }
         ensures counts { IfOk result (λ passed. passed.counts.items ≡ replicate classes 0) }
@@ -28,7 +28,7 @@ impl Passed {
         })
     }
 
-    /// Passes all events before that at this place of the thread, and that event.
+    /// Passes the event at this index of the thread, and all events before it.
     pub(crate) fn pass(&mut self, indexed: &Indexed, numbers: &[u32], thread: u32, at: usize)
         requires len { length numbers.now ≡ length indexed.now.events }
         requires classes { All (λ c. c < length self.old.counts.items) numbers.now }
@@ -46,7 +46,7 @@ impl Passed {
         self.upto = event + 1;
     }
 
-    // Counts one event of each of these classes.
+    // Counts one event for each of these classes.
     fn count(&mut self, classes: &[u32])
         requires classes { All (λ c. c < length self.old.counts.items) classes.now }
         requires room { (c : ℕ) → c < length self.old.counts.items → slice_index self.old.counts.items c + length classes.now < 2 ^ 32 }
@@ -59,7 +59,7 @@ impl Passed {
     }
 }
 
-// The same, of the counts alone.
+// The same for the counts alone.
 fn count_each(counts: &mut [u64], classes: &[u32])
     requires classes { All (λ c. c < length counts.old) classes.now }
     requires room { (c : ℕ) → c < length counts.old → slice_index counts.old c + length classes.now < 2 ^ 32 }

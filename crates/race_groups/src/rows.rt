@@ -1,4 +1,4 @@
-//! Rows by pair of places, each with what was counted of it.
+//! Rows by pair of places, each with its counts.
 ghost use Rattle.std.specs.Prelude.{◌≡◌, ℕ, ◌+◌, ◌^◌, ◌<◌, ◌≤◌, OnErr, OnOk, IfOk, IfSome, true, Some, None, slice_get, if◌then◌else◌};
 ghost use Rattle.indexmap.specs.IndexMap.{get, keys, index_map_len, IsEmpty, IsUnchanged, IsUnique, Updates, with_value_at};
 ghost use Rattle.race_groups.specs.Groups.{is_between};
@@ -13,23 +13,24 @@ use rapid_text::OutOfMemory;
 use std::alloc::{AllocError, AllocFailed, Global};
 use std::marker::Model;
 
-/// How many conflicting pairs of a pair of places there are.
+/// The numbers of conflicting pairs of a pair of places.
 #[derive(Clone, Copy)]
 pub(crate) struct Sums {
-    /// All, each twice: once at its later event, and once at its earlier one.
+    /// All, each counted twice: once at its later event, and once at its earlier event.
     pub(crate) all: u64,
     /// Those that are candidates.
     pub(crate) candidates: u64,
-    /// Those that SHB orders and nothing forces.
+    /// Those that SHB orders and must-before does not.
     pub(crate) ordered: u64,
-    /// Those of them whose threads both hold a lock.
+    /// The part of those whose threads both hold one lock.
     pub(crate) guarded: u64,
 }
 
-/// For each pair of places, the lesser first, what was counted of it.
+/// For each pair of places, the lesser place first, its counts.
 pub(crate) type Rows = IndexMap<(u32, u32), Sums>;
 
-/// Rows to which counts are added, with guesses where they stand. Contracts see the rows with all that waits for them.
+/// Rows to which counts are added, with guesses of their indices. A contract sees the rows with all that waits for
+/// them.
 #[derive(Drop)]
 pub(crate) struct GrowingRows {
     rows: Rows,
@@ -60,7 +61,7 @@ impl Model for GrowingRows {
 }
 
 impl GrowingRows {
-    /// No rows, with guesses for the places of these classes.
+    /// No rows, with guesses for the places of these classes. Fails if memory runs out.
     pub(crate) fn new(alloc: Global, infos: &[Class]) -> Result<GrowingRows, OutOfMemory>
         ensures empty { IfOk result IsEmpty }
         ensures len { IfOk result (λ rows. index_map_len rows ≡ 0) }
@@ -75,7 +76,7 @@ impl GrowingRows {
         })
     }
 
-    /// How many rows there are.
+    /// The number of rows.
     pub(crate) fn len(&self) -> usize
         ensures len { result ≡ index_map_len self.now }
         ensures unique { IsUnique same_places self.now }
@@ -83,7 +84,7 @@ impl GrowingRows {
         self.rows.len()
     }
 
-    /// Adds to what was counted of a pair of places.
+    /// Adds to the counts of a pair of places.
     pub(crate) fn add(&mut self, first: u32, second: u32, more: Sums) -> Result<(), OutOfMemory>
         requires more { (k : Part) × (0 < part k more) }
         requires rows { AreRows self.old }
@@ -103,7 +104,7 @@ impl GrowingRows {
         Ok(())
     }
 
-    /// The rows, once all is added.
+    /// The rows after all is added.
     pub(crate) fn into_rows(self) -> Rows
         ensures { result ≡ self }
     {
@@ -117,9 +118,9 @@ impl GrowingRows {
 /// Why pairs are not counted.
 #[derive(Clone, Copy, PartialEq, Eq, Debug)]
 pub enum RowsRefusal {
-    /// There are more pairs of places than were asked for.
+    /// There are more pairs of places than the limit.
     TooMany,
-    /// Memory was refused.
+    /// Out of memory.
     OutOfMemory,
 }
 
@@ -157,7 +158,7 @@ impl<T: Drop> From<AllocFailed<T>> for RowsRefusal {
 }
 
 impl Sums {
-    // So many candidates more.
+    // The sums with `more` further candidates.
     fn with_candidates(self, more: u64) -> Sums
         requires { self.candidates + more < 2 ^ 64 }
         ensures { result ≡ with_more self more }
@@ -170,7 +171,7 @@ impl Sums {
         }
     }
 
-    // Both together.
+    // The sum of both.
     fn plus(self, more: Sums) -> Sums
         requires room { (k : Part) → part k self + part k more < 2 ^ 64 }
         ensures { (k : Part) → part k result ≡ part k self + part k more }
@@ -184,7 +185,7 @@ impl Sums {
     }
 }
 
-// Adds to what was counted of a pair of places. Mere candidates wait, if the row is known.
+// Adds to the counts of a pair of places. If the row is known, mere candidates wait.
 fn add_or_wait(
     rows: &mut Rows,
     guesses: &mut Guesses,
@@ -218,7 +219,7 @@ fn settle(rows: &mut Rows, waiting: &Waiting)
     }
 }
 
-// Adds to the row at this place what waits for it.
+// Adds to the row at this index what waits for it.
 fn settle_at(rows: &mut Rows, waiting: &Waiting, at: usize)
     requires at { at < index_map_len rows.old }
     requires fits { (e : (ℕ × ℕ) × Sums) → slice_get rows.old.entries at ≡ Some e
@@ -231,7 +232,7 @@ fn settle_at(rows: &mut Rows, waiting: &Waiting, at: usize)
     *sums = sums.with_candidates(more);
 }
 
-// Adds to what was counted of a pair of places.
+// Adds to the counts of a pair of places.
 fn add(
     rows: &mut Rows,
     guesses: &mut Guesses,
@@ -257,7 +258,7 @@ fn add(
     Ok(())
 }
 
-// Where the row of the places of an earlier and a later event stands. It is looked up only where it was not guessed.
+// The index of the row for the places of an earlier and a later event. It is looked up only if the guess is wrong.
 fn guessed_at(
     rows: &Rows,
     guesses: &mut Guesses,
@@ -278,7 +279,7 @@ fn guessed_at(
     Some(at)
 }
 
-// Whether the row of these places stands there.
+// Whether the row at this index has these places.
 fn is_at(rows: &Rows, at: usize, places: (u32, u32)) -> bool
     ensures { result ≡ true → (v : Sums) × (slice_get rows.now.entries at ≡ Some (places, v)) × (get same_places rows.now places ≡ Some v) }
 {
@@ -288,7 +289,7 @@ fn is_at(rows: &Rows, at: usize, places: (u32, u32)) -> bool
     }
 }
 
-/// Where the row of a pair of places stands, the lesser first.
+/// The index of the row of a pair of places, the lesser place first; None if there is no row.
 pub(crate) fn row_at(rows: &Rows, places: (u32, u32)) -> Option<usize>
     ensures found { IfSome result (λ at. (v : Sums) × (slice_get rows.now.entries at ≡ Some (places, v)) × (get same_places rows.now places ≡ Some v)) }
     ensures none { result ≡ None → get same_places rows.now places ≡ None }
@@ -297,7 +298,7 @@ pub(crate) fn row_at(rows: &Rows, places: (u32, u32)) -> Option<usize>
     Some(at)
 }
 
-// Adds to the row at this place.
+// Adds to the row at this index.
 fn grow(rows: &mut Rows, at: usize, more: Sums)
     requires at { at < index_map_len rows.old }
     requires room { (k : Part) (e : (ℕ × ℕ) × Sums) → slice_get rows.old.entries at ≡ Some e → part k e.1 + part k more < 2 ^ 64 }

@@ -1,4 +1,4 @@
-//! How far the classes of a list have one owner, so that a walk passes by those of one thread in one step.
+//! Runs of classes with one owner in a list, so that a walk skips those of one thread in one step.
 ghost use Rattle.std.specs.Prelude.{◌≡◌, ◌+◌, ◌≤◌, ◌<◌, ℕ, length, All, IfOk, slice_index};
 ghost use Rattle.race_groups.specs.Owners.{AreRuns, AreRunsOf, IsRun};
 
@@ -6,7 +6,7 @@ use crate::owners::owner_of;
 use rapid_text::OutOfMemory;
 use std::alloc::Global;
 
-/// For each place of each list, where the run of classes of one owner ends that stands there.
+/// For each index of each list, the end of the run of classes with one owner at that index.
 pub(crate) fn runs_of(
     alloc: Global,
     owners: &[u32],
@@ -22,7 +22,7 @@ pub(crate) fn runs_of(
     Ok(runs)
 }
 
-// The same of one list, from its end.
+// The same for one list, from its end.
 fn runs_in(alloc: Global, owners: &[u32], classes: &[u32]) -> Result<Vec<usize>, OutOfMemory>
     ensures { IfOk result (λ runs. AreRuns owners.now classes.now runs.items) }
 {
@@ -34,7 +34,7 @@ fn runs_in(alloc: Global, owners: &[u32], classes: &[u32]) -> Result<Vec<usize>,
     Ok(runs)
 }
 
-// Where the run ends that stands at this place, from those of the places after it.
+// The end of the run at this index, from the ends of the later runs.
 fn run_at(owners: &[u32], classes: &[u32], runs: &[usize], at: usize) -> usize
     requires at { at < length classes.now }
     requires len { length runs.now ≡ length classes.now }

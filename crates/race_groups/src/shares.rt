@@ -1,4 +1,4 @@
-//! What the events of a class add to the rows together with a later event, or with all later ones of one class.
+//! What the events of a class add to the rows, together with one later event or with all later ones of one class.
 ghost use Rattle.std.specs.Prelude.{◌≡◌, ◌-◌, ◌*◌, ◌<◌, ◌≤◌, ◌^◌, ℕ, All, Bool, true, false, length, slice_index, if◌then◌else◌};
 ghost use Rattle.race_groups.specs.Counts.{is_counted};
 ghost use Rattle.race_groups.specs.Rows.{Part, part, amount, by_part};
@@ -6,19 +6,19 @@ ghost use Rattle.race_groups.specs.Totals.{entries_at, weighed_sum};
 
 use crate::rows::Sums;
 
-/// How many pairs with the events of a class are added.
+/// The number of pairs that the events of a class add.
 #[derive(Clone, Copy)]
 pub(crate) struct Share {
-    /// To all, which are counted twice.
+    /// To all pairs, which are counted twice.
     pub(crate) all: u64,
     /// To the candidates.
     pub(crate) candidates: u64,
-    /// To those that SHB orders and nothing forces.
+    /// To those that SHB orders and must-before does not.
     pub(crate) ordered: u64,
 }
 
 impl Share {
-    /// Whether there are none.
+    /// Whether all three are 0.
     pub(crate) fn is_nothing(self) -> bool
         ensures none { result ≡ true → (k : Part) → amount k self ≡ 0 }
         ensures some { result ≡ false → (k : Part) × (0 < amount k self) × ((b : Bool) → is_counted k b ≡ true) }
@@ -26,7 +26,7 @@ impl Share {
         self.candidates == 0 && self.ordered == 0 && self.all == 0
     }
 
-    /// So many pairs, whose threads both hold a lock or do not.
+    /// The sums of these pairs, whose threads both hold one lock or do not.
     pub(crate) fn sums(self, is_shared: bool) -> Sums
         ensures { (k : Part) → part k result ≡ (if is_counted k is_shared then amount k self else 0) }
     {
@@ -45,27 +45,27 @@ fn where_shared(count: u64, is_shared: bool) -> u64
     if is_shared { count } else { 0 }
 }
 
-/// What each class adds.
+/// The share of each class.
 pub(crate) trait Shares {
-    /// Of which classes it tells.
+    /// The classes for which `share` is defined.
     ghost can_tell: { Self → ℕ → Type 0 };
 
     ghost amount_of: { Self → Part → ℕ → ℕ };
 
-    /// What the class of this number adds.
+    /// The share of the class with this number.
     fn share(&self, class: u32) -> Share
         requires can { can_tell self.now class }
         ensures amounts { (k : Part) → amount k result ≡ amount_of self.now k class };
 }
 
-/// What is loose: by class, the pairs below one cut that are not below the next.
+/// The loose pairs by class: those below one cut and not below the next.
 #[derive(Clone, Copy)]
 pub(crate) struct Loose<'a> {
-    /// How many are earlier in the trace.
+    /// The number of events that are earlier in the trace.
     pub(crate) earlier: &'a [u64],
-    /// How many of them SHB keeps before.
+    /// How many of these SHB keeps before.
     pub(crate) known: &'a [u64],
-    /// How many of these are must-before.
+    /// How many of those are must-before.
     pub(crate) forced: &'a [u64],
 }
 
@@ -101,20 +101,20 @@ impl Shares for Loose<'_> {
 /// All pairs of a class's events: with the events of each lesser class, counted twice, and with each other.
 #[derive(Clone, Copy)]
 pub(crate) struct Total<'a> {
-    /// How many events of each class there are.
+    /// The number of events of each class.
     pub(crate) totals: &'a [u64],
-    /// In which threads they are.
+    /// The threads of these events.
     pub(crate) spread: &'a [Vec<(u32, u32)>],
-    /// How many events of the class each thread has.
+    /// The number of events of the class in each thread.
     pub(crate) weights: &'a [u64],
-    /// How many all threads have.
+    /// The number of events of the class in all threads.
     pub(crate) times: u64,
     /// The number of the class.
     pub(crate) class: u32,
 }
 
 impl Total<'_> {
-    // How many pairs of different threads there are with the events of this class.
+    // The number of pairs of different threads with the events of class `class`.
     fn pairs(&self, class: u32) -> u64
         requires class { class < length self.now.totals.now }
         requires spread { class < length self.now.spread.now }
@@ -129,7 +129,7 @@ impl Total<'_> {
     }
 }
 
-// The numbers of the entries, each times the weight of its thread.
+// The sum of the entries' numbers, each times the weight of its thread.
 fn weighed(weights: &[u64], entries: &[(u32, u32)]) -> u64
     requires within { All (λ e. e.0 < length weights.now) entries.now }
     requires fits { weighed_sum (slice_index weights.now) entries.now < 2 ^ 64 }

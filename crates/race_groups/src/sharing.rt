@@ -1,21 +1,21 @@
-//! Classes whose events have a lock in common.
+//! Tests whether classes have a common lock.
 ghost use Rattle.std.specs.Prelude.{◌≡◌, ◌<◌, ◌≤◌, ℕ, length, slice_index, true};
 ghost use Rattle.std.specs.List.Sorted.{IsNonDecreasing};
 ghost use Rattle.race_groups.specs.Shared.{is_meeting, is_sharing};
 
 use indexmap::IndexSet;
 
-// Lists of at most so many locks are compared each with each.
+// Lists of at most this many locks are compared each with each.
 const FEW: usize = 8;
 
-/// Whether the lists of locks with these numbers have one in common.
+/// Whether the lists of locks with these numbers have a common lock.
 pub fn are_sharing(lists: &IndexSet<Vec<u32>>, first: u32, second: u32) -> bool
     ensures { result ≡ is_sharing lists.now.keys first second }
 {
     let Some(mine) = lists.get_index(first as usize) else {
         return false;
     };
-    // Most pairs that are asked for hold the very same locks.
+    // Most pairs hold the very same locks.
     if first == second {
         return !mine.as_slice().is_empty();
     }
@@ -25,8 +25,8 @@ pub fn are_sharing(lists: &IndexSet<Vec<u32>>, first: u32, second: u32) -> bool
     meet(mine.as_slice(), theirs.as_slice())
 }
 
-// Whether the two lists have an element in common. Long lists are gone through side by side if they rise, so that a pair of
-// them takes as many steps as they have elements.
+// Whether the two lists have a common element. If long lists rise, they are merged, so the steps are at most their
+// number of elements.
 fn meet(first: &[u32], second: &[u32]) -> bool
     ensures { result ≡ is_meeting first.now second.now }
 {
@@ -43,7 +43,7 @@ fn is_rising(list: &[u32]) -> bool
     list.is_sorted()
 }
 
-// Whether two lists that rise have an element in common.
+// Whether two rising lists have a common element.
 fn meet_rising(first: &[u32], second: &[u32]) -> bool
     requires first { IsNonDecreasing first.now }
     requires second { IsNonDecreasing second.now }
@@ -59,7 +59,7 @@ fn meet_rising(first: &[u32], second: &[u32]) -> bool
     false
 }
 
-// The first place from this one on whose element is not below the lock; the length of the list if there is none.
+// The first index from `from` on whose element is not below the lock; the length of the list if there is none.
 fn place_from(list: &[u32], from: usize, lock: u32) -> usize
     requires from { from ≤ length list.now }
     ensures within { result ≤ length list.now }

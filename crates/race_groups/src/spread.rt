@@ -1,4 +1,4 @@
-//! In which threads the events of each class are, and how many in each.
+//! The threads that have events of each class, and how many each has.
 ghost use Rattle.std.specs.Prelude.{◌≡◌, ℕ, ◌+◌, ◌-◌, ◌==◌, ◌<◌, ◌^◌, [], cond, length, All, IfOk, IfSome, OnOk, Some, slice_get};
 ghost use Rattle.rapid_text.specs.Recording.{IsWellFormed};
 ghost use Rattle.event_index.specs.Lookups.{events_of};
@@ -9,10 +9,10 @@ use event_index::Indexed;
 use rapid_text::OutOfMemory;
 use std::alloc::Global;
 
-/// For each class the threads that have events of it, each with how many.
+/// For each class the threads that have events of it, and each thread's number of events.
 pub(crate) type Spread = Vec<Vec<(u32, u32)>>;
 
-/// For each class of the trace.
+/// The spread of the trace's classes. Fails if memory runs out.
 pub(crate) fn spread_of(
     alloc: Global,
     indexed: &Indexed,
@@ -33,7 +33,7 @@ pub(crate) fn spread_of(
     Ok(made)
 }
 
-// The same, copied class by class, so that the entries of one class stand behind those of the class before it.
+// A copy in which the entries of each class follow those of the class before it in memory.
 fn packed(alloc: Global, spread: &[Vec<(u32, u32)>]) -> Result<Spread, OutOfMemory>
     ensures len { IfOk result (λ made. length made.items ≡ length spread.now) }
     ensures same { IfOk result (λ made. (c : ℕ) → entries_at made.items c ≡ entries_at spread.now c) }
@@ -46,7 +46,7 @@ fn packed(alloc: Global, spread: &[Vec<(u32, u32)>]) -> Result<Spread, OutOfMemo
     Ok(made)
 }
 
-// No events yet.
+// A spread without events.
 fn empty(alloc: Global, many: usize) -> Result<Spread, OutOfMemory>
     ensures len { IfOk result (λ spread. length spread.items ≡ many) }
     ensures none { IfOk result (λ spread. (c : ℕ) → entries_at spread.items c ≡ []) }
@@ -58,7 +58,7 @@ fn empty(alloc: Global, many: usize) -> Result<Spread, OutOfMemory>
     Ok(spread)
 }
 
-// All events of the thread, which has none yet.
+// Adds all events of the thread, which has none yet.
 fn note_thread(
     spread: &mut Spread,
     indexed: &Indexed,
@@ -82,7 +82,7 @@ fn note_thread(
     Ok(())
 }
 
-// One event more of the class, of this thread.
+// Adds one event of the class by this thread.
 fn note_class(spread: &mut Spread, class: u32, thread: u32) -> Result<(), OutOfMemory>
     requires class { class < length spread.old.items }
     requires room { weighed_sum (λ t. 1) (entries_at spread.old.items class) < 2 ^ 32 - 1 }
@@ -96,7 +96,7 @@ fn note_class(spread: &mut Spread, class: u32, thread: u32) -> Result<(), OutOfM
     Ok(())
 }
 
-// The events of a thread come one after the other.
+// Adds one event of the thread. Events of one thread are added in a row.
 fn note(entries: &mut Vec<(u32, u32)>, thread: u32) -> Result<(), OutOfMemory>
     requires room { weighed_sum (λ t. 1) entries.old.items < 2 ^ 32 - 1 }
     ensures within { OnOk result ((n : ℕ) → thread < n → All (λ e. e.0 < n) entries.old.items → All (λ e. e.0 < n) entries.new.items) }
@@ -112,7 +112,7 @@ fn note(entries: &mut Vec<(u32, u32)>, thread: u32) -> Result<(), OutOfMemory>
     Ok(())
 }
 
-// How many events the last entry counts, where it is the thread's.
+// The number of events in the last entry, if that is the thread's.
 fn last_count(entries: &[(u32, u32)], thread: u32) -> Option<u32>
     ensures { IfSome result (λ n. (0 < length entries.now) × (slice_get entries.now (length entries.now - 1) ≡ Some (thread, n))) }
 {

@@ -1,4 +1,4 @@
-//! For the events of one class of a thread: how many events of each class come below their cuts, for all of them together.
+//! For the events of one class of a thread together: the number of events of each class below their cuts.
 ghost use Rattle.std.specs.Prelude.{◌≡◌, ℕ, ◌<◌, ◌≤◌, length, replicate, All};
 ghost use Rattle.rapid_text.specs.Recording.{IsWellFormed};
 ghost use Rattle.event_index.specs.Lookups.{events_of};
@@ -8,7 +8,7 @@ ghost use Rattle.race_groups.specs.Cuts.{IsCut};
 use crate::counting::{Classed, Cut, Front, Later};
 use crate::weighing::weigh_all;
 
-/// Sums up for the class of this number, in a front before which nothing comes.
+/// Computes the sums for class number `class`, in a front before which no event comes.
 pub(crate) fn sum_below<C: Cut>(
     front: &mut Front,
     classed: Classed<'_>,
@@ -46,7 +46,7 @@ fn count_class(classes: &[u32], events: &[u32], class: u32) -> u64
     count
 }
 
-// Goes through the thread's events of the class.
+// Visits the thread's events of the class.
 fn sum_up<C: Cut>(
     sums: &mut [u64],
     fronts: &mut [u32],

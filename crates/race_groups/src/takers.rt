@@ -1,4 +1,5 @@
-//! Which locks more than one thread takes. Two events that conflict are of two threads, so no other lock guards them.
+//! Finds the locks that more than one thread acquires. Two conflicting events are of two threads, so no other lock
+//! guards them.
 ghost use Rattle.std.specs.Prelude.{◌≡◌, ◌≢◌, ◌+◌, ◌<◌, ℕ, IfOk, IfSome, OnOk, None, Some, filter, length};
 ghost use Rattle.event_index.specs.Events.{op_at};
 ghost use Rattle.rapid_text.specs.declared.event.Op.TheVariants.{Acquire};
@@ -10,7 +11,7 @@ use event_index::Indexed;
 use rapid_text::OutOfMemory;
 use std::alloc::Global;
 
-/// For each lock the thread that takes it; the number of the threads where more than one does.
+/// For each lock the thread that acquires it; if more than one does, the number of threads.
 pub(crate) fn takers_of(alloc: Global, indexed: &Indexed) -> Result<Vec<u32>, OutOfMemory>
     ensures { IfOk result (λ takers. AreTakers indexed.now.events (length indexed.now.threads) takers.items) }
 {
@@ -27,7 +28,7 @@ pub(crate) fn takers_of(alloc: Global, indexed: &Indexed) -> Result<Vec<u32>, Ou
     Ok(takers)
 }
 
-// The lock that the event takes, where it takes one.
+// The lock that the event acquires, or None.
 fn lock_taken(indexed: &Indexed, event: u32) -> Option<u32>
     requires event { event < length indexed.now.events }
     ensures some { IfSome result (λ l. op_at indexed.now.events event ≡ Some (Acquire l)) }
@@ -37,7 +38,7 @@ fn lock_taken(indexed: &Indexed, event: u32) -> Option<u32>
     acquired(indexed.event(event).op)
 }
 
-// The lock that the event takes is nobody's where another thread takes it.
+// Marks the lock that the event acquires as shared if another thread acquires it.
 fn part(takers: &mut [u32], indexed: &Indexed, many: u32, event: u32)
     requires locks { length takers.old ≡ length indexed.now.locks }
     requires many { many ≡ length indexed.now.threads }
@@ -54,7 +55,7 @@ fn part(takers: &mut [u32], indexed: &Indexed, many: u32, event: u32)
     }
 }
 
-/// Keeps of these locks those that more than one of so many threads takes.
+/// Keeps those of these locks that more than one of `threads` threads acquires.
 pub(crate) fn keep_lent(
     kept: &mut Vec<u32>,
     locks: &[u32],

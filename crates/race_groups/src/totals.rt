@@ -1,5 +1,6 @@
-//! The number of all conflicting pairs of each pair of places, class by class: how many events there are of two classes, without those
-//! that are of one thread. No pair is looked at, and each is counted twice, once for each of its two events.
+//! Counts all conflicting pairs of each pair of places, class by class: the events of two classes are multiplied,
+//! without the pairs within one thread. No pair is visited, and each is counted twice, once for each of its two
+//! events.
 ghost use Rattle.std.specs.Prelude.{◌≡◌, ℕ, ◌+◌, ◌==◌, ◌^◌, ◌<◌, ◌≤◌, cond, length, All, IfOk, OnOk, Err, slice_index};
 ghost use Rattle.indexmap.specs.IndexMap.{index_map_len};
 ghost use Rattle.race_groups.specs.Basis.{HasRoom, IsBasis, total_of, totals_in, totals_of};
@@ -20,7 +21,7 @@ use event_index::Indexed;
 use rapid_text::OutOfMemory;
 use std::alloc::Global;
 
-// How many events are of each class.
+// The number of events of each class.
 fn totals_of(alloc: Global, indexed: &Indexed, classes: &Classes) -> Result<Vec<u64>, OutOfMemory>
     requires numbers { length classes.now.numbers.items ≡ length indexed.now.events }
     requires classes { All (λ c. c < length classes.now.infos.items) classes.now.numbers.items }
@@ -37,7 +38,7 @@ fn totals_of(alloc: Global, indexed: &Indexed, classes: &Classes) -> Result<Vec<
     Ok(made)
 }
 
-// How many events of a class each thread has, from its entries.
+// The number of events of a class in each thread, from its entries.
 fn weights_of(alloc: Global, threads: u32, entries: &[(u32, u32)]) -> Result<Vec<u64>, OutOfMemory>
     requires within { All (λ e. e.0 < threads) entries.now }
     requires few { weighed_sum (λ t. 1) entries.now < 2 ^ 64 }
@@ -53,7 +54,7 @@ fn weights_of(alloc: Global, threads: u32, entries: &[(u32, u32)]) -> Result<Vec
     Ok(made)
 }
 
-// Adds all pairs of an event of the class of this number with one of a class that is not greater.
+// Adds all pairs of an event of class number `class` with one of a class whose number is not greater.
 fn add_total(
     alloc: Global,
     rows: &mut GrowingRows,
@@ -82,7 +83,7 @@ fn add_total(
     }
 }
 
-// The same, with how many events of the class each thread has.
+// The same, given the number of events of the class in each thread.
 fn add_weighed(
     rows: &mut GrowingRows,
     basis: Basis<'_>,
@@ -126,7 +127,7 @@ fn add_weighed(
     Ok(())
 }
 
-// The same, where it is the turn of the class.
+// The same, if it is the turn of the class.
 fn add_own(
     alloc: Global,
     rows: &mut GrowingRows,
@@ -154,7 +155,8 @@ fn add_own(
     Ok(())
 }
 
-/// Counts all conflicting pairs of the classes whose turn it is, each twice; refused where there are more than `limit` pairs of places.
+/// Counts all conflicting pairs of the classes whose turn it is, each twice. Fails if there are more than `limit`
+/// pairs of places, or if memory runs out.
 pub(crate) fn add_totals(
     alloc: Global,
     rows: &mut GrowingRows,
@@ -178,7 +180,7 @@ pub(crate) fn add_totals(
     }
 }
 
-// The same, with how many events are of each class.
+// The same, given the number of events of each class.
 fn add_spread(
     alloc: Global,
     rows: &mut GrowingRows,
@@ -205,7 +207,7 @@ fn add_spread(
     }
 }
 
-// The same, with the threads that they are in: class by class.
+// The same, given also their threads, class by class.
 fn add_each(
     alloc: Global,
     rows: &mut GrowingRows,

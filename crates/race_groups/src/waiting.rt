@@ -1,5 +1,5 @@
-//! Candidates that wait to be added to their rows. Most candidates come to pairs of places that have a row, so they are only counted here,
-//! side by side for the places of one later event.
+//! Candidates that wait to be added to their rows. Most candidates belong to places that have a row. They are only
+//! counted here, and the counts for the places of one later event are side by side.
 ghost use Rattle.std.specs.Prelude.{◌≡◌, ◌≢◌, ◌⊎◌, ◌+◌, ◌<◌, ℕ, true, false, IfOk, slice_index};
 ghost use Rattle.race_groups.specs.Rows.{Part, part};
 ghost use Rattle.race_groups.specs.Waiting.{cell_at, waiting_at, waiting_of};
@@ -10,18 +10,19 @@ use crate::rows::Sums;
 use rapid_text::OutOfMemory;
 use std::alloc::Global;
 
-// For so many places there is a number for each two of them, in either order.
+// With up to this many places, there is a number for each two of them, in either order.
 const MOST: usize = 1_448;
 
-/// How many candidates wait for each row.
+/// The number of candidates that wait for each row.
 #[derive(Drop)]
 pub(crate) struct Waiting {
-    // By the places of the later event and of the earlier one: 0 if the row is not known, else one more than wait for it.
+    // By the places of the later event and of the earlier one: 0 if the row is not known, and otherwise the waiting
+    // candidates plus one.
     pub(crate) cells: Vec<Vec<u32>>,
 }
 
 impl Waiting {
-    /// No row is known yet. Without room for the classes' places nothing ever waits.
+    /// No row is known yet. If there are too many places, nothing ever waits. Fails if memory runs out.
     pub(crate) fn new(alloc: Global, infos: &[Class]) -> Result<Waiting, OutOfMemory>
         ensures { IfOk result (λ made. (p q : ℕ) → cell_at made.cells.items q p ≡ 0) }
     {
@@ -30,7 +31,7 @@ impl Waiting {
         Ok(Waiting { cells })
     }
 
-    /// Lets what is counted wait, and says whether it did: only if these are candidates of a row that is known.
+    /// Lets the counts wait, and returns whether it did. Only candidates of a known row can wait.
     pub(crate) fn keep(&mut self, earlier: u32, later: u32, more: Sums) -> bool
         ensures known { result ≡ true → 0 < cell_at self.old.cells.items later earlier }
         ensures more { result ≡ true → cell_at self.new.cells.items later earlier ≡ cell_at self.old.cells.items later earlier + more.candidates }
@@ -48,7 +49,7 @@ impl Waiting {
         )
     }
 
-    /// The row of the places is there. Of one place twice nothing waits.
+    /// Records that the row of the places exists. For one place twice nothing waits.
     pub(crate) fn open(&mut self, earlier: u32, later: u32)
         ensures { (p q : ℕ) → (cell_at self.new.cells.items q p ≡ cell_at self.old.cells.items q p)
             ⊎ ((q ≡ later) × (p ≡ earlier) × (q ≢ p) × (cell_at self.old.cells.items q p ≡ 0) × (cell_at self.new.cells.items q p ≡ 1)) }
@@ -59,7 +60,7 @@ impl Waiting {
         begin(self.cells[later as usize].as_mut_slice(), earlier as usize);
     }
 
-    /// How many candidates of two places wait.
+    /// The number of candidates of two places that wait.
     pub(crate) fn of(&self, first: u32, second: u32) -> u64
         ensures { result ≡ waiting_at self.now.cells.items first second }
     {
@@ -70,7 +71,7 @@ impl Waiting {
     }
 }
 
-// 0 for each two of so many places.
+// A table of zeros for each two of `width` places.
 fn zeros(alloc: Global, width: usize) -> Result<Vec<Vec<u32>>, OutOfMemory>
     ensures { IfOk result (λ cells. (p q : ℕ) → cell_at cells.items q p ≡ 0) }
 {
@@ -89,7 +90,7 @@ fn are_candidates(more: Sums) -> bool
     more.all == 0 && more.ordered == 0 && more.guarded == 0
 }
 
-// Raises the number at this place, if it is not 0 and the sum fits, and says whether it did.
+// Raises the number at this index if it is not 0 and the sum fits. Returns whether it did.
 fn raise(row: &mut [u32], at: usize, more: u64) -> bool
     ensures known { result ≡ true → 0 < slice_index row.old at }
     ensures more { result ≡ true → slice_index row.new at ≡ slice_index row.old at + more }
@@ -107,7 +108,7 @@ fn raise(row: &mut [u32], at: usize, more: u64) -> bool
     true
 }
 
-// Puts 1 where 0 is.
+// Changes 0 at this index to 1.
 fn begin(row: &mut [u32], at: usize)
     ensures { (p : ℕ) → (slice_index row.new p ≡ slice_index row.old p) ⊎ ((p ≡ at) × (slice_index row.old p ≡ 0) × (slice_index row.new p ≡ 1)) }
 {
@@ -126,7 +127,7 @@ fn cell(cells: &[Vec<u32>], later: u32, earlier: u32) -> u32
     }
 }
 
-// The number at this place, 0 past the end.
+// The number at this index, or 0 past the end.
 fn number_at(row: &[u32], at: usize) -> u32
     ensures { result ≡ slice_index row.now at }
 {

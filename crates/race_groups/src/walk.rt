@@ -1,4 +1,4 @@
-//! What one later event, or all those of one class of a thread, add to the rows.
+//! Adds to the rows what one later event, or all those of one class of a thread, have with earlier events.
 ghost use Rattle.std.specs.Prelude.{◌≡◌, ℕ, ◌+◌, ◌^◌, ◌<◌, ◌≤◌, length, All, Bool, Some, true, false, IfSome, OnOk, if◌then◌else◌, slice_index};
 ghost use Rattle.event_index.specs.Relations.{is_clash_of_ops};
 ghost use Rattle.race_groups.specs.Adding.{added_of, AreGrown, HasRoomFor};
@@ -17,7 +17,7 @@ use crate::writers::Walk;
 use indexmap::IndexSet;
 use rapid_text::{Op, OutOfMemory};
 
-// The sums of pairs of two classes. Whether these hold a lock in common matters only where SHB orders some of the pairs.
+// The sums of pairs of two classes. A common lock of these matters only if SHB orders some of the pairs.
 fn sums_of(lists: &IndexSet<Vec<u32>>, earlier: Class, later: Class, share: Share) -> Sums
     ensures { (k : Part) → part k result ≡ (if keeps lists.now.keys k earlier later then amount k share else 0) }
 {
@@ -27,7 +27,8 @@ fn sums_of(lists: &IndexSet<Vec<u32>>, earlier: Class, later: Class, share: Shar
     share.sums(are_sharing(lists, earlier.held, later.held))
 }
 
-// Adds the pairs of so many events of one class with one event of another. Few classes come to this, so the walk over all of them stays short.
+// Adds the pairs of the events of one class with one event of another. Only few classes get here, so the walk over
+// all of them stays short.
 #[inline(never)]
 fn add_pairs(
     rows: &mut GrowingRows,
@@ -51,8 +52,8 @@ fn add_pairs(
     Ok(())
 }
 
-// The same of the class of this number. It is looked at only where there is something to add, so for most classes
-// this step is all, and a call would cost more than it does.
+// The same for the class with this number. It is looked up only if there is something to add. For most classes this
+// test is all, and a call would cost more than the test.
 #[inline(always)]
 fn add_share(
     rows: &mut GrowingRows,
@@ -76,7 +77,7 @@ fn add_share(
     Ok(())
 }
 
-// Whether the two access one variable, at least one writing it.
+// Whether the two operations access one variable, and at least one writes it.
 fn clash(first: Op, second: Op) -> bool
     ensures { result ≡ is_clash_of_ops first second }
 {
@@ -87,7 +88,7 @@ fn clash(first: Op, second: Op) -> bool
     }
 }
 
-// The same of each of these classes, which are not the thread's own.
+// The same for each of these classes, which are not the thread's own.
 fn add_run<A: Shares>(
     rows: &mut GrowingRows,
     shares: &A,
@@ -109,7 +110,8 @@ fn add_run<A: Shares>(
     Ok(())
 }
 
-/// Adds what an event of a class, or several of them, have with the events of other threads, as it is told by class.
+/// Adds the pairs of one or several events of a class with the events of other threads, whose shares are given by
+/// class.
 pub(crate) fn add_members<A: Shares>(
     rows: &mut GrowingRows,
     shares: &A,
@@ -143,7 +145,7 @@ pub(crate) fn add_members<A: Shares>(
     Ok(())
 }
 
-/// The same for a class, of which `owner` has all events, if there is one.
+/// The same for a class whose events all belong to `owner`, if there is one.
 pub(crate) fn add_all<A: Shares>(
     rows: &mut GrowingRows,
     shares: &A,

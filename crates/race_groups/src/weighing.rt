@@ -1,5 +1,5 @@
-//! Weighs the events that come before cuts: where many later events of a thread are of one class, an event is weighed by how
-//! many of them are still to come when it first comes before their cut, and not counted for each.
+//! Weighs the events before cuts. If many later events of a thread are of one class, an event is not counted for each
+//! of them. Its weight is the number of these that are still to come when it first comes before their cut.
 ghost use Rattle.std.specs.Prelude.{◌≡◌, ◌≢◌, ℕ, ◌+◌, ◌^◌, ◌<◌, ◌≤◌, length, All, sum_by, slice_index, slice_set};
 ghost use Rattle.rapid_text.specs.Recording.{IsWellFormed};
 ghost use Rattle.event_index.specs.Lookups.{events_of};
@@ -7,7 +7,7 @@ ghost use Rattle.race_groups.specs.Counting.{AreFronts, AreWeighed, weigh as wei
 
 use crate::counting::{Classed, Cut, Later};
 
-// Adds to the sum of each event's class.
+// Adds the weight to the sum of each event's class.
 fn weigh(sums: &mut [u64], classes: &[u32], events: &[u32], left: u64)
     requires events { All (λ e. e < length classes.now) events.now }
     requires classes { All (λ c. c < length sums.old) classes.now }
@@ -20,7 +20,7 @@ fn weigh(sums: &mut [u64], classes: &[u32], events: &[u32], left: u64)
     }
 }
 
-// Moves the front of one thread on.
+// Moves the front of one thread.
 fn weigh_on(
     sums: &mut [u64],
     fronts: &mut [u32],
@@ -51,7 +51,7 @@ fn weigh_on(
     fronts[thread as usize] = to;
 }
 
-/// Moves the fronts of all other threads on to the ends of a later event.
+/// Moves the fronts of all other threads to the ends of a later event.
 pub(crate) fn weigh_all<C: Cut>(
     sums: &mut [u64],
     fronts: &mut [u32],

@@ -1,4 +1,5 @@
-//! The counts of a trace by several workers: each counts the threads and classes whose turn it is, and then all are added up.
+//! Counts a trace's pairs with several workers: each counts the threads and classes whose turn it is, and then all
+//! are summed.
 ghost use Rattle.std.specs.Prelude.{◌≡◌, ℕ, ◌+◌, ◌^◌, ◌<◌, ◌≤◌, Err, IfOk, OnOk, length, slice_index};
 ghost use Rattle.indexmap.specs.IndexMap.{index_map_len};
 ghost use Rattle.race_groups.specs.Basis.{AreFewAll, AreJoined, AreParts, IsBasis, IsPart};
@@ -20,7 +21,7 @@ use std::alloc::Global;
 use std::thread;
 use std::thread::Threads;
 
-/// The same counts as `count_cuts`, by so many workers.
+/// The same counts as `count_cuts`, with `workers` workers.
 pub(crate) fn count_by_workers<R: Threads + Sync>(
     rt: &R,
     alloc: Global,
@@ -54,7 +55,7 @@ pub(crate) fn count_by_workers<R: Threads + Sync>(
     }
 }
 
-// What all workers count.
+// The counts of all workers.
 fn in_turns<R: Threads + Sync>(
     rt: &R,
     alloc: Global,
@@ -78,7 +79,7 @@ fn in_turns<R: Threads + Sync>(
     joined(alloc, places, basis, limit, parts.as_slice())
 }
 
-// What the worker of this number counts.
+// The counts of worker `worker`.
 fn count_some(
     alloc: Global,
     places: &[u32],
@@ -102,7 +103,7 @@ fn count_some(
     count_in_turn(alloc, places, own, limit)
 }
 
-// All parts together.
+// Joins all parts.
 fn joined(
     alloc: Global,
     places: &[u32],
@@ -156,7 +157,7 @@ fn add_parts(
     Ok(())
 }
 
-// Adds what one worker counted.
+// Adds the counts of one worker.
 fn add_part(
     all: &mut GrowingRows,
     _places: &[u32],
@@ -186,7 +187,7 @@ fn add_part(
     }
 }
 
-// Adds the rows of a part; refused where there are then more than `limit`.
+// Adds the rows of a part. Fails if there are then more than `limit` rows.
 fn add_rows(all: &mut GrowingRows, limit: u32, part: &Rows) -> Result<(), RowsRefusal>
     requires all { AreRows all.old }
     requires kept { index_map_len all.old ≤ limit }
@@ -208,7 +209,7 @@ fn add_rows(all: &mut GrowingRows, limit: u32, part: &Rows) -> Result<(), RowsRe
     Ok(())
 }
 
-// Adds the row of a part at this place.
+// Adds the row at this index of a part.
 fn add_row(all: &mut GrowingRows, part: &Rows, at: usize) -> Result<(), OutOfMemory>
     requires all { AreRows all.old }
     requires part { AreRows part.now }

@@ -1,4 +1,5 @@
-//! With which classes an operation conflicts: a read is in no pair with another read, and no event with one of its own thread.
+//! The classes with which an operation conflicts: a read forms no pair with another read, and no event with one of
+//! its thread.
 ghost use Rattle.std.specs.Prelude.{◌≡◌, ◌<◌, ◌≤◌, All, IfOk, filter, length, slice_get};
 ghost use Rattle.event_index.specs.Relations.{is_access};
 ghost use Rattle.race_groups.specs.Classes.{AreConflicting, AreMembers, AreWriters, is_writing, is_writing_op};
@@ -12,19 +13,19 @@ use event_index::Indexed;
 use rapid_text::{Op, OutOfMemory};
 use std::alloc::Global;
 
-/// For each variable the classes that write it, and how the classes of one thread are passed by.
+/// For each variable the classes that write it; and tables to skip the classes of one thread.
 #[derive(Drop)]
 pub(crate) struct Conflicts {
     pub(crate) writers: Vec<Vec<u32>>,
     /// For each class the thread that has all its events.
     pub(crate) owners: Vec<u32>,
-    /// Where the runs of classes of one owner end, among those that access each variable.
+    /// The ends of the runs of classes with one owner, among those that access each variable.
     pub(crate) runs: Vec<Vec<usize>>,
-    /// The same among those that write it.
+    /// The same among those that write the variable.
     pub(crate) writer_runs: Vec<Vec<usize>>,
 }
 
-/// The classes with which an operation conflicts, and where runs of one owner end among them.
+/// The classes with which an operation conflicts, and the ends of the runs with one owner among them.
 #[derive(Clone, Copy)]
 pub(crate) struct Walk<'a> {
     pub(crate) members: &'a [u32],
@@ -33,7 +34,7 @@ pub(crate) struct Walk<'a> {
 }
 
 impl Conflicts {
-    /// Those of a trace's classes.
+    /// The tables for a trace's classes. Fails if memory runs out.
     pub(crate) fn of(
         alloc: Global,
         indexed: &Indexed,
@@ -59,7 +60,7 @@ impl Conflicts {
     }
 }
 
-// For each variable those of its classes that write it.
+// For each variable, the classes that write it.
 fn writers_of(
     alloc: Global,
     infos: &[Class],
@@ -76,7 +77,7 @@ fn writers_of(
     Ok(writers)
 }
 
-// Those of the classes that write.
+// The classes that write, among these.
 fn writing(alloc: Global, infos: &[Class], members: &[u32]) -> Result<Vec<u32>, OutOfMemory>
     requires { All (λ c. c < length infos.now) members.now }
     ensures { IfOk result (λ writers. writers.items ≡ filter (λ c. is_writing (slice_get infos.now c)) members.now) }

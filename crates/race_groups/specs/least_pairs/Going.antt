@@ -1,5 +1,5 @@
--- What is known while the variables are gone through. No public clause cites this module. `r` is a recording, `place` tells the place of each
--- event, `rows` are the rows of all pairs of places, `most` is how many open pairs are kept.
+-- What holds while the variables are visited. No public clause cites this module. `r` is a recording; `place` has the
+-- place of each event, `rows` are the rows of all pairs of places, and `most` is the most open pairs that are kept.
 use Rattle.std.specs.Prelude.{◌≡◌, ◌≢◌, ◌⊎◌, ℕ, ◌+◌, ◌%◌, ◌<◌, ◌≤◌, ◌||◌, true, false, Bool, List, length, All, Some, slice_get, slice_index, Vec}
 use Rattle.std.specs.declared.alloc.Global.{Global}
 use Rattle.rapid_text.specs.Recording.{Recording, IsWellFormed}
@@ -31,17 +31,17 @@ use Rattle.race_groups.specs.declared.least_pairs.leasts.Sought.TheVariants.{Can
 use Rattle.race_groups.specs.declared.least_pairs.windows.Window.{Window}
 use Rattle.race_groups.specs.declared.least_pairs.tries.Between.{Between}
 
--- For each row, what was found so far of the variables with P.
+-- For each row, the findings so far on the variables with P.
 pub record AreSoFar (r : Recording) (place : ℕ → ℕ) (rows : List Row) (most : ℕ) (P : ℕ → Type 0) (x : ℕ) (leasts : List Least) : Type 0 where
   pub len : length leasts ≡ length rows
   pub each : (at : ℕ) (row : Row) (l : Least) → slice_get rows at ≡ Some row → slice_get leasts at ≡ Some l → IsSoFar r place row.places most P x l
 
--- What was held of each row is held.
+-- What each row held, it still holds.
 pub record AreMore (most x : ℕ) (old new : List Least) : Type 0 where
   pub len : length new ≡ length old
   pub each : (at : ℕ) (l m : Least) → slice_get old at ≡ Some l → slice_get new at ≡ Some m → IsMore most x l m
 
--- The row of the two events holds their pair or one that stands before it, as a candidate.
+-- The row of the two events holds their pair as a candidate, or one that comes before it.
 pub record IsCandidateHeld (place : ℕ → ℕ) (rows : List Row) (leasts : List Least) (a b : ℕ) : Type 0 where
   pub at : ℕ
   pub row : Row
@@ -51,7 +51,7 @@ pub record IsCandidateHeld (place : ℕ → ℕ) (rows : List Row) (leasts : Lis
   pub there : AreAt place row.places a b
   pub holds : HoldsUp (b, a) found.candidate
 
--- The same as an open pair, where the row has no candidate.
+-- The same as an open pair, if the row has no candidate.
 pub record IsOpenHeld (place : ℕ → ℕ) (rows : List Row) (most : ℕ) (leasts : List Least) (of : Between) (a b : ℕ) : Type 0 where
   pub at : ℕ
   pub row : Row
@@ -61,7 +61,7 @@ pub record IsOpenHeld (place : ℕ → ℕ) (rows : List Row) (most : ℕ) (leas
   pub there : AreAt place row.places a b
   pub holds : (0 < row.counts.candidates) ⊎ HoldsTry most of (b, a) found.tries.items
 
--- The variable x was counted for the row of the two events.
+-- The row of the two events has counted the variable x.
 pub record IsVariableHeld (place : ℕ → ℕ) (rows : List Row) (x : ℕ) (leasts : List Least) (a b : ℕ) : Type 0 where
   pub at : ℕ
   pub row : Row
@@ -76,31 +76,31 @@ pub record IsHeld (r : Recording) (place : ℕ → ℕ) (rows : List Row) (most 
   pub candidate : IsKind r a b CandidateKind → IsCandidateHeld place rows leasts a b
   pub opens : (of : Between) → IsOf r.events of a b → IsKind r a b OpenKind → IsOpenHeld place rows most leasts of a b
 
--- and the variable x was counted for it
+-- and the variable x is counted for it
 pub record IsTaken (r : Recording) (place : ℕ → ℕ) (rows : List Row) (most x : ℕ) (leasts : List Least) (a b : ℕ) : Type 0 where
   pub held : IsHeld r place rows most leasts a b
   pub counted : IsKind r a b CandidateKind ⊎ IsKind r a b OpenKind → IsVariableHeld place rows x leasts a b
 
--- all pairs of the variable
+-- all pairs of the variable are taken
 abbrev pub AreAllTaken : Recording → (ℕ → ℕ) → List Row → ℕ → ℕ → List Least → Type 0
 AreAllTaken r place rows most x leasts =
     (a b : ℕ) → IsPair r.events a b → is_access_at r.events x a ≡ true → IsTaken r place rows most x leasts a b
 
--- all pairs of the variables below x with P
+-- all pairs of the variables below x with P are held
 abbrev pub AreHeldBelow : Recording → (ℕ → ℕ) → List Row → ℕ → (ℕ → Type 0) → ℕ → List Least → Type 0
 AreHeldBelow r place rows most P x leasts =
     (y a b : ℕ) → y < x → P y → IsPair r.events a b → is_access_at r.events y a ≡ true → IsHeld r place rows most leasts a b
 
--- an event of the lane is held with one of the later lane: as a candidate
+-- the pair of an earlier and a later event is held as a candidate, and its variable is counted
 abbrev pub HoldsCandidate : (ℕ → ℕ) → List Row → ℕ → List Least → ℕ → ℕ → Type 0
 HoldsCandidate place rows x leasts a b = IsCandidateHeld place rows leasts a b × IsVariableHeld place rows x leasts a b
 
--- as an open pair, where the two have no lock in common
+-- the pair is held as an open pair, unless both threads hold a common lock
 abbrev pub HoldsOpen : (ℕ → ℕ) → List Row → ℕ → List Least → Between → List Class → List ℕ → List (Vec ℕ Global) → ℕ → ℕ → Type 0
 HoldsOpen place rows most leasts of infos numbers lists a b =
     is_kept_pair (keeps_shared lists) numbers infos a b ≡ false → IsOpenHeld place rows most leasts of a b × IsVariableHeld place rows of.variable leasts a b
 
--- What was counted of the trace, and where its cuts end, as it is asked for.
+-- The tables of a search are of one trace, and its flags and options fit.
 pub record IsSound (s : Search) : Type 0 where
   pub formed : IsWellFormed s.indexed.now
   pub rules : IsDisciplined s.indexed.now.events
@@ -116,23 +116,23 @@ pub record IsSound (s : Search) : Type 0 where
   pub no_candidate : s.has_candidates ≡ false → All (λ (row : Row). row.counts.candidates ≡ 0) s.groups.now.rows.items
   pub no_open : s.has_open ≡ false → All (λ (row : Row). row.counts.open_pairs ≡ 0) s.groups.now.rows.items
 
--- the variables whose turn it is: their numbers leave this rest
+-- the variables whose turn it is: their numbers leave this remainder
 abbrev pub IsTurn : ℕ → ℕ → ℕ → Type 0
 IsTurn every from x = x % every ≡ from
 
 abbrev pub IsOwn : Search → ℕ → Type 0
 IsOwn s = IsTurn s.every s.from
 
--- what was found so far of the variables whose turn it is
+-- the findings so far on the variables whose turn it is
 abbrev pub AreFoundBelow : Search → ℕ → List Least → Type 0
 AreFoundBelow s x leasts = AreSoFar s.indexed.now (slice_index s.places.now) s.groups.now.rows.items s.most (IsOwn s) x leasts
 
--- The same while one of these, x, is gone through.
+-- The same while x, one of these variables, is visited.
 pub record AreFound (s : Search) (x : ℕ) (leasts : List Least) : Type 0 where
   pub so_far : AreFoundBelow s x leasts
   pub own : IsOwn s x
 
--- All pairs of the variables with P were taken in.
+-- All pairs of the variables with P are in the findings.
 pub record AreFoundOf (s : Search) (P : ℕ → Type 0) (leasts : List Least) : Type 0 where
   pub so_far : AreSoFar s.indexed.now (slice_index s.places.now) s.groups.now.rows.items s.most P (length s.indexed.now.variables) leasts
   pub held : AreHeldBelow s.indexed.now (slice_index s.places.now) s.groups.now.rows.items s.most P (length s.indexed.now.variables) leasts
@@ -144,19 +144,19 @@ abbrev pub HasOpen : Search → List Least → Between → ℕ → ℕ → Type 
 HasOpen s leasts of =
     HoldsOpen (slice_index s.places.now) s.groups.now.rows.items s.most leasts of s.classes.now.infos.items s.classes.now.numbers.items s.classes.now.lists.keys
 
--- all pairs of the variable with a later event below n
+-- all pairs of the variable whose later event is below n are taken
 abbrev pub AreTakenBefore : Search → ℕ → List Least → ℕ → Type 0
 AreTakenBefore s x leasts n =
     (a b : ℕ) → IsPair s.indexed.now.events a b → is_access_at s.indexed.now.events x a ≡ true → b < n
     → IsTaken s.indexed.now (slice_index s.places.now) s.groups.now.rows.items s.most x leasts a b
 
--- all pairs of the later event with those of a lane
+-- all pairs of the later event with those of a lane are taken
 abbrev pub AreTakenWith : Search → List Least → Lane → Later → Type 0
 AreTakenWith s leasts l later =
     (k : ℕ) → k < length l.events.items → IsPair s.indexed.now.events (slice_index l.events.items k) later.event
     → IsTaken s.indexed.now (slice_index s.places.now) s.groups.now.rows.items s.most later.variable leasts (slice_index l.events.items k) later.event
 
--- A lane of events up to the later one, which conflict with it.
+-- A lane of events that are not after the later one, and conflict with it.
 pub record AreClashing (s : Search) (l : Lane) (later : Later) : Type 0 where
   pub begun : IsBegun s.indexed.now.events s.classes.now.numbers.items later.variable (later.event + 1) l
   pub one : IsLater s.indexed.now.events s.classes.now.numbers.items later
@@ -165,12 +165,12 @@ pub record AreClashing (s : Search) (l : Lane) (later : Later) : Type 0 where
   pub threads : l.thread ≢ later.thread
   pub writes : (l.is_writing || later.is_writing) ≡ true
 
--- what is held of a pair that is sought
+-- the pair is held as a pair of the kind that the search visits
 abbrev pub Has : Sought → Search → List Least → Between → ℕ → ℕ → Type 0
 Has Candidates s leasts of = HasCandidate s of.variable leasts
 Has Opens s leasts of = HasOpen s leasts of
 
--- whether the trace has any
+-- whether the trace has any pairs of this kind
 abbrev pub has_some : Sought → Search → Bool
 has_some Candidates s = s.has_candidates
 has_some Opens s = s.has_open
@@ -179,12 +179,13 @@ abbrev pub kind_of : Sought → Kind
 kind_of Candidates = CandidateKind
 kind_of Opens = OpenKind
 
--- The pair may be taken in: a candidate, or one that SHB orders and must-before does not, which a lock may guard.
+-- The search may visit the pair: a candidate; or a pair that SHB orders and must-before does not, which a lock may
+-- guard.
 abbrev pub IsSought : Sought → Recording → ℕ → ℕ → Type 0
 IsSought Candidates r a b = IsKind r a b CandidateKind
 IsSought Opens r a b = IsKnownBefore r.events a b × (¬ IsForced r.events a b)
 
--- The pairs of the window's events with its later one may be taken in.
+-- The search may visit the pairs of the window's events with its later one.
 pub record IsWindow (sought : Sought) (s : Search) (w : Window) : Type 0 where
   pub lanes : AreClashing s w.lane.now w.later
   pub within : w.end ≤ length w.lane.now.events.items
@@ -192,7 +193,7 @@ pub record IsWindow (sought : Sought) (s : Search) (w : Window) : Type 0 where
       → IsPair s.indexed.now.events (slice_index w.lane.now.events.items k) w.later.event
       × IsSought sought s.indexed.now (slice_index w.lane.now.events.items k) w.later.event
 
--- the event at a place of the lane was gone through with event p
+-- the event at index k of the lane was compared with event p
 abbrev pub WasSeen : Sought → Search → Window → ℕ → ℕ → Type 0
 WasSeen Candidates s w p k = slice_index w.lane.now.events.items k < p
 WasSeen Opens s w p k = place_of s.indexed.now.events (slice_index w.lane.now.events.items k) < known_before s.indexed.now.events p w.lane.now.thread

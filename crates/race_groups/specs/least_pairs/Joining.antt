@@ -1,4 +1,4 @@
--- What several workers find of different variables, put together. No public clause cites this module.
+-- The joined findings of several workers on different variables. No public clause cites this module.
 use Rattle.std.specs.Prelude.{◌≡◌, ◌⊎◌, ℕ, ◌+◌, ◌<◌, ◌%◌, List, length, All, Contains, None}
 use Rattle.std.specs.List.{slice_index_or}
 use Rattle.race_groups.specs.least_pairs.Taking.{AreTries, HoldsTry, HoldsUp}
@@ -6,18 +6,18 @@ use Rattle.race_groups.specs.declared.least_pairs.least.Least.{Least}
 use Rattle.race_groups.specs.declared.least_pairs.tries.Between.{Between}
 use Rattle.race_groups.specs.declared.least_pairs.tries.Try.{Try}
 
--- the variables of the first few workers
+-- the variables of the first `workers` workers
 abbrev pub IsBelow : ℕ → ℕ → ℕ → Type 0
 IsBelow every workers x = x % every < workers
 
--- The tries of a part were taken in.
+-- The tries of a part are added.
 pub record AreTriesJoined (most : ℕ) (part old new : List Try) : Type 0 where
   pub tries : AreTries most new
   pub each : All (λ (t : Try). Contains part t ⊎ Contains old t) new
   pub more : (of : Between) (p : ℕ × ℕ) → HoldsTry most of p old → HoldsTry most of p new
   pub other : (of : Between) (p : ℕ × ℕ) → HoldsTry most of p part → HoldsTry most of p new
 
--- What a part found of other variables was taken in.
+-- The findings of a part on other variables are added.
 pub record IsJoined (most : ℕ) (part old new : Least) : Type 0 where
   pub variables : new.variables ≡ old.variables + part.variables
   pub last : new.last ≡ None
@@ -26,7 +26,7 @@ pub record IsJoined (most : ℕ) (part old new : Least) : Type 0 where
   pub other : (p : ℕ × ℕ) → HoldsUp p part.candidate → HoldsUp p new.candidate
   pub tries : AreTriesJoined most part.tries.items old.tries.items new.tries.items
 
--- The same of each row.
+-- The same for each row.
 pub record AreJoined (most : ℕ) (part old new : List Least) : Type 0 where
   pub len : length new ≡ length old
   pub each : (at : ℕ) (d : Least) → at < length old

@@ -1,4 +1,4 @@
--- What is noted of candidates that were taken in. No public clause cites this module.
+-- What remembered candidates mean. No public clause cites this module.
 use Rattle.std.specs.Prelude.{◌≡◌, ℕ, ◌<◌, ◌≤◌, All, List, slice_index}
 use Rattle.race_groups.specs.least_pairs.Going.{HasCandidate}
 use Rattle.race_groups.specs.least_pairs.Pairs.{IsPair}
@@ -7,11 +7,11 @@ use Rattle.race_groups.specs.declared.least_pairs.leasts.Search.{Search}
 use Rattle.race_groups.specs.declared.least_pairs.noted.Note.{Note}
 use Rattle.race_groups.specs.declared.least_pairs.noted.Noted.{Noted}
 
--- of no variable but the first, and no event comes behind its later event
+-- an empty note: its variable is 0, and no event comes after its later event
 abbrev pub IsNothing : Note → Type 0
 IsNothing n = (n.variable ≡ 0) × (n.later ≡ 4294967295)
 
--- Where the note is of variable x, each pair of its places with a later event behind its own is held.
+-- If the note is of variable x, each pair of its places whose later event comes after the note's is held.
 pub record IsTrueNote (s : Search) (x : ℕ) (leasts : List Least) (n : Note) : Type 0 where
   pub reached : n.variable ≤ x
   pub held :

@@ -1,6 +1,6 @@
--- The pairs of events that stand for a pair of places: the least of a kind, and the least open ones of each variable and two threads.
--- A pair is given by its later event and then by its earlier one. `T` is the events of a trace, `r` its recording, `place` tells the
--- place of each event. All notions here are this project's own.
+-- The pairs of events that represent a pair of places: the least of a kind, and the least open ones of each variable
+-- and two threads. A pair is given by its later event and then by its earlier one. `T` is the events of a trace, `r`
+-- its recording; `place` has the place of each event. All notions here are this project's own.
 use Rattle.std.specs.Prelude.{◌≡◌, ◌⊎◌, ℕ, ◌<◌, ◌≤◌, true, Bool, List, length, All, AllPairs, Any, Option, Some, None, Vec, ⊤}
 use Rattle.std.specs.declared.alloc.Global.{Global}
 use Rattle.rapid_text.specs.Recording.{Recording}
@@ -37,29 +37,29 @@ pub record IsPair (T : List Event) (a b : ℕ) : Type 0 where
   pub earlier : a < b
   pub within : b < length T
 
--- the pair is of the kind that is asked for
+-- the pair is of the wanted kind
 abbrev pub IsWanted : Recording → ℕ → ℕ → Wanted → Type 0
 IsWanted r a b Candidate = IsKind r a b CandidateKind
 IsWanted r a b Open = IsKind r a b OpenKind
 IsWanted r a b AnyKind = ⊤
 
--- the two events lie at the two places, in one order or the other
+-- the two events have the two places, in one order or the other
 abbrev pub AreAt : (ℕ → ℕ) → ℕ × ℕ → ℕ → ℕ → Type 0
 AreAt place places a b = is_between places.0 places.1 (place a) (place b) ≡ true
 
--- a conflicting pair of these two places, of the kind that is asked for
+-- a conflicting pair of these two places, of the wanted kind
 pub record IsFit (r : Recording) (place : ℕ → ℕ) (places : ℕ × ℕ) (wanted : Wanted) (a b : ℕ) : Type 0 where
   pub pair : IsPair r.events a b
   pub at : AreAt place places a b
   pub kind : IsWanted r a b wanted
 
--- the least pair of these places that is of the kind, and none where there is none
+-- the least pair of these places of the wanted kind, or None if there is none
 abbrev pub IsLeastPair : Recording → (ℕ → ℕ) → ℕ × ℕ → Wanted → Option (ℕ × ℕ) → Type 0
 IsLeastPair r place places wanted None = (a b : ℕ) → ¬ IsFit r place places wanted a b
 IsLeastPair r place places wanted (Some p) =
     IsFit r place places wanted p.1 p.0 × ((a b : ℕ) → IsFit r place places wanted a b → IsUpTo p (b, a))
 
--- whether there is such an event, and it accesses the variable
+-- whether the event exists and accesses the variable
 abbrev pub is_access_at : List Event → ℕ → ℕ → Bool
 is_access_at T x e = passes_at (λ v. is_access x v.op) T e
 
@@ -74,13 +74,15 @@ pub record IsOpenOf (r : Recording) (place : ℕ → ℕ) (places : ℕ × ℕ) 
   pub fit : IsFit r place places Open a b
   pub of_these : IsOf r.events of a b
 
--- Of each variable and two threads the least open pair of these places; of these pairs the first `most`, in rising order.
+-- The least open pair of these places for each variable and two threads; of these pairs the first `most`, in rising
+-- order.
 pub record AreFirstTries (r : Recording) (place : ℕ → ℕ) (places : ℕ × ℕ) (most : ℕ) (tries : List Try) : Type 0 where
   pub each : All (λ (t : Try). IsOpenOf r place places t.between t.pair.1 t.pair.0) tries
   pub least : All (λ (t : Try). (a b : ℕ) → IsOpenOf r place places t.between a b → IsUpTo t.pair (b, a)) tries
   pub rising : AllPairs (λ (t u : Try). IsAhead t.pair u.pair) tries
   pub few : length tries ≤ most
-  -- where a variable and two threads are left out, there are as many as may be, and none of theirs stands before one of these
+  -- if a variable and two threads are left out, there are `most` pairs, and none of theirs comes before one of the
+  -- list
   pub first :
       (of : Between) (a b : ℕ) → IsOpenOf r place places of a b
       → Any (λ (t : Try). t.between ≡ of) tries ⊎ ((length tries ≡ most) × All (λ (t : Try). IsUpTo t.pair (b, a)) tries)
@@ -92,8 +94,8 @@ pub record HasPair (r : Recording) (place : ℕ → ℕ) (places : ℕ × ℕ) (
   pub fit : IsFit r place places Candidate first second ⊎ IsFit r place places Open first second
   pub access : is_access_at r.events x first ≡ true
 
--- What is found of a pair of places: the least candidate; where there is none, the open pairs that are tried; and how many variables have a
--- candidate or an open pair.
+-- The findings on a pair of places: the least candidate; if there is none, the open pairs to be tried; and the number
+-- of variables with a candidate or an open pair.
 pub record AreLeasts (r : Recording) (place : ℕ → ℕ) (places : ℕ × ℕ) (most : ℕ) (found : Least) : Type 0 where
   pub candidate : IsLeastPair r place places Candidate found.candidate
   pub tries : found.candidate ≡ None → AreFirstTries r place places most found.tries.items

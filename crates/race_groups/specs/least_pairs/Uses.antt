@@ -1,5 +1,6 @@
--- The first accesses of each place, which stand for all of them, and what is kept of each row while they are gone through. No public clause
--- cites this module. `T` is the events of a trace, `r` is its recording, `place` tells the place of each event.
+-- The first accesses of each place, which represent all of them, and what each row keeps while they are visited. No
+-- public clause cites this module. `T` is the events of a trace, `r` is its recording; `place` has the place of each
+-- event.
 use Rattle.std.specs.Prelude.{◌≡◌, ◌≢◌, ◌⊎◌, ℕ, ◌<◌, ◌≤◌, true, Bool, List, [], ◌∷◌, ◌++◌, length, All, Option, Some, slice_get, slice_index, slice_set}
 use Rattle.rapid_text.specs.Recording.{Recording}
 use Rattle.rapid_text.specs.declared.event.Event.{Event}
@@ -15,32 +16,33 @@ use Rattle.race_groups.specs.declared.least_pairs.uses.Of.{Of}
 use Rattle.race_groups.specs.declared.least_pairs.uses.Use.{Use}
 use Rattle.race_groups.specs.declared.least_pairs.wanted.Wanted.TheVariants.{Any as AnyKind}
 
--- the use is of this place, and writes, or reads
+-- the use is of this place, and of this kind of access
 pub record IsAlike (at : ℕ) (writing : Bool) (u : Use) : Type 0 where
   pub located : u.place ≡ at
   pub writes : u.is_writing ≡ writing
 
--- The event is of this thread and of the use's place, and writes the variable x, or reads it, as those of the use do.
+-- The event is of this thread and of the use's place, and reads or writes the variable x as the use does.
 pub record IsEventOf (T : List Event) (place : ℕ → ℕ) (x : ℕ) (u : Use) (f : Of) : Type 0 where
   pub event : slice_get T f.event ≡ Some (record { thread = f.thread; op = access_op u.is_writing x })
   pub located : place f.event ≡ u.place
 
--- The two events of a use are of it.
+-- The two events of a use belong to it.
 pub record IsUse (T : List Event) (place : ℕ → ℕ) (x : ℕ) (u : Use) : Type 0 where
   pub first : IsEventOf T place x u u.first
   pub other : IsEventOf T place x u u.other
 
--- Event e of thread t comes no earlier than the first, and, where it is of another thread, no earlier than the other, which then is so too.
+-- Event e of thread t is not before the first event. If it is of another thread than the first, it is not before the
+-- other, and the other is of another thread than the first.
 pub record IsCovered (u : Use) (e t : ℕ) : Type 0 where
   pub first : u.first.event ≤ e
   pub other : t ≢ u.first.thread → (u.other.event ≤ e) × (u.other.thread ≢ u.first.thread)
 
--- event e of thread t is of the use, and covered by it
+-- event e of thread t belongs to the use, and is covered by it
 pub record IsOfUse (T : List Event) (place : ℕ → ℕ) (x : ℕ) (u : Use) (e t : ℕ) : Type 0 where
   pub event : IsEventOf T place x u (record { event = e; thread = t })
   pub covered : IsCovered u e t
 
--- event e is of one of the uses
+-- event e belongs to one of the uses
 pub record IsUsed (T : List Event) (place : ℕ → ℕ) (x : ℕ) (uses : List Use) (e : ℕ) : Type 0 where
   pub at : ℕ
   pub found : Use
@@ -57,7 +59,7 @@ pub record AreUses (T : List Event) (place : ℕ → ℕ) (x : ℕ) (es : List �
 abbrev pub IsBehind : ℕ → Use → Type 0
 IsBehind e u = (u.first.event ≤ e) × (u.other.event ≤ e)
 
--- The use u with the event f more.
+-- The use v is the use u with one more event f.
 pub record IsWidened (u : Use) (f : Of) (v : Use) : Type 0 where
   pub located : v.place ≡ u.place
   pub writes : v.is_writing ≡ u.is_writing
@@ -66,7 +68,7 @@ pub record IsWidened (u : Use) (f : Of) (v : Use) : Type 0 where
   pub kept : (e t : ℕ) → IsCovered u e t → IsCovered v e t
   pub taken : IsBehind f.event u → IsCovered v f.event f.thread
 
--- one of the uses was widened by the event f
+-- one of the uses got the event f
 pub record IsUseWidened (at : ℕ) (writing : Bool) (f : Of) (old new : List Use) : Type 0 where
   pub number : ℕ
   pub had : Use
@@ -76,7 +78,7 @@ pub record IsUseWidened (at : ℕ) (writing : Bool) (f : Of) (old new : List Use
   pub is : IsWidened had f has
   pub set : new ≡ slice_set old number has
 
--- the access f was taken in: as a use of its own, or into one that there was
+-- the access f was added: as a new use, or to one that existed
 abbrev pub IsUseNoted : ℕ → Bool → Of → List Use → List Use → Type 0
 IsUseNoted at writing f old new =
     (new ≡ old ++ record { place = at; is_writing = writing; first = f; other = f } ∷ []) ⊎ IsUseWidened at writing f old new
@@ -85,13 +87,13 @@ IsUseNoted at writing f old new =
 abbrev pub IsOwner : ℕ → Use → Type 0
 IsOwner t u = (u.first.thread ≡ t) × (u.other.thread ≡ t)
 
--- From place i up to n the uses are those of one thread, where the first is.
+-- From index i up to n, the uses are those of one thread, if the first is.
 pub record IsRun (uses : List Use) (i n : ℕ) : Type 0 where
   pub more : i < n
   pub within : n ≤ length uses
   pub one : (t k : ℕ) (u v : Use) → i ≤ k → k < n → slice_get uses i ≡ Some u → slice_get uses k ≡ Some v → IsOwner t u → IsOwner t v
 
--- For each place, how far the uses are those of one thread from there.
+-- For each index, the end of the run of uses of one thread.
 pub record AreRuns (uses : List Use) (runs : List ℕ) : Type 0 where
   pub len : length runs ≡ length uses
   pub each : (i : ℕ) → i < length uses → IsRun uses i (slice_index runs i)
@@ -101,7 +103,7 @@ pub record IsPairOf (f g : Of) (p : ℕ × ℕ) : Type 0 where
   pub threads : f.thread ≢ g.thread
   pub either : ((p.0 ≡ f.event) × (p.1 ≡ g.event) × (g.event ≤ f.event)) ⊎ ((p.0 ≡ g.event) × (p.1 ≡ f.event) × (f.event ≤ g.event))
 
--- p is the pair of an event of the one use and one of the other
+-- p is the pair of an event of one use and one of the other
 pub record IsPairBetween (u v : Use) (p : ℕ × ℕ) : Type 0 where
   pub f : Of
   pub g : Of
@@ -109,11 +111,11 @@ pub record IsPairBetween (u v : Use) (p : ℕ × ℕ) : Type 0 where
   pub second : (g ≡ v.first) ⊎ (g ≡ v.other)
   pub pair : IsPairOf f g p
 
--- the pair of the two events, whichever is the later, or one before it
+-- the known pair is that of the two events, in the right order, or comes before it
 abbrev pub HoldsEither : ℕ → ℕ → Option (ℕ × ℕ) → Type 0
 HoldsEither e f known = (e < f → HoldsUp (f, e) known) × (f < e → HoldsUp (e, f) known)
 
--- each pair of events of different threads that the two uses cover, or one before it
+-- the known pair comes no later than each pair of events of different threads that the two uses cover
 abbrev pub HoldsBetween : Use → Use → Option (ℕ × ℕ) → Type 0
 HoldsBetween u v known = (e f s t : ℕ) → IsCovered u e s → IsCovered v f t → s ≢ t → HoldsEither e f known
 
@@ -124,13 +126,13 @@ pub record IsAsked (s : Places) : Type 0 where
   pub complete : AreComplete s.indexed.now.events (slice_index s.places.now) s.groups.now.rows.items
   pub once : AreOnce s.groups.now.rows.items
 
--- What is kept of a row is a conflicting pair of its places.
+-- What a row keeps is a conflicting pair of its places.
 pub record AreFirsts (r : Recording) (place : ℕ → ℕ) (rows : List Row) (firsts : List (Option (ℕ × ℕ))) : Type 0 where
   pub len : length firsts ≡ length rows
   pub each : (at : ℕ) (row : Row) (p : ℕ × ℕ) → slice_get rows at ≡ Some row → slice_get firsts at ≡ Some (Some p)
       → IsFit r place row.places AnyKind p.1 p.0
 
--- The row of the two events keeps their pair or one that stands before it.
+-- The row of the two events keeps their pair, or one that comes before it.
 pub record IsFirstHeld (place : ℕ → ℕ) (rows : List Row) (firsts : List (Option (ℕ × ℕ))) (a b : ℕ) : Type 0 where
   pub at : ℕ
   pub row : Row
@@ -140,7 +142,7 @@ pub record IsFirstHeld (place : ℕ → ℕ) (rows : List Row) (firsts : List (O
   pub there : AreAt place row.places a b
   pub up : IsUpTo kept (b, a)
 
--- Further pairs were taken in: each row keeps what it kept, or a pair that stands before it.
+-- Further pairs were added: each row keeps the same pair, or one that comes before it.
 pub record AreFirstsNoted (r : Recording) (place : ℕ → ℕ) (rows : List Row) (old new : List (Option (ℕ × ℕ))) : Type 0 where
   pub firsts : AreFirsts r place rows new
   pub more : (at : ℕ) (p : ℕ × ℕ) → slice_get old at ≡ Some (Some p) → (q : ℕ × ℕ) × (slice_get new at ≡ Some (Some q)) × IsUpTo q p

@@ -1,4 +1,4 @@
--- What pairs of a lane's events with a later one are of. No public clause cites this module.
+-- The variable and threads of the pairs of a lane's events with a later one. No public clause cites this module.
 use Rattle.race_groups.specs.declared.least_pairs.tries.Between.{Between}
 use Rattle.race_groups.specs.declared.least_pairs.lanes.Lane.{Lane}
 use Rattle.race_groups.specs.declared.least_pairs.lanes.Later.{Later}

@@ -16,7 +16,8 @@ use indexmap::IndexMap;
 use rapid_text::OutOfMemory;
 use std::alloc::Global;
 
-/// For each row of `groups` its least conflicting pair. `places` has for each event the number of its place.
+/// For each row of `groups` its least conflicting pair, in the order of the rows. `places` has the number of each
+/// event's place. Fails if memory runs out.
 pub fn firsts_of(
     alloc: Global,
     indexed: &Indexed,
@@ -45,7 +46,7 @@ pub fn firsts_of(
     Ok(firsts)
 }
 
-/// Where the events of a trace lie, and the rows of all pairs of places.
+/// The places of a trace's events, and the rows of all pairs of places.
 #[derive(Clone, Copy)]
 struct Places<'a> {
     indexed: &'a Indexed,
@@ -54,7 +55,7 @@ struct Places<'a> {
 }
 
 impl Places<'_> {
-    // Takes in the pairs of one variable.
+    // Adds the pairs of one variable.
     fn note_variable(
         &self,
         alloc: Global,
@@ -99,7 +100,7 @@ impl Places<'_> {
         Ok(uses)
     }
 
-    // Takes in one access of the variable.
+    // Adds one access of the variable.
     fn note_event(
         &self,
         uses: &mut Vec<Use>,
@@ -125,7 +126,8 @@ impl Places<'_> {
         Ok(())
     }
 
-    // Takes in the pairs of one use that writes with all uses. Those that one thread alone has are passed by, where it has this one too.
+    // Adds the pairs of one use that writes with all uses. Uses that only one thread has are skipped if that thread
+    // has this use too.
     fn note_all(
         &self,
         firsts: &mut Vec<Option<Pair>>,
@@ -158,7 +160,7 @@ impl Places<'_> {
         }
     }
 
-    // Takes in the least pair of two uses, of which the first writes.
+    // Adds the least pair of two uses, the first of which writes.
     fn note_uses(&self, firsts: &mut Vec<Option<Pair>>, _variable: u32, one: Use, other: Use)
         requires asked { IsAsked self.now }
         requires firsts { AreFirsts self.now.indexed.now (slice_index self.now.places.now) self.now.groups.now.rows.items firsts.old.items }
@@ -175,7 +177,7 @@ impl Places<'_> {
         }
     }
 
-    // Takes in a conflicting pair of two places.
+    // Adds a conflicting pair of two places.
     fn note_pair(&self, firsts: &mut Vec<Option<Pair>>, first: u32, second: u32, pair: Pair)
         requires asked { IsAsked self.now }
         requires firsts { AreFirsts self.now.indexed.now (slice_index self.now.places.now) self.now.groups.now.rows.items firsts.old.items }
@@ -191,7 +193,7 @@ impl Places<'_> {
     }
 }
 
-// The least pair of two uses, one of which writes.
+// The least pair of two uses, one of which writes, or None.
 fn least_of(one: Use, other: Use) -> Option<Pair>
     ensures some { IfSome result (λ p. IsPairBetween one other p) }
     ensures holds { HoldsBetween one other result }
@@ -204,7 +206,7 @@ fn least_of(one: Use, other: Use) -> Option<Pair>
     lesser(both, later)
 }
 
-// The pair of two events of different threads.
+// The pair of two events, or None if they are of one thread.
 fn pair_of(one: Of, other: Of) -> Option<Pair>
     ensures some { IfSome result (λ p. IsPairOf one other p) }
     ensures none { result ≡ None → one.thread ≡ other.thread }

@@ -1,4 +1,4 @@
-//! The accesses of one variable, by thread and by what they do.
+//! The accesses of one variable, by thread and kind of access.
 ghost use Rattle.std.specs.Prelude.{◌≡◌, ◌≢◌, ℕ, ◌+◌, [], ◌∷◌, ◌++◌, ◌<◌, ◌≤◌, true, length, Contains, IfOk, IfSome, OnOk, None, Some, slice_get, slice_index};
 ghost use Rattle.event_index.specs.Relations.{is_access};
 ghost use Rattle.race_groups.specs.least_pairs.Lanes.{AreAccesses, IsInLanes, IsLater, IsRising, access_op};
@@ -13,7 +13,7 @@ use indexmap::IndexMap;
 use rapid_text::{Op, OutOfMemory};
 use std::alloc::Global;
 
-/// Events of one lane that are of one class, in the order of the trace.
+/// The events of one lane that are of one class, in the order of the trace.
 #[derive(Drop)]
 pub(crate) struct Bunch {
     /// The number of the class.
@@ -26,17 +26,17 @@ pub(crate) struct Bunch {
 pub(crate) struct Lane {
     pub(crate) thread: u32,
     pub(crate) is_writing: bool,
-    /// No event has a greater place among those of the thread.
+    /// No event of the lane has a greater index among those of its thread.
     pub(crate) last: u32,
     /// The events.
     pub(crate) events: Vec<u32>,
-    /// For each event its place among those of the thread.
+    /// The index of each event among those of its thread.
     pub(crate) places: Vec<u32>,
-    /// The events by their class.
+    /// The events by class.
     pub(crate) bunches: Vec<Bunch>,
 }
 
-/// An access, by its place among those of its thread and by its class.
+/// An access, with its index among those of its thread and its class.
 #[derive(Clone, Copy)]
 pub(crate) struct Access {
     pub(crate) event: u32,
@@ -44,7 +44,7 @@ pub(crate) struct Access {
     pub(crate) class: u32,
 }
 
-/// An access, and the last one before it that is of its lane and of its class.
+/// An access, and the last access before it in its lane and of its class.
 #[derive(Clone, Copy)]
 pub(crate) struct Later {
     pub(crate) variable: u32,
@@ -54,11 +54,12 @@ pub(crate) struct Later {
     pub(crate) previous: Option<u32>,
 }
 
-/// The accesses of one variable up to one of them.
+/// The accesses of one variable up to some event.
 #[derive(Drop)]
 pub(crate) struct Lanes {
     pub(crate) list: Vec<Lane>,
-    // Where the lane of a thread stands, for its reads and for its writes. What is found is compared before it is believed.
+    // The index of the lane of a thread, for its reads and for its writes. It is compared with the lane before it is
+    // used.
     index: IndexMap<(u32, u32), usize>,
     // The same for a lane and a class.
     bunches: Index,
@@ -81,7 +82,7 @@ pub(crate) fn accesses_of(alloc: Global, indexed: &Indexed) -> Result<Vec<Vec<u3
     Ok(accesses)
 }
 
-// Adds the event to those of its variable, where it has one.
+// Adds the event to the accesses of its variable, if it is one.
 fn add_access(
     accesses: &mut Vec<Vec<u32>>,
     indexed: &Indexed,
@@ -101,7 +102,7 @@ fn add_access(
     Ok(())
 }
 
-/// The variable that the operation accesses, and whether it writes it.
+/// The variable that the operation accesses, and whether it writes it; or None.
 pub(crate) fn access_of(op: Op) -> Option<(u32, bool)>
     ensures some { IfSome result (λ a. op ≡ access_op a.1 a.0) }
     ensures none { result ≡ None → (x : ℕ) → is_access x op ≢ true }
@@ -125,7 +126,7 @@ impl Lanes {
         }
     }
 
-    /// Takes in the next access of the variable.
+    /// Adds the next access of the variable.
     pub(crate) fn note(
         &mut self,
         alloc: Global,
@@ -170,7 +171,7 @@ impl Lanes {
     }
 }
 
-// The number of the lane of a thread, which is added as the last one if it is new.
+// The number of the thread's lane. If it is new, the function appends it.
 fn lane_number(
     alloc: Global,
     lanes: &mut Vec<Lane>,
@@ -193,7 +194,7 @@ fn lane_number(
     Ok(number)
 }
 
-// The number of the bunch of a class, which is added as the last one if it is new.
+// The number of the class's bunch. If it is new, the function appends it.
 fn bunch_number(
     alloc: Global,
     index: &mut Index,
@@ -218,7 +219,7 @@ fn bunch_number(
     Ok(number)
 }
 
-// Whether the bunch is there, and of this class.
+// Whether there is such a bunch, and it is of this class.
 fn is_class(bunches: &[Bunch], number: usize, class: u32) -> bool
     ensures { result ≡ true → IsBunchOf bunches.now number class }
 {
@@ -228,7 +229,7 @@ fn is_class(bunches: &[Bunch], number: usize, class: u32) -> bool
     }
 }
 
-// Whether the lane is there, and of this thread.
+// Whether there is such a lane, and it is of this thread and kind of access.
 fn is_of(lanes: &[Lane], number: usize, thread: u32, is_writing: bool) -> bool
     ensures { result ≡ true → IsLaneOf lanes.now number thread is_writing }
 {
@@ -239,7 +240,7 @@ fn is_of(lanes: &[Lane], number: usize, thread: u32, is_writing: bool) -> bool
 }
 
 impl Lane {
-    // A lane with no events.
+    // A lane without events.
     fn new(alloc: Global, thread: u32, is_writing: bool) -> Lane
         ensures thread { result.thread ≡ thread }
         ensures is_writing { result.is_writing ≡ is_writing }
@@ -257,7 +258,7 @@ impl Lane {
         }
     }
 
-    // Adds an access, and tells the last one of its class. `number` is that of the lane.
+    // Adds an access to lane `number`, and returns the last access before it of its class.
     fn add(
         &mut self,
         alloc: Global,
@@ -278,7 +279,7 @@ impl Lane {
 }
 
 impl Bunch {
-    // Adds an event, and tells the last one before it.
+    // Adds an event, and returns the last one before it.
     fn put(&mut self, event: u32) -> Result<Option<u32>, OutOfMemory>
         ensures class { OnOk result (self.new.class ≡ self.old.class) }
         ensures events { OnOk result (self.new.events.items ≡ self.old.events.items ++ event ∷ []) }
@@ -289,7 +290,7 @@ impl Bunch {
         Ok(last)
     }
 
-    /// The first event that is no earlier than this one.
+    /// The first event that is not earlier than `from`, or None.
     pub(crate) fn first(&self, from: u32) -> Option<u32>
         requires rising { IsRising self.now.events.items }
         ensures some { IfSome result (λ e. Contains self.now.events.items e × (from ≤ e)) }

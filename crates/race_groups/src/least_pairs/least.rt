@@ -1,4 +1,4 @@
-//! What is found of a pair of places, and how one pair of events more is taken in.
+//! The findings on a pair of places, and the update for one more pair of events.
 ghost use Rattle.std.specs.Prelude.{◌≡◌, ◌+◌, ◌<◌, ◌≤◌, ◌⊎◌, ℕ, [], OnOk, Some, None};
 ghost use Rattle.race_groups.specs.least_pairs.Joining.{IsJoined};
 ghost use Rattle.race_groups.specs.least_pairs.Taking.{AreTries, IsCandidateNoted, IsOpenNoted, IsVariableNoted};
@@ -8,21 +8,22 @@ use crate::least_pairs::tries::{Pair, Try, is_less, join_tries, lesser, note_try
 use rapid_text::OutOfMemory;
 use std::alloc::Global;
 
-/// What is found of a pair of places.
+/// The findings on a pair of places.
 #[derive(Drop)]
 pub struct Least {
-    /// How many variables have a candidate or an open pair.
+    /// The number of variables with a candidate or an open pair.
     pub variables: u32,
     /// The least candidate.
     pub candidate: Option<Pair>,
-    /// Where there is no candidate, of each variable and two threads the least open pair; of these the first ones, in rising order.
+    /// If there is no candidate: the least open pair of each variable and two threads, of which the first ones are
+    /// kept, in rising order.
     pub tries: Vec<Try>,
     /// The last variable that was counted.
     pub last: Option<u32>,
 }
 
 impl Least {
-    /// Nothing is found yet.
+    /// No findings yet.
     pub(crate) fn new(alloc: Global) -> Least
         ensures variables { result.variables ≡ 0 }
         ensures candidate { result.candidate ≡ None }
@@ -37,7 +38,8 @@ impl Least {
         }
     }
 
-    /// The variable has a candidate or an open pair. Variables are told one after the other: one that was the last to be counted is not counted again.
+    /// Counts the variable, which has a candidate or an open pair, unless it is the last one counted. Variables are
+    /// visited one after the other.
     pub(crate) fn note_variable(&mut self, variable: u32)
         requires { self.old.variables < 4294967295 }
         ensures noted { IsVariableNoted variable self.old self.new }
@@ -50,7 +52,7 @@ impl Least {
         }
     }
 
-    /// Takes in a candidate of the variable.
+    /// Adds a candidate of the variable.
     pub(crate) fn note_candidate(&mut self, variable: u32, pair: Pair)
         requires { self.old.variables < 4294967295 }
         ensures { IsCandidateNoted variable pair self.old self.new }
@@ -59,7 +61,7 @@ impl Least {
         self.candidate = Some(lesser_pair(self.candidate, pair));
     }
 
-    /// Takes in an open pair, of which at most `most` are kept.
+    /// Adds an open pair. At most `most` of them are kept.
     pub(crate) fn note_open(&mut self, most: usize, new: Try) -> Result<(), OutOfMemory>
         requires variables { self.old.variables < 4294967295 }
         requires tries { AreTries most self.old.tries.items }
@@ -70,7 +72,7 @@ impl Least {
         note_try(&mut self.tries, most, new)
     }
 
-    /// Takes in what was found of other variables.
+    /// Adds the findings on other variables.
     pub(crate) fn join(&mut self, most: usize, part: &Least) -> Result<(), OutOfMemory>
         requires room { self.old.variables + part.now.variables ≤ 4294967295 }
         requires tries { AreTries most self.old.tries.items }
@@ -86,7 +88,7 @@ impl Least {
     }
 }
 
-// The lesser of a pair and of the one that is known.
+// The lesser one of `pair` and the known pair.
 fn lesser_pair(known: Option<Pair>, pair: Pair) -> Pair
     ensures one { (result ≡ pair) ⊎ (Some result ≡ known) }
     ensures up { IsUpTo result pair }

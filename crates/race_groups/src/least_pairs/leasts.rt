@@ -1,4 +1,4 @@
-//! For each pair of places its least candidate, its least open pairs, and how many variables have one of either.
+//! For each pair of places its least candidate, its least open pairs, and the number of variables with one of either.
 ghost use Rattle.std.specs.Prelude.{◌≡◌, ℕ, ◌+◌, ◌<◌, All, IfOk, OnOk, Some, true, false, filter, length, slice_get, slice_index};
 ghost use Rattle.event_index.specs.Lookups.{before};
 ghost use Rattle.race_groups.specs.declared.kinds.Row.{Row as Counted};
@@ -19,8 +19,8 @@ use rapid_text::OutOfMemory;
 use shb_clocks::{Clocks, SharedRows, known_tells_shb};
 use std::alloc::Global;
 
-/// What is found of each row of `groups`. Of the least open pairs of a row at most `most` are kept. `places` has for each event the number of its
-/// place.
+/// The findings on each row of `groups`, in the order of the rows. For each row at most `most` of the least open
+/// pairs are kept. `places` has the number of each event's place. Fails if memory runs out.
 pub fn leasts_of(
     alloc: Global,
     indexed: &Indexed,
@@ -60,34 +60,34 @@ pub fn leasts_of(
     Ok(leasts)
 }
 
-/// Which pairs are taken in.
+/// The kind of pairs that a search visits.
 #[derive(Clone, Copy)]
 pub(crate) enum Sought {
     Candidates,
     Opens,
 }
 
-/// What is asked for.
+/// The trace and the options of a search.
 #[derive(Clone, Copy)]
 pub(crate) struct Search<'a> {
     pub(crate) indexed: &'a Indexed,
     pub(crate) places: &'a [u32],
     pub(crate) clocks: &'a Clocks,
-    // What is must-before.
+    // The counts of must-before.
     pub(crate) rows: &'a SharedRows,
     pub(crate) classes: &'a Classes,
     pub(crate) groups: &'a Groups,
     pub(crate) most: usize,
     pub(crate) has_candidates: bool,
     pub(crate) has_open: bool,
-    // How many workers share the variables.
+    // The number of workers that share the variables.
     pub(crate) every: usize,
-    // Which of them searches: that of the variables whose numbers leave this rest.
+    // The number of this worker. It visits the variables whose numbers leave this remainder, divided by `every`.
     pub(crate) from: usize,
 }
 
 impl Search<'_> {
-    /// What is found of each row, of the variables whose turn it is.
+    /// The findings on each row, for the variables of this worker.
     pub(crate) fn found(&self, alloc: Global) -> Result<Vec<Least>, OutOfMemory>
         requires sound { IsSound self.now }
         ensures { IfOk result (λ leasts. AreFoundOf self.now (IsOwn self.now) leasts.items) }
@@ -101,7 +101,7 @@ impl Search<'_> {
         Ok(leasts)
     }
 
-    /// Whether there is neither a candidate nor an open pair.
+    /// Whether the trace has neither a candidate nor an open pair.
     pub(crate) fn has_none(&self) -> bool
         ensures candidates { result ≡ true → self.now.has_candidates ≡ false }
         ensures opens { result ≡ true → self.now.has_open ≡ false }
@@ -109,7 +109,7 @@ impl Search<'_> {
         !self.has_candidates && !self.has_open
     }
 
-    /// For each row, nothing yet.
+    /// Empty findings for each row.
     pub(crate) fn nothing(&self, alloc: Global) -> Result<Vec<Least>, OutOfMemory>
         requires sound { IsSound self.now }
         ensures found { IfOk result (λ leasts. AreFoundBelow self.now 0 leasts.items) }
@@ -123,7 +123,7 @@ impl Search<'_> {
         Ok(leasts)
     }
 
-    /// Goes through all variables.
+    /// Visits all variables.
     pub(crate) fn all(
         &self,
         alloc: Global,
@@ -144,7 +144,7 @@ impl Search<'_> {
         Ok(())
     }
 
-    // Goes through all accesses of the variable, where it is its turn.
+    // Visits all accesses of the variable, if it is the variable's turn.
     fn in_turn(
         &self,
         alloc: Global,
@@ -180,7 +180,7 @@ impl Search<'_> {
         variable as usize % self.every == self.from
     }
 
-    // Goes through all accesses of the variable.
+    // Visits all accesses of the variable.
     fn variable(
         &self,
         alloc: Global,

@@ -1,4 +1,4 @@
-//! Which candidates were taken in, so that one that changes nothing is passed by without a look at its row.
+//! Remembers candidates, so that a candidate that changes nothing is skipped without a look at its row.
 ghost use Rattle.std.specs.Prelude.{◌≡◌, ◌⊎◌, ◌<◌, true, All, Contains, IfOk};
 ghost use Rattle.race_groups.specs.least_pairs.Noted.{IsNothing};
 ghost use Rattle.race_groups.specs.declared.least_pairs.noted.Note.{Note as Other};
@@ -6,13 +6,13 @@ ghost use Rattle.race_groups.specs.declared.least_pairs.noted.Note.{Note as Othe
 use rapid_text::OutOfMemory;
 use std::alloc::Global;
 
-// How many are noted at most.
+// The most slots.
 const MOST: usize = 4_194_304;
 
-// How many slots there are at most for each pair of places.
+// The most slots for each pair of places.
 const SLOTS_A_PAIR: usize = 3;
 
-/// A candidate that was taken in: its variable, the places of its two events, and the later event.
+/// A candidate: its variable, the places of its two events, and the later event.
 #[derive(Clone, Copy)]
 pub(crate) struct Note {
     pub(crate) variable: u32,
@@ -21,7 +21,7 @@ pub(crate) struct Note {
     pub(crate) later: u32,
 }
 
-// What stands where nothing was noted: no event comes behind this one.
+// The content of an empty slot: no event comes after this one.
 const NOTHING: Note = Note {
     variable: 0,
     first: 0,
@@ -29,16 +29,17 @@ const NOTHING: Note = Note {
     later: 4_294_967_295,
 };
 
-/// The candidates that were taken in, the last one for each slot.
+/// The remembered candidates, the last one for each slot.
 #[derive(Drop)]
 pub(crate) struct Noted {
     pub(crate) notes: Vec<Note>,
-    // How many places there are, where each two of them have a slot of their own; else 0.
+    // The number of places, if each two of them have a slot for themselves; otherwise 0.
     width: usize,
 }
 
 impl Noted {
-    /// Nothing was noted yet. `places` has for each event the number of its place, and so many pairs of places conflict.
+    /// Empty slots. `places` has the number of each event's place, and `rows` is the number of conflicting pairs of
+    /// places.
     pub(crate) fn new(alloc: Global, places: &[u32], rows: usize) -> Result<Noted, OutOfMemory>
         ensures { IfOk result (λ noted. All IsNothing noted.notes.items) }
     {
@@ -54,7 +55,7 @@ impl Noted {
         })
     }
 
-    /// Whether a candidate of the variable and of these places was noted whose later event comes before this one.
+    /// Whether it remembers a candidate of the variable and these places whose later event is before `later`.
     pub(crate) fn has(&self, variable: u32, first: u32, second: u32, later: u32) -> bool
         ensures { result ≡ true → (n : Other) × Contains self.now.notes.items n × (n.variable ≡ variable) × (n.first ≡ first) × (n.second ≡ second)
             × (n.later < later) }
@@ -69,7 +70,7 @@ impl Noted {
             && note.later < later
     }
 
-    /// Notes a candidate.
+    /// Remembers a candidate.
     pub(crate) fn note(&mut self, note: Note)
         ensures { All (λ n. (n ≡ note) ⊎ Contains self.old.notes.items n) self.new.notes.items }
     {
@@ -80,7 +81,7 @@ impl Noted {
     }
 }
 
-// How many places there are, where so many slots are enough for each two of them; else 0.
+// The number of places, if `slots` slots are enough for each two of them; otherwise 0.
 fn width_of(places: &[u32], slots: usize) -> usize {
     let mut last = 0;
     for place in places {
@@ -94,8 +95,8 @@ fn width_of(places: &[u32], slots: usize) -> usize {
     }
 }
 
-// Where the candidates of two places are noted, in so many slots. What a later event is compared with stands side by side where there is a
-// slot for each two of `width` places.
+// The slot of two places among `slots` slots. If there is a slot for each two of `width` places, the slots of one
+// later place are side by side.
 fn slot(first: u32, second: u32, width: usize, slots: usize) -> usize {
     if width > 0 {
         return (second as usize)

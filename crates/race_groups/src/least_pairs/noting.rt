@@ -1,4 +1,4 @@
-//! How a pair that is sought is taken in.
+//! Adds a pair that a search visits to the findings.
 ghost use Rattle.std.specs.Prelude.{◌≡◌, ◌≢◌, ℕ, ◌<◌, IfSome, OnOk, None, Some, true, length, slice_get, slice_index};
 ghost use Rattle.must_order.specs.Kinds.{IsKind};
 ghost use Rattle.must_order.specs.MustBefore.{IsForced};
@@ -20,7 +20,7 @@ use crate::least_pairs::windows::Two;
 use rapid_text::OutOfMemory;
 
 impl Search<'_> {
-    /// Takes in a pair that is sought.
+    /// Adds a pair of the kind that the search visits.
     pub(crate) fn take_pair(
         &self,
         sought: Sought,
@@ -52,7 +52,7 @@ impl Search<'_> {
         }
     }
 
-    // Takes in a candidate, where none of its variable and places is noted that stands before it.
+    // Adds a candidate, unless a better one of its variable and places is remembered.
     fn take_candidate(
         &self,
         leasts: &mut [Least],
@@ -88,7 +88,7 @@ impl Search<'_> {
         });
     }
 
-    // Takes in a candidate.
+    // Adds a candidate.
     fn note_candidate(&self, leasts: &mut [Least], first: u32, second: u32, variable: u32)
         requires sound { IsSound self.now }
         requires variable { variable < length self.now.indexed.now.variables }
@@ -106,7 +106,7 @@ impl Search<'_> {
         }
     }
 
-    // Takes in an open pair, or one that a lock guards, which is passed by.
+    // Adds an open pair. A guarded pair is skipped.
     fn note_open(
         &self,
         leasts: &mut [Least],
@@ -146,7 +146,7 @@ impl Search<'_> {
         Ok(())
     }
 
-    // The row of two events.
+    // The index of the row of two events.
     fn row_of(&self, first: u32, second: u32) -> Option<usize>
         requires sound { IsSound self.now }
         requires pair { IsPair self.now.indexed.now.events first second }
@@ -158,7 +158,7 @@ impl Search<'_> {
             .row_of(self.places[first as usize], self.places[second as usize])
     }
 
-    // Whether the threads of two accesses hold a lock in common before them.
+    // Whether the threads of two accesses hold a common lock before them.
     fn is_guarded(&self, first: u32, second: u32) -> bool
         requires sound { IsSound self.now }
         requires pair { IsPair self.now.indexed.now.events first second }

@@ -1,8 +1,8 @@
-//! Where numbers in order reach a bound.
+//! Finds the index at which rising numbers reach a bound.
 ghost use Rattle.std.specs.Prelude.{ℕ, ◌<◌, ◌≤◌, length, slice_index};
 ghost use Rattle.race_groups.specs.least_pairs.Reach.{IsOrdered, IsReach};
 
-/// How many of the first `end` numbers are below the bound. It looks from the end on, in steps that double.
+/// How many of the first `end` numbers are below the bound. It searches from the end, in steps that double.
 pub(crate) fn reach(numbers: &[u32], end: usize, bound: u32) -> usize
     requires ordered { IsOrdered numbers.now }
     requires end { end ≤ length numbers.now }
@@ -18,7 +18,7 @@ pub(crate) fn reach(numbers: &[u32], end: usize, bound: u32) -> usize
     narrow(numbers, end, bound, low, high)
 }
 
-// The same, where it is known that it is from `low` up to `high`.
+// The same if the result is known to be from `low` to `high`.
 fn narrow(numbers: &[u32], _end: usize, bound: u32, low: usize, high: usize) -> usize
     requires ordered { IsOrdered numbers.now }
     requires end { _end ≤ length numbers.now }

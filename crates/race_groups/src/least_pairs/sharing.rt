@@ -1,4 +1,5 @@
-//! The least pairs by several workers: each takes the variables whose turn it is, and then all that they found is put together.
+//! Finds the least pairs with several workers: each visits the variables whose turn it is, and then their findings
+//! are joined.
 ghost use Rattle.std.specs.Prelude.{◌≡◌, ℕ, ◌+◌, ◌<◌, ◌≤◌, All, IfOk, OnOk, Result, Some, Vec, length, slice_get, slice_index, slice_index_or};
 ghost use Rattle.std.specs.declared.alloc.Global.{Global};
 ghost use Rattle.race_groups.specs.declared.kinds.Row.{Row as OneRow};
@@ -21,27 +22,27 @@ use std::alloc::Global;
 use std::thread;
 use std::thread::Threads;
 
-/// A trace whose pairs were counted.
+/// A trace whose pairs have been counted.
 #[derive(Clone, Copy)]
 pub struct Counted<'a> {
     /// The trace.
     pub indexed: &'a Indexed,
-    /// For each event the number of its place.
+    /// The number of each event's place.
     pub places: &'a [u32],
-    /// What SHB orders.
+    /// The order SHB.
     pub clocks: &'a Clocks,
-    /// What is must-before.
+    /// Must-before.
     pub must: &'a Must,
-    /// The classes of its events.
+    /// The classes of the trace's events.
     pub classes: &'a Classes,
     /// The rows of all pairs of places.
     pub groups: &'a Groups,
-    /// How many of the least open pairs of a row are kept at most.
+    /// The most open pairs that are kept of a row.
     pub most: usize,
 }
 
-/// The same as `leasts_of`, by so many workers, which share the variables. They are threads, where these can be started. What is found
-/// does not depend on their number.
+/// The same as `leasts_of`, with `workers` workers, which share the variables. They are threads if threads can be
+/// started. The findings do not depend on their number. Fails if memory runs out.
 pub fn leasts_by_workers<R: Threads + Sync>(
     rt: &R,
     alloc: Global,
@@ -74,7 +75,7 @@ pub fn leasts_by_workers<R: Threads + Sync>(
         every: 1,
         from: 0,
     };
-    // A worker more than there are variables would have nothing to do.
+    // Workers beyond the number of variables would have nothing to do.
     let every = workers.min(counted.indexed.variables() as usize);
     if every < 2 || search.has_none() {
         let leasts = search.found(alloc)?;
@@ -84,7 +85,7 @@ pub fn leasts_by_workers<R: Threads + Sync>(
     Ok(leasts)
 }
 
-// What so many workers find, put together.
+// The joined findings of `every` workers.
 fn by_workers<R: Threads + Sync>(
     rt: &R,
     alloc: Global,
@@ -108,7 +109,7 @@ fn by_workers<R: Threads + Sync>(
     joined(search, alloc, parts.as_slice(), every)
 }
 
-// What the worker of this number finds: that of the variables whose turn it is.
+// The findings of worker `from`: those on the variables whose turn it is.
 fn part_of(
     search: &Search<'_>,
     alloc: Global,
@@ -140,7 +141,7 @@ fn part_of(
     Ok(leasts)
 }
 
-// All parts together.
+// Joins all parts.
 fn joined(
     search: &Search<'_>,
     alloc: Global,
@@ -183,7 +184,7 @@ fn add_part(
     }
 }
 
-// Takes in what a part found, row by row.
+// Adds the findings of a part, row by row.
 fn join_all(all: &mut [Least], part: &[Least], most: usize) -> Result<(), OutOfMemory>
     requires len { length part.now ≡ length all.old }
     requires room { (at : ℕ) (d : Found) → at < length all.old

@@ -1,4 +1,4 @@
-//! An access of a variable, with all that came before it.
+//! Compares an access of a variable with all accesses before it.
 ghost use Rattle.std.specs.Prelude.{◌≡◌, ℕ, ◌+◌, ◌<◌, true, OnOk, Some, length, slice_get};
 ghost use Rattle.race_groups.specs.Ends.{known_before, counted_before};
 ghost use Rattle.race_groups.specs.least_pairs.Going.{AreClashing, AreFound, AreMore, AreTakenBefore, AreTakenWith, IsSound};
@@ -15,7 +15,7 @@ use crate::least_pairs::reach::reach;
 use crate::least_pairs::windows::{Window, are_clashing};
 use rapid_text::OutOfMemory;
 
-/// How many events of a thread SHB keeps before an access, and how many are must-before it.
+/// The number of a thread's events that SHB keeps before an access, and the number that are must-before it.
 #[derive(Clone, Copy)]
 struct Ends {
     known: u32,
@@ -23,7 +23,7 @@ struct Ends {
 }
 
 impl Search<'_> {
-    /// Takes in the pairs of an access with the events of all lanes.
+    /// Adds the pairs of an access with the events of all lanes.
     pub(crate) fn access(
         &self,
         leasts: &mut [Least],
@@ -49,7 +49,7 @@ impl Search<'_> {
         Ok(())
     }
 
-    // Takes in the pairs of an access with the events of a lane.
+    // Adds the pairs of an access with the events of a lane.
     fn below(
         &self,
         leasts: &mut [Least],
@@ -79,7 +79,7 @@ impl Search<'_> {
         Ok(())
     }
 
-    // Whether all events of the lane are must-before the access's base.
+    // Whether all events of the lane are must-before the access's base, or are that base.
     fn are_forced(&self, lane: &Lane, later: Later) -> bool
         requires sound { IsSound self.now }
         requires lanes { AreClashing self.now lane.now later }
@@ -88,7 +88,7 @@ impl Search<'_> {
         lane.last < self.forced_end(later.event, lane.thread)
     }
 
-    // Where the two orders end in the lane's thread.
+    // The ends of the two orders in the lane's thread.
     fn ends(&self, lane: &Lane, later: Later) -> Ends
         requires sound { IsSound self.now }
         requires lanes { AreClashing self.now lane.now later }
@@ -101,7 +101,7 @@ impl Search<'_> {
         }
     }
 
-    // Takes in the candidates of an access in a lane, and then what SHB orders and must-before does not.
+    // Adds the candidates of an access in a lane, and then the pairs that SHB orders and must-before does not.
     fn compare(
         &self,
         leasts: &mut [Least],
@@ -141,7 +141,7 @@ impl Search<'_> {
         Ok(())
     }
 
-    /// How many events of the thread SHB keeps before the event's base, that base included.
+    /// The number of events of the thread that SHB keeps before the event's base, with that base.
     pub(crate) fn known_end(&self, event: u32, thread: u32) -> u32
         requires sound { IsSound self.now }
         requires event { event < length self.now.indexed.now.events }
@@ -154,7 +154,7 @@ impl Search<'_> {
         }
     }
 
-    // How many events of the thread are must-before the event's base, that base included.
+    // The number of events of the thread that are must-before the event's base, with that base.
     fn forced_end(&self, event: u32, thread: u32) -> u32
         requires sound { IsSound self.now }
         requires event { event < length self.now.indexed.now.events }

@@ -1,4 +1,4 @@
-//! How the pairs of a window are taken in: each, or of each class the first.
+//! Adds the pairs of a window: each one, or the first one of each class.
 ghost use Rattle.std.specs.Prelude.{◌≡◌, ℕ, ◌<◌, ◌≤◌, Contains, OnOk, Some, slice_index};
 ghost use Rattle.must_order.specs.Kinds.{IsKind};
 ghost use Rattle.race_groups.specs.least_pairs.Going.{AreFound, AreMore, AreTakenBefore, Has, IsSound, IsWindow, WasSeen, has_some, kind_of};
@@ -15,7 +15,7 @@ use crate::least_pairs::windows::{Two, Window};
 use rapid_text::OutOfMemory;
 
 impl Search<'_> {
-    /// Takes in the pairs of a window that are sought, if the trace has any.
+    /// Adds the pairs of a window, if the trace has pairs of the kind that the search visits.
     pub(crate) fn take(
         &self,
         sought: Sought,
@@ -52,7 +52,7 @@ impl Search<'_> {
         Ok(())
     }
 
-    // Whether there are any of these in the trace.
+    // Whether the trace has any pairs of this kind.
     fn has(&self, sought: Sought) -> bool
         ensures { result ≡ has_some sought self.now }
     {
@@ -62,7 +62,7 @@ impl Search<'_> {
         }
     }
 
-    // Where in the window those events begin that were not taken in with the last access of the same lane and class.
+    // The index in the window from which events were not compared with the last access of the same lane and class.
     fn fresh(&self, sought: Sought, window: Window) -> usize
         requires sound { IsSound self.now }
         requires window { IsWindow sought self.now window }
@@ -78,7 +78,7 @@ impl Search<'_> {
         }
     }
 
-    // How far the lane was gone through with the last access of the same lane and class.
+    // How many events of the lane were compared with the last access of the same lane and class.
     fn seen(&self, sought: Sought, window: Window, previous: u32) -> usize
         requires sound { IsSound self.now }
         requires window { IsWindow sought self.now window }
@@ -96,7 +96,7 @@ impl Search<'_> {
         }
     }
 
-    // Takes in all pairs of a window.
+    // Adds all pairs of a window.
     fn take_each(
         &self,
         sought: Sought,
@@ -129,7 +129,7 @@ impl Search<'_> {
         Ok(())
     }
 
-    // Takes in the first pair of each class in a window.
+    // Adds the first pair of each class in a window.
     fn take_firsts(
         &self,
         sought: Sought,
@@ -154,7 +154,7 @@ impl Search<'_> {
         Ok(())
     }
 
-    // Takes in the first pair of one class in a window.
+    // Adds the first pair of one class in a window.
     fn take_first(
         &self,
         sought: Sought,

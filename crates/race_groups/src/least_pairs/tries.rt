@@ -18,7 +18,7 @@ pub struct Between {
     pub later: u32,
 }
 
-/// A pair, by its later event and then its earlier one.
+/// A pair of events: the later event, and then the earlier one.
 pub type Pair = (u32, u32);
 
 /// The least open pair of a variable and two threads.
@@ -30,7 +30,7 @@ pub struct Try {
     pub pair: Pair,
 }
 
-/// Whether the first pair stands before the second.
+/// Whether the first pair comes before the second.
 pub(crate) fn is_less(first: Pair, second: Pair) -> bool
     ensures { IsTrue result ↔ IsAhead first second }
 {
@@ -41,7 +41,7 @@ pub(crate) fn is_less(first: Pair, second: Pair) -> bool
     }
 }
 
-/// The lesser of two pairs, of which either may be none.
+/// The lesser of two pairs, or the one that exists.
 pub(crate) fn lesser(one: Option<Pair>, other: Option<Pair>) -> Option<Pair>
     ensures either { (result ≡ one) ⊎ (result ≡ other) }
     ensures one { (p : ℕ × ℕ) → HoldsUp p one → HoldsUp p result }
@@ -54,7 +54,7 @@ pub(crate) fn lesser(one: Option<Pair>, other: Option<Pair>) -> Option<Pair>
     }
 }
 
-/// Takes in the open pairs of a list.
+/// Adds the open pairs of a list.
 pub(crate) fn join_tries(tries: &mut Vec<Try>, most: usize, part: &[Try]) -> Result<(), OutOfMemory>
     requires tries { AreTries most tries.old.items }
     requires part { AreTries most part.now }
@@ -67,7 +67,7 @@ pub(crate) fn join_tries(tries: &mut Vec<Try>, most: usize, part: &[Try]) -> Res
     Ok(())
 }
 
-/// Takes in an open pair: of each variable and two threads the least stays, and of these the first `most`.
+/// Adds an open pair. The least pair of each variable and two threads stays, and of these the first `most`.
 pub(crate) fn note_try(tries: &mut Vec<Try>, most: usize, new: Try) -> Result<(), OutOfMemory>
     requires tries { AreTries most tries.old.items }
     requires most { 0 < most }
@@ -88,7 +88,7 @@ pub(crate) fn note_try(tries: &mut Vec<Try>, most: usize, new: Try) -> Result<()
     Ok(())
 }
 
-// Where the try of the variable and the two threads stands.
+// The index of the try of the variable and the two threads, or None.
 fn place_of(tries: &[Try], between: Between) -> Option<usize>
     ensures within { IfSome result (λ at. at < length tries.now) }
     ensures found { IfSome result (λ at. (d : Other) → (slice_index_or tries.now at d).between ≡ between) }
@@ -97,7 +97,7 @@ fn place_of(tries: &[Try], between: Between) -> Option<usize>
     tries.iter().position(|one| one.between == between)
 }
 
-// The place of the first try behind the pair, or the end.
+// The index of the first try after the pair, or the end.
 fn place_for(tries: &[Try], pair: Pair) -> usize
     ensures within { result ≤ length tries.now }
     ensures low { (k : ℕ) (d : Other) → k < result → IsUpTo (slice_index_or tries.now k d).pair pair }

@@ -1,4 +1,4 @@
-//! The reads of a variable at one place, or the writes, by the first of them.
+//! The reads of a variable at one place, or the writes, represented by the first ones.
 ghost use Rattle.std.specs.Prelude.{◌≡◌, ℕ, ◌<◌, true, IfOk, IfSome, OnOk, Some, length, slice_get, slice_index};
 ghost use Rattle.event_index.specs.Relations.{is_access};
 ghost use Rattle.race_groups.specs.least_pairs.Lanes.{access_op};
@@ -16,8 +16,8 @@ pub(crate) struct Of {
     pub(crate) thread: u32,
 }
 
-/// The reads of a variable at one place, or the writes: the first, and the first of another thread than that one's; the first once more
-/// where there is none. No least conflicting pair has another of them.
+/// The reads of a variable at one place, or the writes. Kept are the first event, and the first event of another
+/// thread; if there is no other thread, the first event again. A least conflicting pair has no other event of a use.
 #[derive(Clone, Copy)]
 pub(crate) struct Use {
     pub(crate) place: u32,
@@ -26,7 +26,8 @@ pub(crate) struct Use {
     pub(crate) other: Of,
 }
 
-/// Where the uses of one variable stand in their list, by place and by whether they write. What is found is compared before it is believed.
+/// The index of each use of one variable, by place and by whether it writes. It is compared with the use before it is
+/// used.
 pub(crate) type Index = IndexMap<(u32, u32), usize>;
 
 /// Whether the operation, which accesses the variable, writes it.
@@ -40,7 +41,7 @@ pub(crate) fn is_writing(op: Op, _variable: u32) -> bool
     }
 }
 
-/// Takes in one access.
+/// Adds one access.
 pub(crate) fn note_use(
     uses: &mut Vec<Use>,
     index: &mut Index,
@@ -64,7 +65,7 @@ pub(crate) fn note_use(
     Ok(())
 }
 
-// Where the use of this place stands, if it was found.
+// The index of the use of this place, if it is known.
 fn use_number(uses: &[Use], index: &Index, place: u32, is_writing: bool) -> Option<usize>
     ensures { IfSome result (λ at. (u : Found) × (slice_get uses.now at ≡ Some u) × IsAlike place is_writing u) }
 {
@@ -75,7 +76,7 @@ fn use_number(uses: &[Use], index: &Index, place: u32, is_writing: bool) -> Opti
     None
 }
 
-// Whether the use stands there, and is of this place.
+// Whether the use at this index is of this place and kind of access.
 fn is_at(uses: &[Use], at: usize, place: u32, is_writing: bool) -> bool
     ensures { result ≡ true → (u : Found) × (slice_get uses.now at ≡ Some u) × IsAlike place is_writing u }
 {
@@ -85,7 +86,7 @@ fn is_at(uses: &[Use], at: usize, place: u32, is_writing: bool) -> bool
     }
 }
 
-// The use with one event more, which is no earlier than those it has.
+// The use with one more event, which is not earlier than the events it has.
 fn widened(one: Use, of: Of) -> Use
     ensures { IsWidened one of result }
 {
@@ -112,7 +113,7 @@ pub(crate) fn are_of_one_thread(one: Use, other: Use) -> bool
         && other.other.thread == one.first.thread
 }
 
-/// For each use how far the uses from there on are those of one thread alone.
+/// For each use, the end of the uses from it on that are those of one thread alone.
 pub(crate) fn runs_of(alloc: Global, uses: &[Use]) -> Result<Vec<usize>, OutOfMemory>
     ensures { IfOk result (λ runs. AreRuns uses.now runs.items) }
 {
@@ -124,7 +125,7 @@ pub(crate) fn runs_of(alloc: Global, uses: &[Use]) -> Result<Vec<usize>, OutOfMe
     Ok(runs)
 }
 
-// Where the run ends that stands at this place, from those of the places after it.
+// The end of the run at this index, from the ends of the later runs.
 fn run_at(uses: &[Use], runs: &[usize], at: usize) -> usize
     requires at { at < length uses.now }
     requires len { length runs.now ≡ length uses.now }

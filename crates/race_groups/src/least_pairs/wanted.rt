@@ -1,6 +1,6 @@
-//! Which conflicting pairs are asked for.
+//! The kinds of conflicting pairs to look for.
 
-/// Which conflicting pairs are asked for.
+/// The kind of conflicting pairs to look for.
 #[derive(Clone, Copy, PartialEq, Eq, Debug)]
 pub enum Wanted {
     /// Candidates.

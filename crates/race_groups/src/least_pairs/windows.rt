@@ -1,10 +1,10 @@
-//! Which events of a lane an access is compared with.
+//! The events of a lane with which an access is compared.
 ghost use Rattle.std.specs.Prelude.{◌≡◌, ℕ, ◌<◌, ◌≢◌, ◌⊎◌, ◌||◌, true, false, length};
 
 use crate::least_pairs::lanes::{Lane, Later};
 use crate::least_pairs::tries::Between;
 
-/// The events of a lane from one place up to another, and an access that they are compared with.
+/// The events of a lane from one index up to another, and the access with which they are compared.
 #[derive(Clone, Copy)]
 pub(crate) struct Window<'a> {
     pub(crate) lane: &'a Lane,
@@ -13,7 +13,7 @@ pub(crate) struct Window<'a> {
     pub(crate) end: usize,
 }
 
-/// Two accesses, and what their pair is of.
+/// Two accesses, with the variable and the threads of their pair.
 #[derive(Clone, Copy)]
 pub(crate) struct Two {
     pub(crate) first: u32,
