@@ -3,14 +3,14 @@ use Rattle.std.specs.Prelude.{◌≡◌, ◌+◌, ◌*◌, ◌/◌, ◌%◌, ◌
 use Rattle.std.proofs.Common.{arith}
 use Rattle.moves.specs.declared.birth.Birth.TheInside.{Inside}
 
--- a birth as a number: births are ordered by their entry, and then by their place in it
+-- a birth as a number: births are ordered by their entry, and then by their index in it
 abbrev pub age : ℕ → ℕ → ℕ
 age entry place = entry * 4294967296 + place
 
 abbrev pub age_of : Inside → ℕ
 age_of b = age b.entry b.place
 
--- places are below what an entry is multiplied by
+-- the index in an entry is below the factor of the entry
 abbrev pub IsShort : Inside → Type 0
 IsShort b = b.place < 4294967296
 

@@ -13,8 +13,8 @@ use Rattle.moves.specs.Births.{born}
 use Rattle.moves.specs.Moves.{made_at, applied}
 use Rattle.moves.specs.Inverses.{Fits, CanTurn, IsTurned}
 
--- The command is accepted, with an inverse that is the written name's and fits its rows before and after;
--- or want of memory where it would be accepted; or its first refusal. W are the rows before, V those after.
+-- The command is accepted, with an inverse of the written name that fits its rows before and after. Or memory runs out,
+-- and the command would be accepted; or this is its first refusal. W are the rows before, V those after.
 abbrev pub IsApplied : Recording → List Proposal → ℕ → Command → Rows → Rows → Result Inverse MoveRefusal → Type 0
 IsApplied T B n d W V (Ok inverse) =
     (applied T B n d W ≡ Ok V) × (inverse.name ≡ writes d) × Fits inverse.step (row_of W (writes d)) (row_of V (writes d))
@@ -25,7 +25,7 @@ IsApplied T B n d W V (Err why) = (applied T B n d W ≡ Err why) × (V ≡ W)
 abbrev pub TakesBack : Inverse → Rows → Rows → Type 0
 TakesBack inverse V W = CanTurn inverse.name inverse.step V × ((U : Rows) → IsTurned inverse.name inverse.step V U → U ≡ W)
 
--- it would be accepted, or its first refusal
+-- the command would be accepted, or this is its first refusal
 abbrev pub IsChecked : Recording → List Proposal → ℕ → Command → Rows → Result (Unit {0}) MoveRefusal → Type 0
 IsChecked T B n d W (Ok u) = IsOk (made_at T B n d W)
 IsChecked T B n d W (Err why) = made_at T B n d W ≡ Err why

@@ -1,5 +1,5 @@
--- How the rows of a workspace are held: each under its birth, and each name's birth beside them. No public
--- clause cites this module.
+-- How a workspace keeps its rows: each under its birth, and each name's birth beside them. No public clause cites this
+-- module.
 use Rattle.std.specs.Prelude.{◌≡◌, ℕ, List, Option, Some, map, option_map, slice_get}
 use Rattle.std.specs.Ordering.{nat_cmp}
 use Rattle.std.specs.Str.{bytes_eq}
@@ -20,13 +20,13 @@ born W b = lookup (is_at (nat_cmp b)) (by_birth W)
 abbrev pub birth_of : Rows → List ℕ → Option ℕ
 birth_of W x = option_map (λ (r : Row). r.birth) (row_of W x)
 
--- the tree has each row under its birth, and the names have the births of their rows
+-- the entries have each row under its birth, and the names have the births of their rows
 pub record IsHeld (births : List (List ℕ × ℕ)) (rows : List (ℕ × (List ℕ × Row))) : Type 0 where
   pub listing : IsListing (values_of rows)
   pub tree : rows ≡ by_birth (values_of rows)
   pub names : (x : List ℕ) → lookup (bytes_eq x) births ≡ birth_of (values_of rows) x
 
--- the name x and its birth b stand at this place, and b is what is found under x
+-- the name x and its birth b are at this index, and a look-up of x finds b
 pub record HasBirth (births : List (List ℕ × ℕ)) (at : ℕ) (x : List ℕ) (b : ℕ) : Type 0 where
   pub there : slice_get births at ≡ Some (x, b)
   pub found : lookup (bytes_eq x) births ≡ Some b

@@ -5,11 +5,11 @@ use Rattle.schedule.specs.Reordering.{IsCorrectReordering}
 use Rattle.schedule.specs.Shows.{Shows}
 use Rattle.moves.specs.declared.board.Proposal.{Proposal}
 
--- its schedule shows its pair
+-- the proposal's schedule shows its pair
 abbrev pub IsShown : Proposal → Type 0
 IsShown p = Shows p.schedule.trace.events p.schedule.events p.first p.second
 
--- each proposal's schedule is one of the trace T
+-- each proposal's schedule is of the trace T
 abbrev pub IsBoardOf : Recording → List Proposal → Type 0
 IsBoardOf T B = All (λ (p : Proposal). p.schedule.trace ≡ T) B
 

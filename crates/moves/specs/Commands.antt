@@ -6,7 +6,7 @@ use Rattle.moves.specs.declared.command.Command.{Command}
 use Rattle.moves.specs.declared.command.Command.TheVariants.{Fresh, Add, Back, Swap, Branch, Drop, Adopt}
 use Rattle.moves.specs.declared.command.Touched.{Touched}
 
--- the name whose row a command reads: of a branch its source, else the name that it writes
+-- the name whose row a command reads: the source of a branch, otherwise the name that it writes
 abbrev pub reads : Command → List ℕ
 reads (Fresh x) = x
 reads (Add x e) = x
@@ -16,7 +16,7 @@ reads (Branch x k to) = x
 reads (Drop x) = x
 reads (Adopt x p) = x
 
--- the name whose row it changes, puts in or takes out: of a branch the new one
+-- the name whose row the command changes, adds or removes: the new one of a branch
 abbrev pub writes : Command → List ℕ
 writes (Fresh x) = x
 writes (Add x e) = x
@@ -26,7 +26,7 @@ writes (Branch x k to) = to
 writes (Drop x) = x
 writes (Adopt x p) = x
 
--- whether what it does depends on, or changes, the row of x
+-- whether the command reads or writes the row of x
 abbrev pub touches : Command → List ℕ → Bool
 touches d x = bytes_eq (writes d) x || bytes_eq (reads d) x
 
@@ -47,6 +47,6 @@ is_touched t x = is_name_of t.second x || bytes_eq t.first x
 abbrev pub touches_any : List Command → List ℕ → Bool
 touches_any D x = list_any (λ d. touches d x) D
 
--- whether one of them writes x
+-- whether one of the commands writes x
 abbrev pub writes_any : List Command → List ℕ → Bool
 writes_any D x = list_any (λ d. bytes_eq (writes d) x) D

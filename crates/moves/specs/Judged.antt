@@ -15,7 +15,7 @@ use Rattle.moves.specs.Inverses.{turned}
 use Rattle.moves.specs.Moves.{made_at, new_row}
 use Rattle.moves.specs.Rows.{Rows, row_of}
 
--- the step of the written row; n is the birth of a row that comes
+-- the step of the written row; n is the birth of a row that is added
 abbrev pub step_of : Recording → ℕ → Judged → Step
 step_of T n Opens = Comes (new_row T n [])
 step_of T n (Copies s k) = Comes (new_row T n (take k s.now.events))
@@ -25,7 +25,7 @@ step_of T n Loses = LosesStep
 step_of T n (Gains e) = GainsStep e
 step_of T n (Exchanges i) = ExchangesStep i
 
--- what is to be copied is of the trace
+-- the schedule to be copied is of the trace
 abbrev pub IsSourceOf : Recording → Judged → Type 0
 IsSourceOf T (Copies s k) = s.now.trace ≡ T
 IsSourceOf T (Adopts s) = s.now.trace ≡ T
@@ -35,7 +35,7 @@ IsSourceOf T j = Unit {0}
 abbrev pub Makes : Recording → List Proposal → ℕ → Command → Rows → Step → Type 0
 Makes T B n d W step = (o : Option Row) × (made_at T B n d W ≡ Ok o) × (turned step (row_of W (writes d)) ≡ Some o)
 
--- The command is accepted, and this is what it does, whatever birth a new row gets; or its first refusal.
+-- The command is accepted and takes this step, for any birth of a new row; or this is its first refusal.
 abbrev pub IsJudged : Recording → List Proposal → Command → Rows → Result Judged MoveRefusal → Type 0
 IsJudged T B d W (Ok j) = (n : ℕ) → Makes T B n d W (step_of T n j)
 IsJudged T B d W (Err OutOfMemory) = ⊥

@@ -1,4 +1,4 @@
--- How a name lies in its place: its bytes, and zeros after them. No public clause cites this module.
+-- How the bytes of a name are stored: the bytes, and then zeros. No public clause cites this module.
 use Rattle.std.specs.Prelude.{◌≡◌, ℕ, ◌-◌, ◌≤◌, true, List, ◌++◌, length, take, drop, replicate}
 use Rattle.std.proofs.Common.{sym, ap, ◌∙◌, arith, take-append-drop, length-take-le}
 use Rattle.moves.specs.declared.name.Name.TheInside.{Inside}
@@ -13,7 +13,7 @@ pub record IsPadded (n : Inside) : Type 0 where
   pub zeros : drop n.len n.padded ≡ replicate (64 - n.len) 0
   pub named : is_name (bytes_of n) ≡ true
 
--- these bytes in their place
+-- these bytes as they are stored
 abbrev pub padded_with : List ℕ → Inside
 padded_with bs = record { len = length bs; padded = bs ++ replicate (64 - length bs) 0 }
 

@@ -1,5 +1,5 @@
--- What a command makes of the rows, or its first refusal. The commands and their refusals are this
--- project's own. `T` is the trace, `B` the board, `n` the birth that a new row gets.
+-- What a command makes of the rows, or its first refusal. The commands and their refusals are this project's own. `T`
+-- is the trace, `B` the board, `n` the birth of a new row.
 use Rattle.std.specs.Prelude.{ℕ, ◌-◌, ◌==◌, List, [], ◌∷◌, ◌++◌, Option, Some, None, Result, Ok, Err, if◌then◌else◌, nat_le, length, take, slice_get}
 use Rattle.rapid_text.specs.Recording.{Recording}
 use Rattle.schedule.specs.declared.refusal.Disabled.{Disabled}
@@ -27,23 +27,23 @@ with_events r P = record { birth = r.birth; schedule = record { trace = r.schedu
 abbrev pub front : List ℕ → List ℕ
 front P = take (length P - 1) P
 
--- the row and then the event, where nothing refuses it
+-- the row with the event appended, if nothing refuses it
 abbrev pub added : Row → ℕ → Option Disabled → Result (Option Row) MoveRefusal
 added r e None = Ok (Some (with_events r (r.schedule.events ++ e ∷ [])))
 added r e (Some cause) = Err (DisabledBy cause)
 
--- the row with two neighbours in each other's place, where nothing refuses it
+-- the row with two neighbours exchanged, if nothing refuses it
 abbrev pub swapped : Row → ℕ → Option SwapRefusal → Result (Option Row) MoveRefusal
 swapped r i None = Ok (Some (with_events r (exchanged r.schedule.events i)))
 swapped r i (Some cause) = Err (SwapBy cause)
 
--- the row with the events of a proposal
+-- the row with the events of a proposal, if the board has it
 abbrev pub adopted : Row → Option Proposal → Result (Option Row) MoveRefusal
 adopted r None = Err NoSuchProposal
 adopted r (Some p) = Ok (Some (with_events r p.schedule.events))
 
--- What a command makes of the row that it writes, none being no row, or its first refusal. `mine` is the
--- row of the written name, `theirs` that of the name that is read; it depends on no other row.
+-- What a command makes of the row that it writes, or its first refusal. None is no row. `mine` is the row of the
+-- written name, `theirs` that of the name that the command reads. No other row matters.
 abbrev pub made : Recording → List Proposal → ℕ → Command → Option Row → Option Row → Result (Option Row) MoveRefusal
 made T B n (Fresh x) None theirs = Ok (Some (new_row T n []))
 made T B n (Fresh x) (Some r) theirs = Err NameTaken
@@ -67,11 +67,11 @@ made T B n (Drop x) (Some r) theirs = Ok None
 made T B n (Adopt x p) None theirs = Err NoSuchSchedule
 made T B n (Adopt x p) (Some r) theirs = adopted r (slice_get B p)
 
--- what it makes of the written row at W
+-- what the command makes of the written row at W
 abbrev pub made_at : Recording → List Proposal → ℕ → Command → Rows → Result (Option Row) MoveRefusal
 made_at T B n d W = made T B n d (row_of W (writes d)) (row_of W (reads d))
 
--- the rows where the name x has what was made
+-- the rows with what was made under the name x
 abbrev pub put_made : Rows → List ℕ → Result (Option Row) MoveRefusal → Result Rows MoveRefusal
 put_made W x (Ok o) = Ok (with_row W x o)
 put_made W x (Err why) = Err why

@@ -1,4 +1,4 @@
--- What a batch of commands asks for before it is run. No public clause cites this module.
+-- What a batch of commands requires before it is run. No public clause cites this module.
 use Rattle.std.specs.Prelude.{◌<◌, ℕ, List, length}
 use Rattle.rapid_text.specs.Recording.{Recording}
 use Rattle.moves.specs.declared.board.Proposal.{Proposal}

@@ -1,4 +1,4 @@
--- Rows that lie under their ages, by rising age. No public clause cites this module.
+-- Rows under their ages, by rising age. No public clause cites this module.
 use Rattle.std.specs.Prelude.{◌≡◌, ◌≢◌, ◌<◌, ℕ, List, [], ◌∷◌, All, Result, Some, None, length, slice_index_or}
 use Rattle.std.specs.BTreeMap.{is_at}
 use Rattle.std.specs.Map.{lookup, set_value}
@@ -21,7 +21,7 @@ abbrev pub Rises : Entries → Type 0
 Rises [] = Unit {0}
 Rises (e ∷ E) = All (λ (f : ℕ × (List ℕ × Row)). e.0 < f.0) E × Rises E
 
--- the row of age a stands at this place
+-- the row of age a is at this index
 abbrev pub IsPlaceOf : Entries → ℕ → ℕ → Type 0
 IsPlaceOf E a i = (i < length E) × ((d : ℕ × (List ℕ × Row)) → (slice_index_or E i d).0 ≡ a)
 
@@ -33,12 +33,12 @@ EndsBelow E a = All (λ (e : ℕ × (List ℕ × Row)). e.0 < a) E
 abbrev pub with_schedule : Row → Scheduled → Row
 with_schedule r s = record { birth = r.birth; schedule = s }
 
--- the step can be taken of the schedule that lies under a
+-- the step can be taken of the schedule under the age a
 abbrev pub CanStep : Recording → ℕ → Step → Entries → Type 0
 CanStep T a step E = (p : List ℕ × Row) × (lookup (is_at (nat_cmp a)) E ≡ Some p) × (p.1.schedule.trace ≡ T) × (stepped step p.1.schedule ≢ None)
 
--- The schedule of p, which lies under a, has gone one step, which is taken back by the step that is given; or it has
--- not, and the step itself is given. E are the entries before, F those after.
+-- The schedule of p, which is under the age a, has taken the step, and the result is the step that takes it back. Or it
+-- has not, and the schedule stays. E are the entries before, F those after.
 abbrev pub StepsAt : ℕ → Step → Entries → Entries → Result Step Step → List ℕ × Row → Type 0
 StepsAt a step E F q p =
     (t : Scheduled) × (F ≡ set_value (is_at (nat_cmp a)) E (p.0, with_schedule p.1 t)) × IfOk q (λ back. stepped step p.1.schedule ≡ Some t)

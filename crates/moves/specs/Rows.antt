@@ -19,12 +19,12 @@ abbrev pub IsListing : Rows → Type 0
 IsListing [] = Unit {0}
 IsListing (p ∷ W) = (row_of W p.0 ≡ None) × All (λ (q : List ℕ × Row). p.1.birth < q.1.birth) W × IsListing W
 
--- W with a row put before the first of a later birth
+-- W with a row put before the first row of a later birth
 abbrev pub put_in : List ℕ → Row → Rows → Rows
 put_in x r [] = (x, r) ∷ []
 put_in x r (p ∷ W) = if nat_lt r.birth p.1.birth then (x, r) ∷ p ∷ W else p ∷ put_in x r W
 
--- W where the name x has this row, or none
+-- W with this row, or none, under the name x
 abbrev pub with_row : Rows → List ℕ → Option Row → Rows
 with_row W x None = remove_entry (bytes_eq x) W
 with_row W x (Some r) = put_in x r (remove_entry (bytes_eq x) W)
@@ -38,11 +38,11 @@ IsFree W x (Some r) = (y : List ℕ) (s : Row) → y ≢ x → row_of W y ≡ So
 abbrev pub Below : ℕ → Rows → Type 0
 Below n W = All (λ (q : List ℕ × Row). q.1.birth < n) W
 
--- each row's schedule is one of the trace T
+-- each row's schedule is of the trace T
 abbrev pub IsOfTrace : Recording → Rows → Type 0
 IsOfTrace T W = All (λ (q : List ℕ × Row). q.1.schedule.trace ≡ T) W
 
--- the row's schedule is one of the trace T: a correct reordering of it
+-- the row's schedule is of the trace T: a correct reordering of it
 abbrev pub IsReordering : Recording → Row → Type 0
 IsReordering T r = (r.schedule.trace ≡ T) × IsCorrectReordering T.events r.schedule.events
 

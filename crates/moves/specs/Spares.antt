@@ -1,4 +1,4 @@
--- Which commands are taken back with no memory, and by which steps. No public clause cites this module.
+-- Which commands are taken back without memory, and by which steps. No public clause cites this module.
 use Rattle.std.specs.Prelude.{Bool, true, false}
 use Rattle.moves.specs.declared.command.Command.{Command}
 use Rattle.moves.specs.declared.command.Command.TheVariants.{Fresh, Add, Back, Swap, Branch, Drop, Adopt}
@@ -6,7 +6,7 @@ use Rattle.moves.specs.declared.inverse.Inverse.{Inverse}
 use Rattle.moves.specs.declared.inverse.Step.{Step}
 use Rattle.moves.specs.declared.inverse.Step.TheVariants.{Goes, Comes, Was, Loses, Gains, Exchanges}
 
--- The command makes a row or makes one longer, or exchanges two of its events: taking it back wants no memory.
+-- The command makes a row, appends an event, or exchanges two events: taking it back needs no memory.
 abbrev pub builds : Command → Bool
 builds (Fresh x) = true
 builds (Add x e) = true
@@ -16,7 +16,7 @@ builds (Branch x k to) = true
 builds (Drop x) = false
 builds (Adopt x p) = false
 
--- the step puts in no row and appends no event
+-- the step adds no row and appends no event
 abbrev pub spares_memory : Step → Bool
 spares_memory Goes = true
 spares_memory (Comes r) = false

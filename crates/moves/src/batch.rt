@@ -1,4 +1,4 @@
-//! Batches: commands applied all or none, and what takes them back.
+//! Batches: commands of which all or none are applied, and what takes them back.
 ghost use Rattle.std.specs.Prelude.{◌≡◌, ◌+◌, ◌<◌, ◌≤◌, ℕ, true, [], length, take, vec_len, vec_capacity, IfOk, OnOk};
 ghost use Rattle.std.specs.List.{list_all};
 ghost use Rattle.moves.specs.Ready.{MayRun};
@@ -24,14 +24,14 @@ use std::marker::Model;
 /// Why a batch is refused.
 #[derive(Clone, Copy, PartialEq, Eq, Debug)]
 pub enum BatchRefusal {
-    /// 70: a command is refused.
+    /// 70: a command of the batch is refused.
     InBatch {
-        /// Its place among the commands, from 0.
+        /// Its index among the commands, from 0.
         place: u32,
         /// Why it is refused.
         cause: MoveRefusal,
     },
-    /// 49: a growth was refused.
+    /// 49: out of memory.
     OutOfMemory,
 }
 
@@ -51,7 +51,7 @@ impl Model for Inverses {
     ghost view = { λ i. i.items.items };
 }
 
-/// Applies the commands one after another, up to the first that is refused.
+/// Applies the commands one after another, up to the first refused one.
 pub(crate) fn run(
     rows: &mut Workspace,
     inverses: &mut Vec<Inverse>,
@@ -78,7 +78,7 @@ pub(crate) fn run(
     Ok(())
 }
 
-/// The refusal of the command at this place.
+/// The refusal of the command at this index.
 fn refused(place: u32, cause: MoveRefusal) -> BatchRefusal
     ensures { result ≡ refused_as place cause }
 {
@@ -88,7 +88,7 @@ fn refused(place: u32, cause: MoveRefusal) -> BatchRefusal
     }
 }
 
-/// Applies the commands in place, all or none, where what takes back those before a refusal wants no memory.
+/// Applies all of the commands in place, or none. Taking back the commands before a refusal needs no memory.
 pub(crate) fn run_here(
     rows: &mut Workspace,
     mut done: Vec<Inverse>,
@@ -110,7 +110,7 @@ pub(crate) fn run_here(
     Err(why)
 }
 
-/// Whether all commands but the last are such that what takes them back wants no memory.
+/// Whether no memory is needed to take back all commands but the last.
 pub(crate) fn builds_up(commands: &[Command]) -> bool
     ensures { result ≡ true → (k : ℕ) → k < length commands.now → list_all builds (take k commands.now) ≡ true }
 {
@@ -150,7 +150,7 @@ fn builds(command: &Command) -> bool
     }
 }
 
-/// Whether none of the steps wants memory.
+/// Whether none of the steps needs memory.
 pub(crate) fn are_spare(inverses: &[Inverse]) -> bool
     ensures { result ≡ list_all is_spare inverses.now }
 {
@@ -170,7 +170,7 @@ fn spares_memory(step: &Step) -> bool
     }
 }
 
-/// Takes the commands back in place, the last first, where no step wants memory.
+/// Takes the commands back in place, the last first. No step needs memory.
 pub(crate) fn unwind(rows: &mut Workspace, indexed: &Indexed, mut inverses: Vec<Inverse>)
     requires of_trace { IsOfTrace indexed.now rows.old }
     requires inverses { AreOfTrace indexed.now inverses.items }
@@ -185,7 +185,7 @@ pub(crate) fn unwind(rows: &mut Workspace, indexed: &Indexed, mut inverses: Vec<
     unwind(rows, indexed, inverses);
 }
 
-/// Takes the commands back, the last first, by steps of its own.
+/// Takes the commands back, the last first, by copies of the steps.
 pub(crate) fn turn_back(
     rows: &mut Workspace,
     alloc: Global,
@@ -207,7 +207,7 @@ pub(crate) fn turn_back(
     turn_back(rows, alloc, indexed, earlier)
 }
 
-/// An inverse of its own.
+/// A separate copy of an inverse.
 fn copied(inverse: &Inverse, alloc: Global, indexed: &Indexed) -> Result<Inverse, OutOfMemory>
     requires { IsStepOf indexed.now inverse.now.step }
     ensures { IfOk result (λ copy. copy ≡ inverse.now) }

@@ -4,8 +4,8 @@ ghost use Rattle.moves.specs.Ages.{age};
 
 use std::marker::Model;
 
-/// When a row was made: the number of the entry whose command made it, and the place of that command among the
-/// commands of its entry, from 0. Births are ordered by entry and then by place. Contracts see a birth as one number,
+/// When a row was made: the number of the log entry whose command made it, and the index of that command among the
+/// commands of its entry, from 0. Births are ordered by entry and then by index. Contracts see a birth as one number,
 /// its age, in the same order.
 #[derive(Clone, Copy)]
 pub struct Birth {
@@ -29,7 +29,7 @@ impl Model for Birth {
 }
 
 impl Birth {
-    /// The birth of what the command at this place of this entry makes.
+    /// The birth of the row that the command at this index of this entry makes.
     pub fn new(entry: u64, place: u32) -> Birth
         ensures { result ≡ age entry place }
     {
@@ -43,7 +43,7 @@ impl Birth {
         self.entry
     }
 
-    /// The place in the entry.
+    /// The index in the entry.
     pub fn place(&self) -> u32
         ensures { result ≡ self.now % 4294967296 }
     {

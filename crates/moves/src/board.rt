@@ -10,7 +10,7 @@ use std::marker::Model;
 /// A schedule that shows a pair of conflicting events.
 #[derive(Drop)]
 pub struct Proposal {
-    /// The one event of the pair.
+    /// One event of the pair.
     pub first: u32,
     /// The other event.
     pub second: u32,
@@ -37,7 +37,7 @@ impl Model for Board {
 }
 
 impl Board {
-    /// The board with no proposals. It takes no memory: `alloc` is kept for later.
+    /// The board with no proposals. It takes no memory yet: `alloc` is kept for later.
     pub fn empty(alloc: Global) -> Board
         ensures { result ≡ [] }
     {
@@ -46,7 +46,7 @@ impl Board {
         }
     }
 
-    /// Appends a proposal, or gives the schedule back where there is no memory.
+    /// Appends a proposal. If memory runs out, returns the schedule.
     pub fn push(
         &mut self,
         first: u32,

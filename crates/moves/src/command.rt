@@ -7,45 +7,45 @@ use crate::name::Name;
 /// A change of one named schedule.
 #[derive(Clone, Copy)]
 pub enum Command {
-    /// A new schedule with no events.
+    /// Makes a new schedule with no events.
     Fresh {
         /// Its name.
         name: Name,
     },
-    /// An event is appended.
+    /// Appends an event.
     Add {
         /// The schedule.
         name: Name,
         /// The event's number in the trace, from 0.
         event: u32,
     },
-    /// The last event is taken off.
+    /// Takes off the last event.
     Back {
         /// The schedule.
         name: Name,
     },
-    /// Two neighbours change places.
+    /// Exchanges two neighbours.
     Swap {
         /// The schedule.
         name: Name,
-        /// The place of the first of the two, from 0.
+        /// The index of the first of the two in the schedule, from 0.
         at: u32,
     },
-    /// A new schedule with the first events of another one.
+    /// Makes a new schedule with the first events of another one.
     Branch {
         /// The schedule whose events are copied.
         name: Name,
-        /// How many of them.
+        /// How many events are copied.
         length: u32,
         /// The new schedule's name.
         to: Name,
     },
-    /// The schedule goes.
+    /// Drops the schedule.
     Drop {
         /// The schedule.
         name: Name,
     },
-    /// The events of a proposal take the place of the schedule's own.
+    /// Replaces the events of the schedule by those of a proposal.
     Adopt {
         /// The schedule.
         name: Name,
@@ -57,14 +57,14 @@ pub enum Command {
 /// The names that a command touches.
 #[derive(Clone, Copy)]
 pub struct Touched {
-    /// The name that the command reads: of a branch its source, else the name that it writes.
+    /// The name that the command reads: the source of a branch, otherwise the name that it writes.
     pub first: Name,
-    /// Of a branch the name of the new schedule.
+    /// The name of the new schedule, if the command is a branch.
     pub second: Option<Name>,
 }
 
 impl Command {
-    /// The name that the command writes: of a branch the new schedule's.
+    /// The name that the command writes: the new schedule of a branch, otherwise the name of the command.
     pub fn writes(&self) -> Name
         ensures { result ≡ writes self.now }
     {
@@ -78,7 +78,7 @@ impl Command {
         }
     }
 
-    /// The name that the command reads: of a branch its source, else the name that it writes.
+    /// The name that the command reads: the source of a branch, otherwise the name that it writes.
     pub fn reads(&self) -> Name
         ensures { result ≡ reads self.now }
     {
@@ -97,11 +97,11 @@ impl Command {
         }
     }
 
-    /// The names that the command touches: the one that it writes, and of a branch its source before it.
+    /// The names that the command touches: the one that it reads, and the new schedule of a branch.
     pub fn touches(&self) -> Touched
         ensures first { result.first ≡ reads self.now }
         ensures second { result.second ≡ target_of self.now }
-        // A name is touched exactly where it is one of these.
+        // A command touches a name exactly if it is one of these.
         ensures exact { (x : List ℕ) → is_touched result x ≡ touches self.now x }
     {
         match *self {

@@ -1,30 +1,30 @@
-//! Guesses where names stand in a table.
+//! Guesses of the indexes of names in a table.
 
 use crate::name::Name;
 use std::hash::{FoldHasher, Hasher};
 
 // How many guesses are kept for one table: a power of two.
 const GUESSES: usize = 256;
-// How far a mix is shifted to tell the place of its guess.
+// How far a mix is shifted right to get the index of its guess.
 const SHIFT: u32 = 56;
 
-/// Where names of schedules stood in a table, one for each of 256 quick mixes of a name's bytes. A guess spares a
-/// look-up by `TextKeyed`, and is compared with the table before it is believed. So its own mix needs no key: who
-/// chooses names that share a mix makes the guesses useless, and no look-up dearer. Contracts say nothing of guesses.
+/// Where names of schedules were in a table, one for each of 256 quick mixes of a name's bytes. A guess saves a look-up
+/// by `TextKeyed`, and callers compare it with the table before they use it. So the mix needs no key: names chosen to
+/// share a mix make the guesses useless, but no look-up slower. Contracts say nothing of guesses.
 #[derive(Clone, Copy)]
 pub struct Guesses {
     places: [u32; GUESSES],
 }
 
 impl Guesses {
-    /// No name was looked up yet.
+    /// No name was looked up yet: each guess is 0.
     pub fn new() -> Guesses {
         Guesses {
             places: [0; GUESSES],
         }
     }
 
-    /// Where the last name of this mix stood.
+    /// The index of the last noted name with the same mix, or 0.
     pub fn place(&self, name: &Name) -> usize {
         match self.places.get(mix_of(name)) {
             Some(place) => *place as usize,
@@ -32,7 +32,7 @@ impl Guesses {
         }
     }
 
-    /// Notes where a name stands, unless it was guessed to stand there.
+    /// Notes the index of a name, unless the guess was right.
     pub fn note(&mut self, name: &Name, guess: usize, place: usize) {
         if guess == place {
             return;

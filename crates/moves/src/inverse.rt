@@ -9,21 +9,21 @@ use event_index::Indexed;
 use schedule::Schedule;
 use std::mem;
 
-/// One step of one row. Only a step that puts something in keeps a list, which it owns. A step leads forth where a
-/// command is applied and back where it is taken back.
+/// One step of one row. Only a step that adds a row or replaces a schedule has a list, which it owns. Applying a
+/// command takes a step, and so does taking it back.
 #[derive(Drop)]
 pub enum Step {
-    /// The row goes.
+    /// The row is removed.
     Goes,
-    /// This row comes, to its place by birth.
+    /// This row is added, at its place by birth.
     Comes(Row),
-    /// This schedule takes the place of the row's own.
+    /// This schedule replaces the row's own.
     Was(Schedule),
-    /// The last event goes.
+    /// The last event is removed.
     Loses,
     /// This event is appended.
     Gains(u32),
-    /// The events at this place and the next change places.
+    /// The events at this index and the next change places.
     Exchanges(u32),
 }
 
@@ -36,7 +36,7 @@ pub struct Inverse {
     pub step: Step,
 }
 
-/// Takes a step of a schedule and gives the step that leads back; or gives the step where there is no memory.
+/// Takes a step of a schedule and returns the step that leads back. If memory runs out, returns the step itself.
 pub(crate) fn turn_schedule(
     schedule: &mut Schedule,
     indexed: &Indexed,
@@ -51,7 +51,7 @@ pub(crate) fn turn_schedule(
     ensures succeeds { wants_memory step ≡ false → IsOk result }
     ensures reordering { IsCorrectReordering schedule.old.trace.events schedule.old.events }
 {
-    // that the whole list is a correct reordering is why its last event may be appended again
+    // the last event may be appended again, because the whole list is a correct reordering
     let _events = schedule.events();
     match step {
         Step::Was(other) => Ok(Step::Was(mem::replace(schedule, other))),

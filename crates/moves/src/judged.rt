@@ -1,4 +1,4 @@
-//! Whether a command is refused, found out with no memory; and the step that an accepted command is.
+//! Whether a command is refused, found out without memory; and the step that an accepted command takes.
 ghost use Rattle.std.specs.Prelude.{◌≡◌, IfOk, take};
 ghost use Rattle.moves.specs.Boards.{IsBoardOf};
 ghost use Rattle.moves.specs.Judged.{IsJudged, IsSourceOf, step_of};
@@ -17,28 +17,28 @@ use rapid_text::OutOfMemory;
 use schedule::Schedule;
 use std::alloc::Global;
 
-/// What an accepted command does to the row that it writes. What it copies it borrows, since a command is judged
-/// with no memory.
+/// What an accepted command does to the row that it writes. It borrows what is to be copied, because a command is
+/// judged without memory.
 #[derive(Clone, Copy)]
 pub(crate) enum Judged<'a> {
-    /// A row with no events comes.
+    /// A row with no events is added.
     Opens,
-    /// A row with the first events of this schedule comes.
+    /// A row with the first events of this schedule is added.
     Copies(&'a Schedule, u32),
-    /// A copy of this schedule takes the place of the row's own.
+    /// A copy of this schedule replaces the row's own.
     Adopts(&'a Schedule),
-    /// The row goes.
+    /// The row is removed.
     Goes,
-    /// The last event goes.
+    /// The last event is removed.
     Loses,
     /// This event is appended.
     Gains(u32),
-    /// The events at this place and the next change places.
+    /// The events at this index and the next change places.
     Exchanges(u32),
 }
 
 impl<'a> Judged<'a> {
-    /// The step, with memory for what it copies. A row that comes has this birth.
+    /// The step, with memory for what it copies. A row that it adds has this birth.
     pub(crate) fn step(
         self,
         alloc: Global,

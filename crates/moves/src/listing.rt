@@ -1,4 +1,4 @@
-//! The rows of a workspace: a tree of them by birth, and each name's birth beside it.
+//! The rows of a workspace by birth, and each name's birth beside them.
 ghost use Rattle.std.specs.Prelude.{◌≡◌, ◌<◌, [], true, false, OnOk, OnErr, IsOk, IfOk, IfErr, IfSome, IfNone, Some, None, is_some, length, slice_get, take, option_map, ◌+◌};
 ghost use Rattle.std.specs.Map.{remove_entry};
 ghost use Rattle.std.specs.Str.{bytes_eq};
@@ -33,7 +33,7 @@ use std::marker::Model;
 #[derive(Drop)]
 pub(crate) struct Listing {
     births: Births,
-    // where names stand among the births
+    // the guessed indexes of names among the births
     guesses: Guesses,
     rows: Rising,
 }
@@ -51,7 +51,7 @@ impl Model for Listing {
 }
 
 impl Listing {
-    /// No rows. It takes no memory: `alloc` is kept for later.
+    /// No rows. It takes no memory yet: `alloc` is kept for later.
     pub(crate) fn new(alloc: Global, hashers: TextKeyed) -> Listing
         ensures { result ≡ [] }
     {
@@ -70,7 +70,7 @@ impl Listing {
         self.rows.len()
     }
 
-    /// The name and the row at this place, by rising birth.
+    /// The name and the row at this index, by rising birth.
     pub(crate) fn row_at(&self, at: usize) -> (Name, &Row)
         requires { at < length self.now }
         ensures { slice_get self.now at ≡ Some (result.0, result.1.now) }
@@ -79,7 +79,7 @@ impl Listing {
         (*name, row)
     }
 
-    /// The same, of the trace of the tables.
+    /// The same, with the fact that the row is of the trace of the tables.
     fn row_of_trace_at(&self, indexed: &Indexed, at: usize) -> (Name, &Row)
         requires of_trace { IsOfTrace indexed.now self.now }
         requires at { at < length self.now }
@@ -104,7 +104,7 @@ impl Listing {
         Ok(names)
     }
 
-    /// A listing of its own with the same rows.
+    /// A separate listing with the same rows.
     pub(crate) fn copied(&self, alloc: Global, indexed: &Indexed) -> Result<Listing, OutOfMemory>
         requires { IsOfTrace indexed.now self.now }
         ensures { IfOk result (λ copy. copy ≡ self.now) }
@@ -117,7 +117,7 @@ impl Listing {
         Ok(copy)
     }
 
-    // Puts a copy of a row behind all others.
+    // Appends a copy of a row.
     fn put_copy(
         &mut self,
         alloc: Global,
@@ -144,7 +144,7 @@ impl Listing {
         self.births.contains_key(name)
     }
 
-    /// The same, and quicker where the name has a row.
+    /// The same, and quicker if the name has a row.
     pub(crate) fn has(&self, name: &Name) -> bool
         ensures { result ≡ is_some (row_of self.now name.now) }
     {
@@ -171,7 +171,7 @@ impl Listing {
         Some(&row.schedule)
     }
 
-    /// The same, with its trace.
+    /// The same, with the fact that the schedule is of the trace of the tables.
     pub(crate) fn schedule_of(&self, indexed: &Indexed, name: &Name) -> Option<&Schedule>
         requires { IsOfTrace indexed.now self.now }
         ensures none { IfNone result (row_of self.now name.now ≡ None) }
@@ -184,7 +184,7 @@ impl Listing {
         Some(schedule)
     }
 
-    /// Puts in a row at its place by birth, or gives it back where there is no memory.
+    /// Adds a row at its place by birth. If memory runs out, returns it.
     pub(crate) fn put(&mut self, name: Name, row: Row) -> Result<(), Row>
         requires fresh { row_of self.old name ≡ None }
         requires free { IsFree self.old name (Some row) }
@@ -192,7 +192,7 @@ impl Listing {
         ensures err { OnErr result (self.new ≡ self.old) }
         ensures back { IfErr result (λ r. r ≡ row) }
     {
-        // room for the name first, so that nothing has to be taken out again
+        // reserves room for the name first, so that nothing has to be removed again
         let Ok(()) = self.births.reserve(1) else {
             return Err(row);
         };
@@ -207,7 +207,7 @@ impl Listing {
         }
     }
 
-    /// Takes out the row of a name.
+    /// Removes the row of a name and returns it.
     pub(crate) fn take(&mut self, name: &Name) -> Option<Row>
         ensures row { result ≡ row_of self.old name.now }
         ensures rows { self.new ≡ remove_entry (bytes_eq name.now) self.old }
@@ -219,7 +219,7 @@ impl Listing {
         Some(row)
     }
 
-    /// Applies the command, and gives what takes it back.
+    /// Applies the command, and returns what takes it back.
     pub(crate) fn apply(
         &mut self,
         alloc: Global,
@@ -245,8 +245,8 @@ impl Listing {
         Ok(Inverse { name, step })
     }
 
-    /// Takes one step of the row of this name, and gives the step that leads back; or gives the step itself where
-    /// there is no memory.
+    /// Takes one step of the row of this name, and returns the step that leads back. If memory runs out, returns the
+    /// step itself.
     pub(crate) fn turn(&mut self, indexed: &Indexed, name: &Name, step: Step) -> Result<Step, Step>
         requires listing { IsListing self.old }
         requires of_trace { IsOfTrace indexed.now self.old }
@@ -273,7 +273,7 @@ impl Listing {
         }
     }
 
-    /// The same of a step that leaves a row there.
+    /// The same for a step that keeps the row.
     fn change(&mut self, indexed: &Indexed, name: &Name, step: Step) -> Result<Step, Step>
         requires listing { IsListing self.old }
         requires of_trace { IsOfTrace indexed.now self.old }
@@ -292,7 +292,7 @@ impl Listing {
     }
 }
 
-/// A row of its own with the same birth and events.
+/// A separate row with the same birth and events.
 pub(crate) fn copy_of_row(row: &Row, alloc: Global, indexed: &Indexed) -> Result<Row, OutOfMemory>
     requires { row.now.schedule.trace ≡ indexed.now }
     ensures { IfOk result (λ copy. copy ≡ row.now) }

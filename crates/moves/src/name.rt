@@ -1,4 +1,4 @@
-//! The name of a schedule, which is copied without memory.
+//! The name of a schedule. It is copied without memory.
 ghost use Rattle.std.specs.Prelude.{◌≡◌, ◌↔◌, ◌≤◌, ◌++◌, ◌∷◌, [], ◌-◌, replicate, true, length, IsOk, IfOk};
 ghost use Rattle.std.specs.Cmp.{partial_equiv_from_equiv};
 ghost use Rattle.std.specs.Cmp.Lexicographic.{nat_list_eq_equiv, bytes_decides};
@@ -40,7 +40,7 @@ impl Model for Name {
 }
 
 impl Name {
-    /// The name of these bytes, where they are one.
+    /// The name with these bytes, if they are a name.
     pub fn new(bytes: &[u8]) -> Result<Name, BadName>
         ensures exact { IsOk result ↔ (is_name bytes.now ≡ true) }
         ensures bytes { IfOk result (λ name. name ≡ bytes.now) }
@@ -63,7 +63,7 @@ impl Name {
         &self.padded[..self.len as usize]
     }
 
-    /// The bytes of the name and zeros up to a whole word, since hashers take whole words at once.
+    /// The bytes of the name, and zeros up to a multiple of eight bytes, because hashers take eight bytes at once.
     pub(crate) fn words(&self) -> &[u8]
         ensures { result.now ≡ whole_words self.now }
     {
@@ -103,7 +103,7 @@ pub fn is_name(bytes: &[u8]) -> bool
     !bytes.is_empty() && bytes.len() <= 64 && are_name_bytes(bytes)
 }
 
-/// Whether all these bytes may stand in a name.
+/// Whether a name may have each of the bytes.
 fn are_name_bytes(bytes: &[u8]) -> bool
     ensures { result ≡ list_all is_name_byte bytes.now }
 {

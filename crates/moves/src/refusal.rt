@@ -2,23 +2,23 @@
 
 use schedule::{Disabled, SwapRefusal};
 
-/// Why a command is refused. Each cause has the number under which it is printed.
+/// Why a command is refused. The number of each cause is printed with it.
 #[derive(Clone, Copy, PartialEq, Eq, Debug)]
 pub enum MoveRefusal {
-    /// 42: no schedule has the name that is to be changed, taken out or copied.
+    /// 42: no schedule has the name that the command changes, drops or copies.
     NoSuchSchedule,
-    /// 43: a schedule has the name that is to be a new one's.
+    /// 43: a schedule has the name of the new schedule already.
     NameTaken,
-    /// 44: the board has no proposal of the number.
+    /// 44: the board has no proposal with this number.
     NoSuchProposal,
-    /// 45: the schedule has no event.
+    /// 45: the schedule has no event to take off.
     NothingToRetract,
-    /// 46: the event may not come next.
+    /// 46: the event is not enabled.
     Disabled(Disabled),
     /// 47: the two neighbours may not change places.
     Swap(SwapRefusal),
-    /// 48: the schedule has fewer events than were asked for.
+    /// 48: the schedule has fewer events than the branch copies.
     TooShort,
-    /// 49: a growth was refused.
+    /// 49: out of memory.
     OutOfMemory,
 }

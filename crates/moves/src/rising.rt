@@ -1,4 +1,4 @@
-//! Rows under their ages: the youngest in a vector, and those before them in a tree.
+//! Rows under their ages: the youngest in a vector, and the older ones in a tree.
 ghost use Rattle.std.specs.Prelude.{◌≡◌, ◌<◌, ◌++◌, [], ℕ, List, None, Some, IfErr, IfNone, IfSome, IsOk, OnErr, OnOk, false, length, option_copied, option_map, slice_get, true, vec_len, ◌+◌};
 ghost use Rattle.std.specs.BTreeMap.{get_by, insert_entry, is_at};
 ghost use Rattle.std.specs.Map.{lookup, remove_entry, values_of};
@@ -23,12 +23,12 @@ const YOUNG: usize = 64;
 /// A name and its row.
 pub(crate) type Held = (Name, Row);
 
-/// Rows under their ages. Most calls write a row that was made lately, and a row that comes is nearly always younger
-/// than all others. So the youngest are in a vector, at whose end a row comes and goes in few steps. Contracts see the
-/// ages, names and rows, by rising age.
+/// Rows under their ages. Most calls write a row that was made lately, and a new row is nearly always younger than all
+/// others. So the youngest are in a vector, at whose end a row comes and goes in few steps. Contracts see the ages,
+/// names and rows, by rising age.
 #[derive(Drop)]
 pub(crate) struct Rising {
-    // those that are older than the young ones
+    // the rows that are older than the young ones
     older: BTreeMap<u128, Held>,
     young: Vec<(u128, Held)>,
 }
@@ -43,7 +43,7 @@ impl Model for Rising {
 }
 
 impl Rising {
-    /// No rows. It takes no memory: `alloc` is kept for later.
+    /// No rows. It takes no memory yet: `alloc` is kept for later.
     pub(crate) fn new(alloc: Global) -> Rising
         ensures { result ≡ [] }
     {
@@ -60,7 +60,7 @@ impl Rising {
         self.older.len() + self.young.len()
     }
 
-    /// The name and the row at this place, by rising age.
+    /// The name and the row at this index, by rising age.
     pub(crate) fn at(&self, at: usize) -> &Held
         requires { at < length self.now }
         ensures { option_map (λ e. e.1) (slice_get self.now at) ≡ Some result.now }
@@ -91,7 +91,7 @@ impl Rising {
         }
     }
 
-    /// Puts in a name and its row under an age that no row has, or gives them back where there is no memory.
+    /// Adds a name and its row under an age that no row has. If memory runs out, returns them.
     pub(crate) fn insert(&mut self, age: u128, held: Held) -> Result<(), Held>
         requires rises { Rises self.old }
         requires new { lookup (is_at (nat_cmp age)) self.old ≡ None }
@@ -108,7 +108,7 @@ impl Rising {
         }
     }
 
-    /// Takes out what lies under this age.
+    /// Removes the name and the row under this age.
     pub(crate) fn remove(&mut self, age: u128) -> Option<Held>
         requires rises { Rises self.old }
         ensures value { result ≡ lookup (is_at (nat_cmp age)) self.old }
@@ -120,8 +120,8 @@ impl Rising {
         }
     }
 
-    /// Takes a step of the schedule under this age and gives the step that leads back; or gives the step where there
-    /// is no memory.
+    /// Takes a step of the schedule under this age and returns the step that leads back. If memory runs out, returns
+    /// the step itself.
     pub(crate) fn turn(&mut self, age: u128, indexed: &Indexed, step: Step) -> Result<Step, Step>
         requires rises { Rises self.old }
         requires fits { CanStep indexed.now age step self.old }
@@ -141,7 +141,7 @@ impl Rising {
         }
     }
 
-    // Whether the age is known to be above all others.
+    // True only if the age is above all others.
     fn ends_below(&self, age: u128) -> bool
         requires { Rises self.now }
         ensures { result ≡ true → EndsBelow self.now age }
@@ -155,7 +155,7 @@ impl Rising {
         }
     }
 
-    // Puts in behind all others.
+    // Appends a row whose age is above all others.
     fn push(&mut self, age: u128, held: Held) -> Result<(), Held>
         requires { EndsBelow self.old age }
         ensures ok { OnOk result (self.new ≡ insert_entry nat_cmp self.old age held) }
@@ -189,7 +189,7 @@ fn append_young(young: &[(u128, Held)], names: &mut Names) -> Result<(), OutOfMe
     Ok(())
 }
 
-// Where the row of this age stands among the young ones.
+// The index of the row of this age among the young ones.
 fn place_of(young: &[(u128, Held)], age: u128) -> Option<usize>
     requires { Rises young.now }
     ensures some { IfSome result (IsPlaceOf young.now age) }
@@ -201,7 +201,7 @@ fn place_of(young: &[(u128, Held)], age: u128) -> Option<usize>
     }
 }
 
-// Puts all young ones into the tree, or some of them where memory is wanting.
+// Moves all young rows into the tree, or the oldest of them if memory runs out.
 fn settle(
     older: &mut BTreeMap<u128, Held>,
     young: &mut Vec<(u128, Held)>,
@@ -216,7 +216,7 @@ fn settle(
     Ok(())
 }
 
-// Puts the oldest of the young ones into the tree.
+// Moves the oldest young row into the tree.
 fn settle_first(
     older: &mut BTreeMap<u128, Held>,
     young: &mut Vec<(u128, Held)>,
@@ -230,12 +230,12 @@ fn settle_first(
     let Err(failed) = older.insert(age, held) else {
         return Ok(());
     };
-    // its place is still free
+    // its place is still free, so this cannot fail
     let _ = young.insert(0, failed.value);
     Err(OutOfMemory)
 }
 
-// Puts in what lies under an age that the tree has not.
+// Adds a name and its row under an age that the tree does not have. If memory runs out, returns them.
 fn put_older(older: &mut BTreeMap<u128, Held>, age: u128, held: Held) -> Result<(), Held>
     ensures ok { OnOk result (older.new.entries ≡ insert_entry nat_cmp older.old.entries age held) }
     ensures err { OnErr result (older.new.entries ≡ older.old.entries) }

@@ -45,7 +45,7 @@ impl Model for Workspace {
 }
 
 impl Workspace {
-    /// The workspace with no schedule. It takes no memory: `alloc` is kept for later.
+    /// The workspace with no schedule. It takes no memory yet: `alloc` is kept for later.
     pub fn empty(alloc: Global) -> Result<Workspace, OutOfMemory>
         ensures ok { IfOk result (λ w. w ≡ []) }
         ensures succeeds { IsOk result }
@@ -53,7 +53,7 @@ impl Workspace {
         Ok(Workspace::keyed(alloc, TextKeyed::of(b"")))
     }
 
-    /// The same, with hashers for the names under a key of the caller's.
+    /// The same, with hashers for the names that the caller has keyed.
     pub fn keyed(alloc: Global, hashers: TextKeyed) -> Workspace
         ensures { result ≡ [] }
     {
@@ -72,7 +72,7 @@ impl Workspace {
         self.rows.len()
     }
 
-    /// The name, the birth and the schedule at this place, by rising birth.
+    /// The name, the birth and the schedule at this index, by rising birth.
     pub fn row(&self, at: usize) -> (Name, Birth, &Schedule)
         requires { at < length self.now }
         ensures { slice_get self.now at
@@ -98,7 +98,7 @@ impl Workspace {
         self.rows.names(alloc)
     }
 
-    /// Whether the command would be accepted, or its first refusal. It takes no memory.
+    /// Whether the command would be accepted, or its first refusal. Takes no memory.
     pub fn check(
         &self,
         indexed: &Indexed,
@@ -114,7 +114,7 @@ impl Workspace {
         }
     }
 
-    /// Applies the command, and gives what takes it back. A row that it makes has this birth.
+    /// Applies the command, and returns what takes it back. A row that it makes has this birth.
     pub fn apply(
         &mut self,
         indexed: &Indexed,
@@ -126,9 +126,9 @@ impl Workspace {
         requires board { IsBoardOf indexed.now board.now }
         requires late { Below birth self.old }
         ensures applied { IsApplied indexed.now board.now birth command.now self.old self.new result }
-        // Taken back at once, the inverse gives the rows that were there before.
+        // Taken back at once, the inverse restores the rows.
         ensures back { IfOk result (λ inverse. TakesBack inverse self.new self.old) }
-        // What the next call asks for.
+        // What the next call requires.
         ensures of_trace { IsOfTrace indexed.now self.new }
         ensures late { Below (birth + 1) self.new }
         ensures step_of_trace { IfOk result (λ inverse. IsStepOf indexed.now inverse.step) }
@@ -137,8 +137,8 @@ impl Workspace {
         self.rows.apply(self.alloc, indexed, board, birth, command)
     }
 
-    /// Takes back a command whose written name still has what the command left there. Other rows may have
-    /// changed, come or gone.
+    /// Takes back a command whose written name still has what the command left there. Other rows may have changed, come
+    /// or gone since.
     pub fn take_back(
         &mut self,
         indexed: &Indexed,
@@ -150,9 +150,9 @@ impl Workspace {
         ensures ok { OnOk result (IsTurned inverse.name inverse.step self.old self.new) }
         ensures err { OnErr result (self.new ≡ self.old) }
         ensures back { IfErr result (λ refused. refused.0 ≡ inverse) }
-        // It fails only where a row comes or an event is appended.
+        // It fails only if the step adds a row or appends an event.
         ensures succeeds { wants_memory inverse.step ≡ false → IsOk result }
-        // What the next call asks for. A row that comes may be as late as its birth says.
+        // What the next call requires. A row that is added may be as late as its birth says.
         ensures of_trace { IsOfTrace indexed.now self.new }
         ensures late { (n : ℕ) → Below n self.old → IsStepBelow n inverse.step → Below n self.new }
     {
@@ -163,8 +163,8 @@ impl Workspace {
         Err((Inverse { name, step }, OutOfMemory))
     }
 
-    /// Applies all of the commands, one after another, or none. What the command at a place makes has the birth of
-    /// this entry and that place.
+    /// Applies all of the commands, one after another, or none. A row that a command makes has this entry and the index
+    /// of the command as its birth.
     pub fn apply_all(
         &mut self,
         indexed: &Indexed,
@@ -177,9 +177,9 @@ impl Workspace {
         requires late { Below (age entry 0) self.old }
         requires few { length commands.now < 4294967296 }
         ensures applied { IsAppliedAll indexed.now board.now (age entry 0) commands.now self.old self.new result }
-        // Taken back at once, the inverses give the rows that were there before.
+        // Taken back at once, the inverses restore the rows.
         ensures back { IfOk result (λ inverses. TakesAllBack inverses self.new self.old) }
-        // What the next call asks for.
+        // What the next call requires.
         ensures of_trace { IsOfTrace indexed.now self.new }
         ensures late { Below (age (entry + 1) 0) self.new }
         ensures steps_of_trace { IfOk result (λ inverses. AreOfTrace indexed.now inverses) }
@@ -189,9 +189,8 @@ impl Workspace {
         self.run_all(indexed, board, entry, commands)
     }
 
-    // A batch is done in place where what takes back all commands but the last wants no memory, so that a refusal can
-    // be promised to take back what stands before it. Another is done on a copy, which takes the place of the rows at
-    // its end.
+    // Runs a batch in place if no memory is needed to take back all commands but the last. Then a refusal can always
+    // take back the commands before it. Runs any other batch on a copy, which then replaces the rows.
     fn run_all(
         &mut self,
         indexed: &Indexed,
@@ -212,7 +211,7 @@ impl Workspace {
     }
 
     /// Takes back all of a batch, the last command first, or nothing. Each written name still has what the batch left
-    /// there; other rows may have changed, come or gone.
+    /// there. Other rows may have changed, come or gone since.
     pub fn take_back_all(
         &mut self,
         indexed: &Indexed,
@@ -224,14 +223,14 @@ impl Workspace {
         ensures ok { OnOk result (IsTurnedAll inverses self.old self.new) }
         ensures err { OnErr result (self.new ≡ self.old) }
         ensures back { IfErr result (λ refused. refused.0 ≡ inverses) }
-        // What the next call asks for.
+        // What the next call requires.
         ensures of_trace { IsOfTrace indexed.now self.new }
         ensures late { (n : ℕ) → Below n self.old → AreBelow n inverses → Below n self.new }
     {
         self.turn_all(indexed, inverses)
     }
 
-    // In place where no step but the first that is taken wants memory, else on a copy.
+    // Works in place if only the first step taken may need memory, otherwise on a copy.
     fn turn_all(
         &mut self,
         indexed: &Indexed,

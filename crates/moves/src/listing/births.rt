@@ -13,7 +13,7 @@ use rapid_text::TextKeyed;
 /// The birth of each name's row.
 pub(super) type Births = IndexMap<Name, Birth, TextKeyed>;
 
-/// The birth of the name, where it stands at the guessed place.
+/// The birth of the name, if it is at the guessed index.
 fn guessed_birth(births: &Births, place: usize, name: &Name) -> Option<Birth>
     ensures { IfSome result (λ birth. HasBirth births.now.entries place name.now birth) }
 {
@@ -23,7 +23,7 @@ fn guessed_birth(births: &Births, place: usize, name: &Name) -> Option<Birth>
     }
 }
 
-/// The birth of the name's row. If it stands at the guessed place, the name has not to be hashed.
+/// The birth of the name's row. If the guess is right, the name is not hashed.
 pub(super) fn birth_of(births: &Births, place: usize, name: &Name) -> Option<Birth>
     ensures value { result ≡ lookup (bytes_eq name.now) births.now.entries }
 {
@@ -33,7 +33,7 @@ pub(super) fn birth_of(births: &Births, place: usize, name: &Name) -> Option<Bir
     births.get(name).copied()
 }
 
-/// The same, and where the name stands is noted.
+/// The same, and notes the index of the name.
 pub(super) fn birth_noted(births: &Births, guesses: &mut Guesses, name: &Name) -> Option<Birth>
     ensures value { result ≡ lookup (bytes_eq name.now) births.now.entries }
 {
@@ -46,7 +46,7 @@ pub(super) fn birth_noted(births: &Births, guesses: &mut Guesses, name: &Name) -
     Some(*birth)
 }
 
-/// Takes out the birth of the name's row, in the same way.
+/// Removes the birth of the name's row, with the same guess.
 pub(super) fn take_birth(births: &mut Births, place: usize, name: &Name) -> Option<Birth>
     ensures value { result ≡ lookup (bytes_eq name.now) births.old.entries }
     ensures updates { (y : List ℕ) → lookup (bytes_eq y) births.new.entries

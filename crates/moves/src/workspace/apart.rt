@@ -1,4 +1,4 @@
-//! Batches that are done, or taken back, on a copy of the rows.
+//! Batches that are applied, or taken back, on a copy of the rows.
 ghost use Rattle.std.specs.Prelude.{◌≡◌, ◌+◌, ◌≤◌, [], length, vec_len, vec_capacity, Ok, Err, OnOk, OnErr, IfOk, IfErr};
 ghost use Rattle.moves.specs.Rows.{IsOfTrace};
 ghost use Rattle.moves.specs.Ages.{age};
@@ -15,7 +15,7 @@ use rapid_text::OutOfMemory;
 use std::mem;
 
 impl Workspace {
-    // Does a batch on a copy, which takes the place of the rows at its end.
+    // Runs a batch on a copy, which then replaces the rows.
     pub(super) fn run_apart(
         &mut self,
         mut items: Vec<Inverse>,
@@ -38,7 +38,7 @@ impl Workspace {
         }
     }
 
-    // Fills `items`, which has room for an inverse of each command.
+    // Runs a batch on a copy and fills `items`, which has room for an inverse of each command.
     fn run_on_copy(
         &mut self,
         items: &mut Vec<Inverse>,
@@ -70,7 +70,7 @@ impl Workspace {
         }
     }
 
-    // Takes a batch back on a copy, in the same way.
+    // Takes a batch back on a copy, which then replaces the rows.
     pub(super) fn turn_apart(
         &mut self,
         indexed: &Indexed,
@@ -92,7 +92,7 @@ impl Workspace {
         }
     }
 
-    // Takes the steps on a copy. They are lent, so that the caller gives them back where memory is wanting.
+    // Takes the steps on a copy. It borrows them, so that the caller can return them if memory runs out.
     fn turn_on_copy(&mut self, indexed: &Indexed, inverses: &[Inverse]) -> Result<(), OutOfMemory>
         requires of_trace { IsOfTrace indexed.now self.old }
         requires steps { AreOfTrace indexed.now inverses.now }
@@ -113,7 +113,7 @@ impl Workspace {
         }
     }
 
-    // A workspace of its own with the same rows.
+    // A separate workspace with the same rows.
     fn copied(&self, indexed: &Indexed) -> Result<Workspace, OutOfMemory>
         requires { IsOfTrace indexed.now self.now }
         ensures { IfOk result (λ copy. copy ≡ self.now) }
