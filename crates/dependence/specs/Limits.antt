@@ -1,4 +1,4 @@
--- How many clients there may be. The constants of the code are measured against this number.
+-- How many clients there may be. A clause compares the constant of the code with this number.
 use Rattle.std.specs.Prelude.{ℕ}
 
 -- the greatest number of a client; the least is 1

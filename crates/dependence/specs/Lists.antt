@@ -1,4 +1,4 @@
--- Rising lists of entry numbers, under each name and of each client.
+-- Rising lists of entry numbers, for each name and for each client.
 use Rattle.std.specs.Prelude.{◌≡◌, ◌⊎◌, true, ◌<◌, ◌≤◌, ◌-◌, ◌++◌, ℕ, List, [], ◌∷◌, Option, None, Some, MatchOption, All, Contains, nat_eq, bytes_eq, if◌then◌else◌, length, slice_get}
 use Rattle.std.specs.Map.{lookup}
 use Rattle.std.specs.Set.{remove_key}
@@ -31,11 +31,11 @@ without k xs = remove_key (nat_eq k) xs
 abbrev pub last_of : List ℕ → Option ℕ
 last_of xs = slice_get xs (length xs - 1)
 
--- r is the least number of xs above k, and none where no number is above k
+-- r is the least number of xs above k, or none if no number is above k
 abbrev pub IsLeastAbove : ℕ → List ℕ → Option ℕ → Type 0
 IsLeastAbove k xs r = MatchOption r (All (λ j. j ≤ k) xs) (λ m. Contains xs m × (k < m) × All (λ j. k < j → m ≤ j) xs)
 
--- the numbers are below k, but for k itself where it stands at the end
+-- all numbers are below k, except k itself, which may be the last
 abbrev pub IsReached : ℕ → List ℕ → Type 0
 IsReached k ys = (xs : List ℕ) × All (λ j. j < k) xs × ((ys ≡ xs) ⊎ (ys ≡ xs ++ k ∷ []))
 
@@ -55,15 +55,15 @@ PushedAll k D T U = (x : List ℕ) → under U x ≡ (if touches_any D x then un
 abbrev pub RemovedAll : ℕ → List Command → Lists → Lists → Type 0
 RemovedAll k D T U = (x : List ℕ) → under U x ≡ (if touches_any D x then without k (under T x) else under T x)
 
--- U is T with the number k, where it is not there yet, under each name that the command touches
+-- U is T with the number k, added if it is not there yet, under each name that the command touches
 abbrev pub Placed : ℕ → Command → Lists → Lists → Type 0
 Placed k d T U = (x : List ℕ) → under U x ≡ (if touches d x then insert_key nat_cmp (under T x) k else under T x)
 
--- the same, under some of these names
+-- the same, for some of these names
 abbrev pub PlacedSome : ℕ → Command → Lists → Lists → Type 0
 PlacedSome k d T U = (x : List ℕ) → (under U x ≡ under T x) ⊎ ((touches d x ≡ true) × (under U x ≡ insert_key nat_cmp (under T x) k))
 
--- the same numbers stand under each name
+-- each name has the same numbers
 abbrev pub Same : Lists → Lists → Type 0
 Same T U = (x : List ℕ) → under U x ≡ under T x
 
@@ -71,10 +71,10 @@ Same T U = (x : List ℕ) → under U x ≡ under T x
 abbrev pub AllBelow : ℕ → Lists → Type 0
 AllBelow k T = (x : List ℕ) → All (λ j. j < k) (under T x)
 
--- D is C with the number k at the end of the client's
+-- D is C with the number k appended to the client's numbers
 abbrev pub Entered : ℕ → ℕ → List (List ℕ) → List (List ℕ) → Type 0
 Entered c k C D = (a : ℕ) → of_client D a ≡ (if nat_eq a c then of_client C a ++ k ∷ [] else of_client C a)
 
--- D is C without the number k among the client's
+-- D is C with the number k removed from the client's numbers
 abbrev pub Left : ℕ → ℕ → List (List ℕ) → List (List ℕ) → Type 0
 Left c k C D = (a : ℕ) → of_client D a ≡ (if nat_eq a c then without k (of_client C a) else of_client C a)

@@ -12,10 +12,10 @@ use std::marker::Model;
 /// The greatest number of a client.
 const MAX_CLIENT: u32 = 32;
 
-/// For each client from 1 to 32 the numbers of its entries.
+/// The numbers of the log entries of each client, from 1 to 32.
 #[derive(Drop)]
 pub struct Clients {
-    // a client's list stands at the client's number
+    // the index of a client's list is the client's number
     lists: Vec<Numbers>,
 }
 
@@ -42,7 +42,7 @@ impl Clients {
         Ok(Clients { lists })
     }
 
-    /// Puts the entry at the end of the client's, or leaves everything as it was.
+    /// Appends the entry to the client's entries. If memory runs out, everything stays as it was.
     pub fn push(&mut self, client: u32, entry: u64) -> Result<(), OutOfMemory>
         requires client { client ≤ client_limit }
         requires entry { All (λ k. k < entry) (of_client self.old client) }
@@ -52,7 +52,7 @@ impl Clients {
         self.lists[client as usize].push(entry)
     }
 
-    /// Takes the entry away from the client's.
+    /// Removes the entry from the client's entries.
     pub fn remove(&mut self, client: u32, entry: u64)
         requires { client ≤ client_limit }
         ensures { Left client entry self.old self.new }

@@ -1,4 +1,4 @@
-//! Which entries of a log touch which name, and which are each client's.
+//! Which entries of a log touch which name, and which entries each client has.
 #![tactic(auto)]
 
 mod clients;

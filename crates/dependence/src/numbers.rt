@@ -12,13 +12,13 @@ use std::collections::BTreeSet;
 use std::marker::Model;
 use std::ops::Bound;
 
-/// How many numbers a removal may move: a list up to this length needs no tree.
+/// How many numbers a removal may move: a list of at most this length needs no tree.
 const MOVED_AT_MOST: usize = 512;
 
 /// Entry numbers, each once, in rising order.
 ///
-/// A number is put at the end of a vector. Where one is taken out of the middle of a long vector, all its numbers go
-/// into a tree first, so each goes there at most once, and only in a log where that happens.
+/// A push appends a number to a vector. If a number is removed from a long vector, but not from its end, all numbers
+/// first move into a tree. So each number moves there at most once, and only in a log with such a removal.
 #[derive(Drop)]
 pub(crate) struct Numbers {
     // the lesser numbers
@@ -57,7 +57,7 @@ impl Numbers {
         Ok(())
     }
 
-    // Puts the number at the end, if it is not there yet.
+    // Appends the number, if it is not there yet.
     pub(crate) fn place(&mut self, entry: u64) -> Result<(), OutOfMemory>
         requires { IsReached entry self.old }
         ensures ok { OnOk result (self.new ≡ insert_key nat_cmp self.old entry) }
@@ -85,7 +85,7 @@ impl Numbers {
         self.take(entry);
     }
 
-    // Puts the numbers of the vector into the tree, as far as there is memory.
+    // Moves the numbers of the vector into the tree, until memory runs out.
     fn settle_all(&mut self)
         ensures { self.new ≡ self.old }
     {
@@ -126,7 +126,7 @@ impl Numbers {
     }
 }
 
-// Puts the numbers of the vector, which are above those of the tree, into the tree; those that find no memory stay.
+// Moves the numbers of the vector, which are above those of the tree, into the tree. If memory runs out, the rest stay.
 fn settle(settled: &mut BTreeSet<u64>, tail: &mut Vec<u64>)
     requires { Rises (settled.old.keys ++ tail.old.items) }
     ensures { settled.new.keys ++ tail.new.items ≡ settled.old.keys ++ tail.old.items }
@@ -142,7 +142,7 @@ fn settle(settled: &mut BTreeSet<u64>, tail: &mut Vec<u64>)
     tail.truncate(tail.len() - moved);
 }
 
-// Takes the number out of a rising vector.
+// Removes the number from a rising vector.
 fn take_out(numbers: &mut Vec<u64>, entry: u64)
     requires { Rises numbers.old.items }
     ensures { numbers.new.items ≡ without entry numbers.old.items }
@@ -155,7 +155,7 @@ fn take_out(numbers: &mut Vec<u64>, entry: u64)
     }
 }
 
-// Takes the number out of the tree.
+// Removes the number from the tree.
 fn take_settled(numbers: &mut BTreeSet<u64>, entry: u64)
     ensures { numbers.new.keys ≡ without entry numbers.old.keys }
 {

@@ -18,14 +18,14 @@ use std::slice;
 
 type ByName = IndexMap<Name, Numbers, TextKeyed>;
 
-/// For each name the numbers of the entries whose commands touch it.
+/// The numbers of the log entries whose commands touch a name, for each name.
 ///
-/// A name whose entries were all taken out keeps its empty list, so that taking out needs no memory and moves no
-/// other name. What is held grows with the entries that were ever put in.
+/// A name whose entries were all removed keeps its empty list. So a removal needs no memory and moves no other name.
+/// The memory grows with the number of entries that were ever added.
 #[derive(Drop)]
 pub struct Touches {
     lists: ByName,
-    // where names stand among the lists
+    // the guessed indexes of names among the lists
     guesses: Guesses,
     alloc: Global,
 }
@@ -39,7 +39,7 @@ impl Model for Touches {
 }
 
 impl Touches {
-    /// No entries under any name. It takes no memory.
+    /// No entries under any name. It takes no memory yet: `alloc` is kept for later.
     pub fn empty(alloc: Global) -> Result<Touches, OutOfMemory>
         ensures ok { IfOk result (λ t. (x : List ℕ) → under t x ≡ []) }
         ensures succeeds { IsOk result }
@@ -47,7 +47,7 @@ impl Touches {
         Ok(Touches::keyed(alloc, TextKeyed::of(&[])))
     }
 
-    /// The same, with the hashers that are to find the names.
+    /// The same, with hashers for the names that the caller has keyed.
     pub fn keyed(alloc: Global, hashers: TextKeyed) -> Touches
         ensures { (x : List ℕ) → under result x ≡ [] }
     {
@@ -58,7 +58,7 @@ impl Touches {
         }
     }
 
-    // Puts the entry under the name, where it is not there yet.
+    // Adds the entry under the name, if it is not there yet.
     fn place_name(&mut self, entry: u64, name: Name) -> Result<(), OutOfMemory>
         requires { IsReached entry (under self.old name) }
         ensures ok { OnOk result ((x : List ℕ) → under self.new x ≡ (if bytes_eq x name then insert_key nat_cmp (under self.old x) entry else under self.old x)) }
@@ -89,7 +89,8 @@ impl Touches {
         }
     }
 
-    // Puts the entry under each name that the command touches, where it is not there yet; or under some of them.
+    // Adds the entry under each name that the command touches, if it is not there yet. If memory runs out, it may be
+    // under some of them.
     fn place(&mut self, entry: u64, command: &Command) -> Result<(), OutOfMemory>
         requires { (x : List ℕ) → IsReached entry (under self.old x) }
         ensures ok { OnOk result (Placed entry command.now self.old self.new) }
@@ -107,7 +108,8 @@ impl Touches {
         Ok(())
     }
 
-    /// Puts the entry, once, under each name that one of the commands touches, or leaves everything as it was.
+    /// Adds the entry, once, under each name that one of the commands touches. If memory runs out, everything stays as
+    /// it was.
     pub fn push_all(&mut self, entry: u64, commands: &[Command]) -> Result<(), OutOfMemory>
         requires { AllBelow entry self.old }
         ensures ok { OnOk result (PushedAll entry commands.now self.old self.new) }
@@ -122,7 +124,7 @@ impl Touches {
         Ok(())
     }
 
-    /// Takes the entry away under each name that one of the commands touches.
+    /// Removes the entry under each name that one of the commands touches.
     pub fn remove_all(&mut self, entry: u64, commands: &[Command])
         ensures { RemovedAll entry commands.now self.old self.new }
     {
@@ -131,7 +133,7 @@ impl Touches {
         }
     }
 
-    /// Puts the entry under each name that the command touches, or leaves everything as it was.
+    /// Adds the entry under each name that the command touches. If memory runs out, everything stays as it was.
     pub fn push(&mut self, entry: u64, command: &Command) -> Result<(), OutOfMemory>
         requires { AllBelow entry self.old }
         ensures ok { OnOk result (Pushed entry command.now self.old self.new) }
@@ -140,7 +142,7 @@ impl Touches {
         self.push_all(entry, slice::from_ref(command))
     }
 
-    /// Takes the entry away under each name that the command touches.
+    /// Removes the entry under each name that the command touches.
     pub fn remove(&mut self, entry: u64, command: &Command)
         ensures removed { Removed entry command.now self.old self.new }
         ensures gone { (x : List ℕ) → touches command.now x ≡ true
@@ -165,7 +167,7 @@ impl Touches {
     }
 }
 
-/// Whether the list of the name stands at this place.
+/// Whether the list of the name is at this index.
 fn is_at(lists: &ByName, at: usize, name: &Name) -> bool
     ensures { IsTrue result → HasAt lists.now.entries at name.now }
 {
@@ -175,7 +177,7 @@ fn is_at(lists: &ByName, at: usize, name: &Name) -> bool
     }
 }
 
-/// The place of the name's list. If it is the guessed one, the name has not to be hashed.
+/// The index of the name's list. If the guess is right, the name is not hashed.
 fn place_of(lists: &ByName, guess: usize, name: &Name) -> Option<usize>
     ensures none { IfNone result (lookup (bytes_eq name.now) lists.now.entries ≡ None) }
     ensures some { IfSome result (λ at. HasAt lists.now.entries at name.now) }
