@@ -1,5 +1,5 @@
--- What a call is answered after a log, and the log after it. All notions here are this project's own. `T` is
--- the trace, `L` is the log.
+-- The answer to a call after a log, and the log after the call. All notions here are this project's own. `T` is the
+-- trace, `L` is the log.
 use Rattle.std.specs.Prelude.{◌≡◌, ◌⊎◌, ◌≤◌, ◌&&◌, ℕ, Bool, true, false, List, [], ◌∷◌, ◌++◌, Option, Some, None, Result, Ok, Err, All, length, nat_le, nat_lt, slice_get, if◌then◌else◌}
 use Rattle.dependence.specs.Limits.{client_limit}
 use Rattle.inverse_log.specs.Limits.{entry_limit}
@@ -25,16 +25,16 @@ use Rattle.inverse_log.specs.declared.reply.Reply.TheVariants.{Done, Undone, Pro
 use Rattle.inverse_log.specs.Log.{Benched, Live, client_of, is_own, live_at, board_of, rows_of, last_live, blocker_of, rests_on}
 use Rattle.inverse_log.specs.Pairs.{shown_pairs}
 
--- A call that would add an entry is refused first of all where the log holds 1,000,000.
+-- If the log has 1,000,000 entries, a call that would add one is refused for that first.
 abbrev pub limited : List Entry → Result Reply Refusal → Result Reply Refusal
 limited L answer = if nat_lt (length L) entry_limit then answer else Err LogFull
 
--- the answer to a command, by what it makes of its row
+-- the answer to a command, from what it makes of its row
 abbrev pub done_or : ℕ → Result (Option Row) MoveRefusal → Result Reply Refusal
 done_or n (Ok o) = Ok (Done n)
 done_or n (Err why) = Err (Move why)
 
--- the answer to a batch, by the rows after it, or by the first of its commands that is refused
+-- the answer to a batch, from the rows after it, or from its first refused command
 abbrev pub all_done_or : ℕ → Result Rows (ℕ × MoveRefusal) → Result Reply Refusal
 all_done_or n (Ok V) = Ok (Done n)
 all_done_or n (Err p) = Err (InBatch p.0 p.1)
@@ -46,7 +46,7 @@ is_batch D = nat_le 1 (length D) && nat_le (length D) 64
 abbrev pub sized : List Command → Result Reply Refusal → Result Reply Refusal
 sized D answer = if is_batch D then answer else Err BadBatch
 
--- the answer to an undo of e, by what blocks it
+-- the answer to an undo of e, from what blocks it
 abbrev pub undone_or : ℕ → Live → Option Live → Result Reply Refusal
 undone_or n e None = Ok (Undone n e.number)
 undone_or n e (Some b) = Err (RestsOn b.number (rests_on e b))
@@ -56,33 +56,33 @@ abbrev pub undo_or : List Entry → Option Live → Result Reply Refusal
 undo_or L None = Err NothingToUndo
 undo_or L (Some e) = undone_or (length L) e (blocker_of L e)
 
--- an undo by number: of what is live there, where anything is
+-- an undo by number, from the live entry with that number, if there is one
 abbrev pub undo_live_or : List Entry → Option Live → Result Reply Refusal
 undo_live_or L None = Err NotLive
 undo_live_or L (Some e) = undone_or (length L) e (blocker_of L e)
 
--- and before that of the client's entry there, where it did commands
+-- the same, after a check that the entry did commands of this client
 abbrev pub undo_own_or : List Entry → ℕ → Bool → Result Reply Refusal
 undo_own_or L k false = Err NotOwn
 undo_own_or L k true = undo_live_or L (live_at L k)
 
--- and before that of the entry there, where there is one
+-- the same, after a check that there is such an entry
 abbrev pub undo_at_or : List Entry → ℕ → ℕ → Option Entry → Result Reply Refusal
 undo_at_or L c k None = Err NoSuchEntry
 undo_at_or L c k (Some e) = undo_own_or L k (is_own c (Some e))
 
--- the answer to a proposal, by the first place at which its list is no correct reordering
+-- the answer to a proposal, from the first index at which its list is no correct reordering
 abbrev pub proposed_or : Recording → List Entry → ℕ → ℕ → List ℕ → Option ℕ → Result Reply Refusal
 proposed_or T L a b P None =
     if does_show T.events P a b then Ok (ProposedAs (length L) (length (board_of T L))) else Err NotShown
 proposed_or T L a b P (Some p) = Err (NotReordering p)
 
--- a look at a schedule's row
+-- the answer to a look at a schedule, from its row
 abbrev pub seen_or : (Row → Reply) → Option Row → Result Reply Refusal
 seen_or look None = Err (Move NoSuchSchedule)
 seen_or look (Some r) = Ok (look r)
 
--- what the client's call is answered, where there is memory
+-- the answer to the client's call, unless memory runs out
 abbrev pub answer_of : Recording → List Entry → ℕ → Call → Result Reply Refusal
 answer_of T L c (Do d) = limited L (done_or (length L) (made_at T (board_of T L) (age (length L) 0) d (rows_of T L)))
 answer_of T L c (DoAll D) = limited L (sized D (all_done_or (length L) (applied_all T (board_of T L) (age (length L) 0) D (rows_of T L))))
@@ -116,8 +116,7 @@ pub data IsLegal (T : Recording) : List Entry → Type 0 where
   starts : IsLegal T []
   goes_on : (L : List Entry) (c : ℕ) (call : Call) → 1 ≤ c → c ≤ client_limit → IsLegal T L → IsLegal T (log_after T L c call)
 
--- whether want of memory may stand in place of the answer: where that is a reply, a proposal was judged, or a batch was
--- begun
+-- whether the call may run out of memory instead: if the answer is a reply, a proposal was judged, or a batch was begun
 abbrev pub may_want : Result Reply Refusal → Bool
 may_want (Ok reply) = true
 may_want (Err (NotReordering p)) = true
@@ -125,14 +124,14 @@ may_want (Err NotShown) = true
 may_want (Err (InBatch place why)) = true
 may_want (Err why) = false
 
--- What a call answers, and the log that it leaves: the answer and the log after it; or want of memory, only
--- where that may be, and the log as it was. A refused call leaves the log as it was.
+-- What a call answers, and the log that it leaves: the answer and the log after it. Or the call runs out of memory,
+-- only if it may, and the log stays. A refused call leaves the log as it was.
 abbrev pub Called : Recording → List Entry → ℕ → Call → Result Reply Refusal → List Entry → Type 0
 Called T L c call (Ok reply) M = (answer_of T L c call ≡ Ok reply) × (M ≡ log_after T L c call)
 Called T L c call (Err OutOfMemory) M = (may_want (answer_of T L c call) ≡ true) × (M ≡ L)
 Called T L c call (Err why) M = (answer_of T L c call ≡ Err why) × (M ≡ L)
 
--- the log as it was, or with one more entry, which is this client's
+-- the log as it was, or with one more entry of this client
 abbrev pub Grown : List Entry → ℕ → List Entry → Type 0
 Grown L c M = (M ≡ L) ⊎ ((e : Entry) × (M ≡ L ++ e ∷ []) × (client_of e ≡ c))
 
@@ -140,6 +139,6 @@ Grown L c M = (M ≡ L) ⊎ ((e : Entry) × (M ≡ L ++ e ∷ []) × (client_of 
 abbrev pub IsAlone : ℕ → List Entry → Type 0
 IsAlone c L = All (λ (e : Entry). client_of e ≡ c) L
 
--- what a bench answers if client c asks to see the schedule of this name
+-- the answer of a bench if client c looks at the schedule of this name
 abbrev pub show_answer : Benched → ℕ → List ℕ → Result Reply Refusal
 show_answer bench c x = answer_of bench.trace bench.log c (Show x)

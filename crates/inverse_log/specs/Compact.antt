@@ -1,4 +1,4 @@
--- Which command lies in the few bytes that the log keeps of it. No public clause cites this module.
+-- Which command the log keeps in few bytes. No public clause cites this module.
 use Rattle.std.specs.Prelude.{ℕ, List}
 use Rattle.moves.specs.declared.command.Command.{Command}
 use Rattle.moves.specs.declared.command.Command.TheVariants.{Fresh, Add, Back, Swap, Branch, Drop, Adopt}

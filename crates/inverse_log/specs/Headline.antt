@@ -1,4 +1,4 @@
--- What the log promises, in the words of its reader. `T` is the trace, `L` is the log before a call.
+-- What the log promises, as statements. `T` is the trace, `L` is the log before a call.
 use Rattle.std.specs.Prelude.{◌≡◌, ◌≢◌, ◌↔◌, ℕ, ◌+◌, ◌<◌, ◌≤◌, true, List, [], ◌∷◌, ◌++◌, Some, Result, Ok, Err, All, Contains, find, length}
 use Rattle.dependence.specs.Limits.{client_limit}
 use Rattle.std.specs.List.{list_any}
@@ -25,8 +25,8 @@ use Rattle.inverse_log.specs.Answer.{answer_of, log_after, IsLegal, Called, IsAl
 use Rattle.inverse_log.specs.Limits.{entry_limit}
 use Rattle.inverse_log.specs.Log.{Live, written, steps_of, live_of, live_at, commands_at, board_of, rows_of, last_live, edits_of}
 
--- The rows are what the commands of the live entries, in their order, make of the empty workspace; no command is
--- refused there. Names differ and births rise, and each row's list is a correct reordering of the trace.
+-- The rows are what the commands of the live entries, in their order, make of the empty workspace. None of the commands
+-- is refused there. Names differ and births rise, and each row's list is a correct reordering of the trace.
 pub record IsFoldOfLive (T : Recording) (L : List Entry) (W : Rows) : Type 0 where
   pub fold : fold_of T (board_of T L) (steps_of (live_of L)) ≡ Some W
   pub listing : IsListing W
@@ -50,7 +50,7 @@ RowsAreTheFold =
 abbrev pub Blocks : Live → Live → Type 0
 Blocks e b = (e.number < b.number) × (list_any (touches_any b.commands) (written e) ≡ true)
 
--- the least live entry that blocks e has the number k, and x is the first name that e wrote and this entry touches
+-- the least live entry that blocks e has the number k, and x is the first name that e wrote and that entry touches
 pub record IsLeastBlocker (L : List Entry) (e : Live) (k : ℕ) (x : List ℕ) : Type 0 where
   pub blocker : Live
   pub number : blocker.number ≡ k
@@ -59,8 +59,9 @@ pub record IsLeastBlocker (L : List Entry) (e : Live) (k : ℕ) (x : List ℕ) :
   pub least : All (λ (b : Live). Blocks e b → k ≤ b.number) (live_of L)
   pub name : find (touches_any blocker.commands) (written e) ≡ Some x
 
--- An undo takes back the client's greatest live entry e. It is refused exactly where a live entry blocks e, and then
--- names the least one and the first name that e wrote and it touches; else it is accepted, whenever e was made.
+-- An undo takes back the client's greatest live entry e. It is refused exactly if a live entry blocks e. The refusal
+-- then names the least such entry, and the first name that e wrote and that entry touches. Otherwise it is accepted,
+-- whenever e was made.
 abbrev pub UndoIsRefusedExactly : Type 0
 UndoIsRefusedExactly =
     (T : Recording) (L : List Entry) (c : ℕ) (e : Live)
@@ -69,7 +70,7 @@ UndoIsRefusedExactly =
     → ((k : ℕ) (x : List ℕ) → (answer_of T L c Undo ≡ Err (RestsOn k x)) ↔ IsLeastBlocker L e k x)
     × ((answer_of T L c Undo ≡ Ok (Undone (length L) e.number)) ↔ All (λ (b : Live). ¬ Blocks e b) (live_of L))
 
--- An undo by number takes back the client's live entry e of that number, whenever it was made, with the same
+-- An undo by number takes back the client's live entry e with that number, whenever it was made. It has the same
 -- refusals.
 abbrev pub UndoAtIsRefusedExactly : Type 0
 UndoAtIsRefusedExactly =
@@ -80,15 +81,15 @@ UndoAtIsRefusedExactly =
     → ((j : ℕ) (x : List ℕ) → (answer_of T L c (UndoAt k) ≡ Err (RestsOn j x)) ↔ IsLeastBlocker L e j x)
     × ((answer_of T L c (UndoAt k) ≡ Ok (Undone (length L) k)) ↔ All (λ (b : Live). ¬ Blocks e b) (live_of L))
 
--- An undo by the number of the client's latest live entry is the undo without a number: so what is said of an undo
--- directly after what it takes back holds of both.
+-- An undo by the number of the client's latest live entry is the undo without a number. So the law of an undo directly
+-- after its entry holds for both.
 abbrev pub UndoAtOfLatestIsUndo : Type 0
 UndoAtOfLatestIsUndo =
     (T : Recording) (L : List Entry) (c : ℕ) (e : Live)
     → last_live L c ≡ Some e
     → (answer_of T L c (UndoAt e.number) ≡ answer_of T L c Undo) × (log_after T L c (UndoAt e.number) ≡ log_after T L c Undo)
 
--- An undo directly after a command or a batch is answered Undone, where the log has room, and the rows are again those
+-- If the log has room, an undo directly after a command or a batch is answered Undone, and the rows are again those
 -- before it.
 abbrev pub UndoDirectlyRestores : Type 0
 UndoDirectlyRestores =
@@ -99,16 +100,16 @@ UndoDirectlyRestores =
     → n + 1 < entry_limit
     → (answer_of T M c Undo ≡ Ok (Undone (n + 1) n)) × (rows_of T (log_after T M c Undo) ≡ rows_of T L)
 
--- Where a legal log ends with an undo of the entry before it, the rows are those of the log before both.
+-- If a legal log ends with an undo of the entry before it, the rows are those of the log before both.
 abbrev pub UndoOfTheLastRestores : Type 0
 UndoOfTheLastRestores =
     (T : Recording) (L : List Entry) (e : Entry) (c : ℕ)
     → IsLegal T (L ++ e ∷ Undid c (length L) ∷ [])
     → rows_of T (L ++ e ∷ Undid c (length L) ∷ []) ≡ rows_of T L
 
--- A proposal is refused at place p exactly where p is the first place up to which its list is no correct reordering, that place
--- included; as not shown exactly where the list is one and does not show the pair; and is put on the board exactly where the list
--- is one and does.
+-- A proposal is refused at index p exactly if its list is a correct reordering before p, but not up to p. It is refused
+-- as not shown exactly if the list is a correct reordering and does not show the pair. It is put on the board exactly
+-- if the list is a correct reordering and shows the pair.
 abbrev pub ProposalsAreJudgedExactly : Type 0
 ProposalsAreJudgedExactly =
     (T : Recording) (L : List Entry) (c a b : ℕ) (P : List ℕ)
@@ -118,12 +119,12 @@ ProposalsAreJudgedExactly =
     × ((answer_of T L c (Propose a b P) ≡ Err NotShown) ↔ (IsCorrectReordering T.events P × ¬ Shows T.events P a b))
     × ((answer_of T L c (Propose a b P) ≡ Ok (Proposed (length L) (length (board_of T L)))) ↔ (IsCorrectReordering T.events P × Shows T.events P a b))
 
--- a client whose entries alone stand in the log is never told that its command rests under another
+-- if all entries of the log are one client's, its undo is never refused for a later entry
 abbrev pub OneClientIsNeverBlocked : Type 0
 OneClientIsNeverBlocked =
     (T : Recording) (L : List Entry) (c k : ℕ) (x : List ℕ) → IsAlone c L → answer_of T L c Undo ≢ Err (RestsOn k x)
 
--- a board with more proposals accepts what was accepted, with the same rows
+-- a longer board accepts what was accepted, with the same rows
 abbrev pub LongerBoardsAcceptTheSame : Type 0
 LongerBoardsAcceptTheSame =
     (T : Recording) (B C : List Proposal) (n : ℕ) (d : Command) (W V : Rows)

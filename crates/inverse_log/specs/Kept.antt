@@ -1,5 +1,5 @@
--- What a bench keeps: its rows, board, steps back and lists are those of its log. No public clause cites this
--- module. `T` is the trace, `L` is the log.
+-- What a bench keeps: its rows, board, inverses and lists are those of its log. No public clause cites this module. `T`
+-- is the trace, `L` is the log.
 use Rattle.std.specs.Prelude.{◌≡◌, ◌<◌, ℕ, true, false, List, [], ◌∷◌, ◌++◌, Option, Some, None, Result, Ok, Err, IsOk, length, slice_get}
 use Rattle.rapid_text.specs.Recording.{Recording}
 use Rattle.trace_rules.specs.Rules.{IsDisciplined}
@@ -29,8 +29,8 @@ use Rattle.inverse_log.specs.Log.{Live, live, live_of, steps_of, commands_at, bo
 use Rattle.inverse_log.specs.Steps.{inverses_of}
 use Rattle.inverse_log.specs.Touching.{touching, own_live}
 
--- What is kept for a command's entry has an inverse for it, at its place, which fits the row that it writes, as it was
--- before it and after it.
+-- What is kept for a command's entry has an inverse of the command, at the command's index. The inverse fits the row
+-- that the command writes, as it was before and after.
 pub record HasInverse (T : Recording) (L : List Entry) (steps : List Held) (e : Numbered) (before after : Option Row) : Type 0 where
   pub entry : ℕ
   pub place : ℕ
@@ -47,7 +47,7 @@ pub record HasInverse (T : Recording) (L : List Entry) (steps : List Held) (e : 
   pub of : IsStepOf T inverse.step
 
 pub record IsKept (T : Recording) (L : List Entry) (W : Rows) (B : List Proposal) (steps : List Held) : Type 0 where
-  -- the rows are the fold of the live entries' commands, and each one's inverse fits at its own place
+  -- the rows are the fold of the live entries' commands, and the inverse of each command fits where it was applied
   pub rows : Leads T (board_of T L) (HasInverse T L steps) [] (steps_of (live_of L)) W
   pub board : B ≡ board_of T L
   pub long : length steps ≡ length L
@@ -62,14 +62,14 @@ pub record IsLive (L : List Entry) (e : Live) : Type 0 where
 abbrev pub live_there : List Entry → ℕ → ℕ → Live
 live_there L c k = live k c (commands_at L k)
 
--- What an undo of the live entry e is answered, and the log that it leaves.
+-- The answer to an undo of the live entry e, and the log that it leaves.
 abbrev pub IsUndone : List Entry → ℕ → Live → Result Reply Refusal → List Entry → Type 0
 IsUndone L c e (Ok reply) M = (undone_or (length L) e (blocker_of L e) ≡ Ok reply) × (M ≡ L ++ Undid c e.number ∷ [])
 IsUndone L c e (Err OutOfMemory) M = IsOk (undone_or (length L) e (blocker_of L e)) × (M ≡ L)
 IsUndone L c e (Err why) M = (undone_or (length L) e (blocker_of L e) ≡ Err why) × (M ≡ L)
 
--- What the judge of a proposed list says: its schedule, where it is a correct reordering that shows the pair; else the first place
--- at which it is none, or that it does not show the pair; or want of memory.
+-- The answer of the judge of a proposed list: its schedule, if it is a correct reordering that shows the pair.
+-- Otherwise the first index at which it is none, or that it does not show the pair. Or memory ran out.
 abbrev pub IsJudged : Recording → ℕ → ℕ → List ℕ → Result Scheduled Refusal → Type 0
 IsJudged T a b P (Ok s) =
     (s.trace ≡ T) × (s.events ≡ P) × IsCorrectReordering T.events P × (does_show T.events P a b ≡ true)
@@ -78,12 +78,12 @@ IsJudged T a b P (Err NotShown) = IsCorrectReordering T.events P × (does_show T
 IsJudged T a b P (Err OutOfMemory) = Unit {0}
 IsJudged T a b P (Err why) = ⊥
 
--- how a refused batch is answered
+-- the refusal of a call whose batch is refused
 abbrev pub refused_as : BatchRefusal → Refusal
 refused_as (batch.InBatch place cause) = InBatch place cause
 refused_as batch.OutOfMemory = OutOfMemory
 
--- e is live, and none blocks it
+-- e is live, and no live entry blocks it
 pub record IsUnblocked (L : List Entry) (e : Live) : Type 0 where
   pub earlier : List Live
   pub later : List Live

@@ -1,4 +1,4 @@
--- How long a log may be. The constants of the code are measured against this number.
+-- How long a log may be. A clause compares the constant of the code with this number.
 use Rattle.std.specs.Prelude.{ℕ}
 
 -- the most entries of a log

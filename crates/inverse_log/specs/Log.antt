@@ -1,5 +1,5 @@
--- A log: which of its entries are live, and the board and the rows that it comes to. All notions here are
--- this project's own. `T` is the trace, `L` is the log; entries are numbered from 0.
+-- A log: which of its entries are live, and its board and rows. All notions here are this project's own. `T` is the
+-- trace, `L` is the log; entries are numbered from 0.
 use Rattle.std.specs.Prelude.{◌+◌, ◌==◌, ◌&&◌, ℕ, Bool, false, List, [], ◌∷◌, ◌++◌, Option, Some, None, nat_lt, length, slice_get, drop, reverse, find, map, flat_map, filter, filter_map, unwrap_or}
 use Rattle.std.specs.List.{list_any, range_with_len}
 use Rattle.rapid_text.specs.Recording.{Recording}
@@ -12,12 +12,12 @@ use Rattle.moves.specs.Rows.{Rows}
 use Rattle.inverse_log.specs.declared.entry.Entry.{Entry}
 use Rattle.inverse_log.specs.declared.entry.Entry.TheVariants.{Did, Batch, Undid, Proposed}
 
--- What a contract sees of a bench: its trace and its log, which determine all else.
+-- What a contract sees of a bench: its trace and its log, which determine everything else.
 pub record Benched : Type 0 where
   pub trace : Recording
   pub log : List Entry
 
--- whose entry it is
+-- the client of the entry
 abbrev pub client_of : Entry → ℕ
 client_of (Did c d) = c
 client_of (Batch c D) = c
@@ -28,7 +28,7 @@ client_of (Proposed c a b P) = c
 abbrev pub own_entries : List Entry → ℕ → List Entry
 own_entries L c = filter (λ e. client_of e == c) L
 
--- the commands that an entry did, and whose they were; a single command is a list of one
+-- the commands that an entry did, and their client; a single command is a list of one
 abbrev pub done_by : Entry → Option (ℕ × List Command)
 done_by (Did c d) = Some (c, d ∷ [])
 done_by (Batch c D) = Some (c, D)
@@ -50,7 +50,7 @@ abbrev pub is_client : ℕ → Option (ℕ × List Command) → Bool
 is_client c None = false
 is_client c (Some p) = p.0 == c
 
--- whether an entry is there, and did commands of this client
+-- whether there is such an entry, and it did commands of this client
 abbrev pub is_own : ℕ → Option Entry → Bool
 is_own c e = is_client c (done_in e)
 
@@ -63,7 +63,7 @@ undoes k e = false
 abbrev pub is_undone : List Entry → ℕ → Bool
 is_undone L k = list_any (undoes k) (drop (k + 1) L)
 
--- A live entry: its number, whose it is, and its commands.
+-- A live entry: its number, its client, and its commands.
 pub record Live : Type 0 where
   pub number : ℕ
   pub client : ℕ
@@ -84,8 +84,8 @@ live_at L k = live_by k (is_undone L k) (done_in (slice_get L k))
 abbrev pub live_of : List Entry → List Live
 live_of L = filter_map (live_at L) (range_with_len 0 (length L))
 
--- The commands of an entry as the workspace takes them: what the command at a place makes has the birth of the entry
--- and that place.
+-- The commands of an entry as the workspace takes them. The birth of what a command makes is the entry and the
+-- command's index in it.
 abbrev pub births_of : Live → List Numbered
 births_of e = numbered (age e.number 0) e.commands
 
@@ -101,8 +101,8 @@ proposal_of T e = None
 abbrev pub board_of : Recording → List Entry → List Proposal
 board_of T L = filter_map (proposal_of T) L
 
--- The rows: what the commands of the live entries make of the empty workspace, in their order. That none of them is
--- refused there is a law of legal logs.
+-- The rows: what the commands of the live entries make of the empty workspace, in their order. A law of legal logs says
+-- that none of them is refused there.
 abbrev pub rows_of : Recording → List Entry → Rows
 rows_of T L = unwrap_or (fold_of T (board_of T L) (steps_of (live_of L))) []
 
@@ -117,11 +117,11 @@ last_live L c = find (is_by c) (reverse (live_of L))
 abbrev pub written : Live → List (List ℕ)
 written e = map writes e.commands
 
--- b stands in the way of an undo of e: it is later, and touches a name that e wrote
+-- b blocks an undo of e: it is later, and touches a name that e wrote
 abbrev pub blocks : Live → Live → Bool
 blocks e b = nat_lt e.number b.number && list_any (touches_any b.commands) (written e)
 
--- the least live entry that does
+-- the least live entry that blocks e
 abbrev pub blocker_of : List Entry → Live → Option Live
 blocker_of L e = find (blocks e) (live_of L)
 
@@ -129,19 +129,19 @@ blocker_of L e = find (blocks e) (live_of L)
 abbrev pub rests_on : Live → Live → List ℕ
 rests_on e b = unwrap_or (find (touches_any b.commands) (written e)) []
 
--- How often an entry changed a row, put one in, took one out or replaced one, after the entries L: once for each command
--- that it did, and once for each of the entry that it undid.
+-- How often an entry changed, added, removed or replaced a row, after the entries L: once for each command that it did,
+-- and once for each command of the entry that it undid.
 abbrev pub changes_by : List Entry → Entry → ℕ
 changes_by L (Did c d) = 1
 changes_by L (Batch c D) = length D
 changes_by L (Undid c k) = length (commands_at L k)
 changes_by L (Proposed c a b P) = 0
 
--- how often the entries M did, after the entries L
+-- the same for all of the entries M, after the entries L
 abbrev pub edits_after : List Entry → List Entry → ℕ
 edits_after L [] = 0
 edits_after L (e ∷ M) = changes_by L e + edits_after (L ++ e ∷ []) M
 
--- how often a row was changed, put in, taken out or replaced
+-- how often a row was changed, added, removed or replaced
 abbrev pub edits_of : List Entry → ℕ
 edits_of L = edits_after [] L

@@ -1,8 +1,8 @@
--- How the entry that an undo rests on is found, by the lists of names. No public clause cites this module.
+-- How an undo finds the entry that blocks it, from the lists of names. No public clause cites this module.
 use Rattle.std.specs.Prelude.{ℕ, List, Option, Some, None, fold, find, nat_lt, if◌then◌else◌}
 use Rattle.dependence.specs.Lists.{Lists, under}
 
--- what was found, or this number under this name where it is less
+-- what was found, or this number under this name if it is less
 abbrev pub nearer : Option (ℕ × List ℕ) → Option ℕ → List ℕ → Option (ℕ × List ℕ)
 nearer found None x = found
 nearer None (Some m) x = Some (m, x)

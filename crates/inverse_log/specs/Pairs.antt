@@ -4,7 +4,7 @@ use Rattle.rapid_text.specs.declared.event.Event.{Event}
 use Rattle.event_index.specs.Lookups.{before}
 use Rattle.schedule.specs.Shows.{does_show}
 
--- each member with each that comes after it, in the order of the list
+-- each member with each later member, in the order of the list
 abbrev pub pairs_of : List ℕ → List (ℕ × ℕ)
 pairs_of [] = []
 pairs_of (x ∷ xs) = map (λ y. (x, y)) xs ++ pairs_of xs
@@ -13,6 +13,6 @@ pairs_of (x ∷ xs) = map (λ y. (x, y)) xs ++ pairs_of xs
 abbrev pub shown_pairs : List Event → List ℕ → List (ℕ × ℕ)
 shown_pairs T P = filter (λ p. does_show T P p.0 p.1) (pairs_of (before (length T)))
 
--- of the pairs of `first` with these later events those that P shows
+-- the pairs of `first` and one of these later events that P shows
 abbrev pub pairs_with : List Event → List ℕ → ℕ → List ℕ → List (ℕ × ℕ)
 pairs_with T P first later = filter (λ p. does_show T P p.0 p.1) (map (λ y. (first, y)) later)

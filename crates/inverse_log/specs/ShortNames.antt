@@ -1,10 +1,10 @@
--- How a short name lies in its place: its bytes, and zeros after them. No public clause cites this module.
+-- How the bytes of a short name are stored: the bytes, and then zeros. No public clause cites this module.
 use Rattle.std.specs.Prelude.{◌≡◌, ◌≤◌, ℕ, true, List, length, take}
 use Rattle.moves.specs.Names.{is_name}
 use Rattle.inverse_log.specs.declared.compact.ShortName.TheInside.{Inside as ShortInside}
 use Rattle.inverse_log.specs.declared.compact.TinyName.TheInside.{Inside as TinyInside}
 
--- the first bytes of a place are a name
+-- the first bytes of the store are a name
 pub record HoldsName (room len : ℕ) (padded : List ℕ) : Type 0 where
   pub whole : length padded ≡ room
   pub fits : len ≤ room

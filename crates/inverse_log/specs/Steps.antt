@@ -1,4 +1,4 @@
--- What takes entries back, as it is kept beside the log. No public clause cites this module.
+-- What takes entries back, as it is kept with the log. No public clause cites this module.
 use Rattle.std.specs.Prelude.{ℕ, List, [], ◌∷◌, Option, Some, None, slice_get}
 use Rattle.moves.specs.declared.command.Command.{Command}
 use Rattle.moves.specs.declared.inverse.Inverse.{Inverse}
@@ -20,7 +20,7 @@ kept_in (form.Gains event) = One (step.Gains event)
 kept_in (form.Exchanges place) = One (step.Exchanges place)
 kept_in (form.Apart box) = box.value
 
--- the inverses of these commands, by what is kept for them
+-- the inverses of these commands, from what is kept for them
 abbrev pub inverses_of : Held → List Command → List Inverse
 inverses_of (Many I) D = I
 inverses_of (One s) (d ∷ D) = record { name = writes d; step = s } ∷ []

@@ -1,4 +1,4 @@
--- For each name the live entries that touch it, and for each client its live entries, by their numbers.
+-- The numbers of the live entries that touch each name, and of the live entries of each client.
 use Rattle.std.specs.Prelude.{ℕ, Bool, List, map, filter}
 use Rattle.moves.specs.Commands.{touches_any}
 use Rattle.inverse_log.specs.declared.entry.Entry.{Entry}

@@ -41,7 +41,7 @@ pub struct Bench {
     rows: Counted<Workspace>,
     board: Board,
     log: Vec<Entry>,
-    // for each entry what takes it back, where it did commands and was not undone
+    // for each entry what takes it back, if it did commands and was not undone
     steps: Vec<Kept>,
     // for what wants a box
     spare: Spare,
@@ -63,8 +63,8 @@ impl Model for Bench {
 }
 
 impl Bench {
-    /// The bench of this trace, with no schedule, no proposal and an empty log. The names of schedules are found by
-    /// the hashers of the trace's own text.
+    /// The bench of this trace, with no schedule, no proposal and an empty log. The hashers of the trace's own text
+    /// find the names of schedules.
     pub fn new(
         alloc: Global,
         indexed: Arc<Indexed, Global>,
@@ -77,7 +77,7 @@ impl Bench {
         Bench::keyed(alloc, indexed, hashers)
     }
 
-    /// The same, with the hashers that are to find the names of schedules.
+    /// The same, with hashers for the names of schedules that the caller has keyed.
     pub fn keyed(
         alloc: Global,
         indexed: Arc<Indexed, Global>,
@@ -107,7 +107,7 @@ impl Bench {
     /// The number of entries of the log.
     pub fn log_len(&self) -> u64
         ensures len { result ≡ length self.now.log }
-        // The log is one that calls of clients 1 to 32 built from the empty one.
+        // Calls of clients 1 to 32 built the log from the empty one.
         ensures legal { IsLegal self.now.trace self.now.log }
     {
         self.log.len() as u64
@@ -128,15 +128,15 @@ impl Bench {
         &self.indexed
     }
 
-    /// How often a row was changed, put in, taken out or replaced: once for each command that was applied, and
-    /// once for each that was taken back.
+    /// How often a row was changed, added, removed or replaced: once for each command that was applied, and once for
+    /// each that was taken back.
     pub fn edits(&self) -> u64
         ensures { result ≡ edits_of self.now.log }
     {
         self.rows.edits()
     }
 
-    /// The workspace: what the commands that were not undone make of the empty one, in their order.
+    /// The workspace: what the commands of the live entries make of the empty one, in their order.
     pub fn workspace(&self) -> &Workspace
         ensures { IsFoldOfLive self.now.trace self.now.log result.now }
     {
@@ -197,7 +197,7 @@ impl Bench {
         }
     }
 
-    // Applies a command that is not refused, where the log has room.
+    // Applies a command that is not refused. The log has room for its entry.
     fn put(&mut self, client: u32, command: &Command) -> Result<(), OutOfMemory>
         requires client { client ≤ client_limit }
         requires room { length self.old.log < entry_limit }
@@ -263,7 +263,7 @@ impl Bench {
         }
     }
 
-    // Applies the commands of a batch of 1 to 64, where the log has room.
+    // Applies the commands of a batch of 1 to 64. The log has room for its entry.
     fn put_batch(&mut self, client: u32, kept: Commands) -> Result<Reply, Refusal>
         requires low { 1 ≤ client }
         requires high { client ≤ client_limit }

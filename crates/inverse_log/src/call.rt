@@ -1,4 +1,4 @@
-//! What a client can ask for.
+//! The calls of a client.
 
 use event_index::EventList;
 use moves::{Command, Commands, Name};
@@ -8,20 +8,20 @@ use moves::{Command, Commands, Name};
 pub enum Call {
     /// A command on the named schedules.
     Do(Command),
-    /// Commands as one entry, all or none: 1 to 64 of them, applied one after another.
+    /// Commands as one entry: 1 to 64, applied one after another, all or none.
     Batch(Commands),
-    /// The client's latest command or batch that was not undone is taken back.
+    /// Takes back the client's latest live command or batch.
     Undo,
-    /// The client's command or batch of this entry, if it was not undone, is taken back.
+    /// Takes back the client's command or batch of this entry, if it is live.
     UndoAt {
         /// The entry's number.
         entry: u64,
     },
-    /// A list of events that shows the pair `first`, `second` is put on the board.
+    /// Posts a list of events that shows the pair `first`, `second`.
     Propose {
         /// One event of the pair.
         first: u32,
-        /// The other.
+        /// The other event.
         second: u32,
         /// The events, in the order of the proposed reordering.
         events: EventList,

@@ -11,17 +11,17 @@ use event_index::Indexed;
 use moves::{BatchRefusal, Birth, Board, Command, Inverse, Inverses, MoveRefusal, Workspace};
 use rapid_text::OutOfMemory;
 
-/// Rows that accepted commands change. Each method repeats the workspace's clauses, and adds `changed`, a relation of which
-/// nothing else is known. No clause adds two changes up, so code over any `Changing` can say how often it changed the rows
-/// only if it made as many changes.
+/// Rows that accepted commands change. Each method repeats the workspace's clauses, and adds `changed`, a relation of
+/// which nothing else is known. No clause adds two changes up. So code over any `Changing` can prove how often it
+/// changed the rows only if it made exactly that many changes.
 pub(crate) trait Changing {
     /// The rows.
     ghost rows: { Self → Rows };
 
-    /// From the one to the other, so many commands were applied or taken back.
+    /// This number of commands, applied or taken back, led from the first rows to the second.
     ghost changed: { ℕ → Self → Self → Type 0 };
 
-    /// Where there was no call there was no change.
+    /// Without a call there is no change.
     ghost unchanged: { (w : Self) → changed 0 w w };
 
     /// Applies the command: one change, or none.

@@ -1,4 +1,4 @@
-//! A command as the log keeps it: in few bytes, since a log has up to a million of them.
+//! A command as the log keeps it: in few bytes, because a log has up to a million commands.
 ghost use Rattle.std.specs.Prelude.{◌≡◌, ◌≤◌, ◌++◌, ◌-◌, length, replicate, IfOk, IfSome};
 ghost use Rattle.inverse_log.specs.Compact.{command_in, command_of};
 
@@ -10,7 +10,7 @@ use std::marker::Model;
 /// The most bytes of a short name.
 const SHORT: usize = 23;
 
-/// The most bytes of each of two names that lie in the place of a short one.
+/// The most bytes of each of two names that are kept in the space of a short one.
 const TINY: usize = 11;
 
 /// A name of at most 23 bytes.
@@ -125,7 +125,7 @@ fn tiny_padded(bytes: &[u8]) -> [u8; TINY]
     padded
 }
 
-/// Which command of one name it is.
+/// The kind of a command with one name.
 #[derive(Clone, Copy)]
 enum Kind {
     Fresh,
@@ -136,7 +136,7 @@ enum Kind {
     Adopt,
 }
 
-/// The command of this kind, with its name, and its number where it has one.
+/// The command of this kind, with its name, and with its number if it has one.
 fn command_of(kind: Kind, name: Name, number: u32) -> Command
     ensures { result ≡ command_of kind name number }
 {
@@ -156,7 +156,7 @@ fn command_of(kind: Kind, name: Name, number: u32) -> Command
     }
 }
 
-/// A command in 32 bytes. One with a long name lies in a box. Contracts see it as the command.
+/// A command in 32 bytes. A command with a long name is in a box. Contracts see it as the command.
 #[derive(Drop)]
 pub struct CompactCommand {
     form: Form,
@@ -179,7 +179,7 @@ impl Model for CompactCommand {
 }
 
 impl CompactCommand {
-    /// The command in few bytes. It takes memory only where a name is long.
+    /// The command in few bytes. Only a long name takes memory.
     pub(crate) fn of(alloc: Global, command: &Command) -> Result<CompactCommand, OutOfMemory>
         ensures { IfOk result (λ compact. compact ≡ command.now) }
     {

@@ -13,8 +13,8 @@ use crate::kept::Held;
 use event_index::Indexed;
 use moves::{BatchRefusal, Birth, Board, Command, Inverse, Inverses, MoveRefusal};
 
-/// A workspace with the count of its changes. The two are a type of their own, and the workspace may be any `Changing`: so
-/// each change of a row is counted once, even one that is changed back.
+/// A workspace with the count of its changes. The two are a type of their own, and the workspace may be any `Changing`.
+/// So each change of a row is counted once, even one that is changed back.
 #[derive(Drop)]
 pub(crate) struct Counted<W: Changing> {
     rows: W,
@@ -61,7 +61,7 @@ impl<W: Changing> Counted<W> {
         ensures step { IfOk result (λ inverse. IsStepOf indexed.now inverse.step) }
         ensures counted { OnOk result (self.new.edits ≡ self.old.edits + 1) }
         ensures same { OnErr result (self.new.edits ≡ self.old.edits) }
-        // As many changes as were counted.
+        // As many changes as the count says.
         ensures changed { OnOk result (W.changed 1 self.old.rows self.new.rows) }
         ensures unchanged { OnErr result (W.changed 0 self.old.rows self.new.rows) }
     {
@@ -97,8 +97,8 @@ impl<W: Changing> Counted<W> {
         Ok(inverses)
     }
 
-    /// Takes commands back, all or none, by what is kept for them, and counts a change for each; or gives that back where
-    /// there is no memory.
+    /// Takes commands back, all or none, by what is kept for them, and counts a change for each. If memory runs out,
+    /// returns what is kept.
     pub(crate) fn take_back(
         &mut self,
         indexed: &Indexed,

@@ -1,4 +1,4 @@
-//! What takes an entry back, as it is kept beside the log.
+//! What takes an entry back, as it is kept with the log.
 ghost use Rattle.std.specs.Prelude.{◌≡◌, IsSome};
 ghost use Rattle.inverse_log.specs.declared.kept.Held.TheVariants as held;
 ghost use Rattle.inverse_log.specs.Steps.{kept_in};
@@ -18,13 +18,13 @@ pub(crate) enum Held {
     Many(Inverses),
 }
 
-/// A box for what lies apart, which was made ahead, so that keeping it wants no memory.
+/// A box made in advance, so that keeping something in a box needs no memory.
 pub(crate) type Spare = Option<Box<Held>>;
 
-/// What takes an entry back, where it is one of commands that were not undone. Contracts see it as that.
+/// What takes an entry back, if it did commands and was not undone. Contracts see it as a `Held`.
 ///
-/// What owns a row, a schedule or a list lies apart in a box, since there is a place for each entry and most steps
-/// are a number or less.
+/// Anything that owns a row, a schedule or a list is in a box: each entry has a `Kept`, and most steps are at most a
+/// number.
 #[derive(Drop)]
 pub(crate) struct Kept {
     form: Form,
@@ -50,7 +50,7 @@ impl Model for Kept {
 }
 
 impl Kept {
-    /// Nothing.
+    /// Nothing to take back.
     pub(crate) fn nothing() -> Kept
         ensures { result ≡ held.Nothing }
     {
@@ -59,7 +59,7 @@ impl Kept {
         }
     }
 
-    /// This; where it lies apart it takes the spare box.
+    /// Keeps this. If it needs a box, it takes the spare one.
     pub(crate) fn of(held: Held, spare: &mut Spare) -> Kept
         requires { IsSome spare.old }
         ensures { result ≡ held }
@@ -77,7 +77,7 @@ impl Kept {
         Kept { form }
     }
 
-    /// Takes it out.
+    /// Returns what was kept, and keeps nothing from now on.
     pub(crate) fn take(&mut self) -> Held
         ensures taken { result ≡ self.old }
         ensures nothing { self.new ≡ held.Nothing }

@@ -1,4 +1,4 @@
-//! Steps on the parts of a bench.
+//! Helpers for the parts of a bench.
 ghost use Rattle.std.specs.Prelude.{◌≡◌, ℕ, ◌+◌, ◌++◌, ◌∷◌, [], ◌<◌, ◌≤◌, All, OnOk, OnErr, IfErr, IsSome, Some, vec_len, vec_capacity, slice_get, slice_set, map};
 ghost use Rattle.dependence.specs.Limits.{client_limit};
 ghost use Rattle.dependence.specs.Lists.{AllBelow, Entered, Left, of_client, PushedAll, RemovedAll, Same};
@@ -22,7 +22,7 @@ use std::slice;
 /// The most commands of a batch.
 const MAX_COMMANDS: usize = 64;
 
-/// Room for one more entry and what takes it back.
+/// Makes room for one more entry and for what takes it back.
 pub(crate) fn make_room(
     alloc: Global,
     log: &mut Vec<Entry>,
@@ -52,7 +52,7 @@ pub(crate) fn make_room(
     Ok(())
 }
 
-/// Appends an entry where there is room.
+/// Appends an entry. There is room for it.
 pub(crate) fn add_entry(log: &mut Vec<Entry>, entry: Entry)
     requires { vec_len log.old < vec_capacity log.old }
     ensures { log.new.items ≡ log.old.items ++ entry ∷ [] }
@@ -60,7 +60,7 @@ pub(crate) fn add_entry(log: &mut Vec<Entry>, entry: Entry)
     let _ = log.push(entry);
 }
 
-/// Appends what takes the next entry back, where there is room.
+/// Appends what takes the next entry back. There is room for it.
 pub(crate) fn add_held(steps: &mut Vec<Kept>, spare: &mut Spare, held: Held)
     requires room { vec_len steps.old < vec_capacity steps.old }
     requires spare { IsSome spare.old }
@@ -69,7 +69,7 @@ pub(crate) fn add_held(steps: &mut Vec<Kept>, spare: &mut Spare, held: Held)
     let _ = steps.push(Kept::of(held, spare));
 }
 
-/// Appends that nothing takes the next entry back, where there is room.
+/// Appends that nothing takes the next entry back. There is room for that.
 pub(crate) fn add_nothing(steps: &mut Vec<Kept>)
     requires { vec_len steps.old < vec_capacity steps.old }
     ensures { steps.new.items ≡ steps.old.items ++ held.Nothing ∷ [] }
@@ -77,7 +77,7 @@ pub(crate) fn add_nothing(steps: &mut Vec<Kept>)
     let _ = steps.push(Kept::nothing());
 }
 
-/// Takes out what takes the entry back.
+/// Removes and returns what takes the entry back.
 pub(crate) fn take_out(steps: &mut Vec<Kept>, entry: u64) -> Held
     requires { entry < vec_len steps.old }
     ensures taken { slice_get steps.old.items entry ≡ Some result }
@@ -97,7 +97,7 @@ pub(crate) fn put_back(steps: &mut Vec<Kept>, spare: &mut Spare, entry: u64, hel
     steps[entry as usize] = Kept::of(held, spare);
 }
 
-/// Enters a live entry under the names of its commands and its client, or changes nothing.
+/// Adds a live entry to the lists of its commands' names and of its client. If memory runs out, changes nothing.
 pub(crate) fn enter(
     touches: &mut Touches,
     clients: &mut Clients,
@@ -122,7 +122,7 @@ pub(crate) fn enter(
     Ok(())
 }
 
-/// Takes an entry of these commands out of the lists.
+/// Removes an entry of these commands from the lists.
 pub(crate) fn leave(
     touches: &mut Touches,
     clients: &mut Clients,
@@ -152,7 +152,7 @@ pub(crate) fn single_at(log: &[Entry], entry: u64) -> Option<Command>
     }
 }
 
-/// The commands of a batch, none where the entry is no batch.
+/// The commands of a batch, or none if the entry is no batch.
 fn batch_at(log: &[Entry], entry: u64) -> &[Command]
     ensures { result.now ≡ batch_at log.now entry }
 {
@@ -169,7 +169,8 @@ fn batch_at(log: &[Entry], entry: u64) -> &[Command]
     }
 }
 
-/// The commands that an entry did, none where it did none. The log has a single one in few bytes: `single` is that.
+/// The commands that an entry did, or none. `single` is the command of an entry that did a single one, which the log
+/// keeps in few bytes.
 pub(crate) fn commands_at<'a>(
     log: &'a [Entry],
     entry: u64,
@@ -221,7 +222,7 @@ pub(crate) fn first_blocker(
     found
 }
 
-/// What was found, or this entry under this name where it is less.
+/// What was found, or this entry under this name if it is less.
 fn nearer(found: Option<(u64, Name)>, next: Option<u64>, name: Name) -> Option<(u64, Name)>
     ensures { result ≡ nearer found next name }
 {
@@ -238,14 +239,14 @@ fn nearer(found: Option<(u64, Name)>, next: Option<u64>, name: Name) -> Option<(
     }
 }
 
-/// Whether these are as many commands as a batch has.
+/// Whether a batch may have this number of commands: 1 to 64.
 pub(crate) fn is_batch(commands: &[Command]) -> bool
     ensures { result ≡ is_batch commands.now }
 {
     1 <= commands.len() && commands.len() <= MAX_COMMANDS
 }
 
-/// How a refused batch is answered.
+/// The refusal of a call whose batch is refused.
 pub(crate) fn refused(why: BatchRefusal) -> Refusal
     ensures { result ≡ refused_as why }
 {

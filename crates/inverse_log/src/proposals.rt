@@ -6,8 +6,8 @@ use event_index::Indexed;
 use schedule::{ListRefusal, Schedule};
 use std::alloc::Global;
 
-/// The schedule of the proposed list, where it is a correct reordering that shows the pair; else the first place at which it is
-/// none, or that it does not show the pair.
+/// The schedule of the proposed list, if it is a correct reordering that shows the pair. Otherwise the refusal has the
+/// first index at which the list is no correct reordering, or says that it does not show the pair.
 #[tactic(auto, using(crate::proofs::OtherLemmas::shown_as))]
 pub(crate) fn judge(
     alloc: Global,

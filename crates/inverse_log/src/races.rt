@@ -9,8 +9,8 @@ use schedule::Schedule;
 use std::alloc::Global;
 use std::collections::BTreeSet;
 
-/// The pairs of events that the schedule shows, the earlier event first, in rising order. Only the next event
-/// of each thread can be one of a pair.
+/// The pairs of events that the schedule shows, the earlier event first, in rising order. Both events of a pair are
+/// next in their threads.
 pub(crate) fn shown_pairs(
     alloc: Global,
     indexed: &Indexed,
@@ -27,7 +27,7 @@ pub(crate) fn shown_pairs(
     Ok(pairs)
 }
 
-// Appends the pairs of the event with the later ones that the schedule shows.
+// Appends the pairs of this event and a later one that the schedule shows.
 fn add_pairs(
     pairs: &mut Pairs,
     indexed: &Indexed,
@@ -47,7 +47,7 @@ fn add_pairs(
     Ok(())
 }
 
-// The events that are each the next of their thread after the schedule, rising.
+// The events that are next in their threads after the schedule, rising.
 fn next_events(
     alloc: Global,
     indexed: &Indexed,

@@ -1,15 +1,15 @@
-//! Why a call was refused, of a bench or through a seat of one.
+//! Why a call was refused, of a bench or of a seat.
 
 use moves::{MoveRefusal, Name};
 
-/// Why a call was refused, each with the number under which it is printed. A refused call changes nothing.
+/// Why a call was refused. The number of each cause is printed with it. A refused call changes nothing.
 #[derive(Clone, Copy, PartialEq, Eq)]
 pub enum Refusal {
-    /// 42 to 48: what a command, or a look at a schedule, is refused for.
+    /// 42 to 48: why a command, or a look at a schedule, is refused.
     Move(MoveRefusal),
-    /// 51: the client has no command and no batch that was not undone.
+    /// 51: the client has no live command and no live batch.
     NothingToUndo,
-    /// 52: a later entry that was not undone touches a name that was written by the one to take back.
+    /// 52: a later live entry touches a name that the entry to take back wrote.
     RestsOn {
         /// The number of the first such entry.
         entry: u64,
@@ -18,18 +18,18 @@ pub enum Refusal {
     },
     /// 53: the proposed list is no correct reordering.
     NotReordering {
-        /// The first place whose event may not come after those before it.
+        /// The index of the first event that is not enabled after those before it.
         position: u32,
     },
     /// 54: the proposed list does not show its pair.
     NotShown,
     /// 55: the log holds 1,000,000 entries.
     LogFull,
-    /// 56: a growth was refused.
+    /// 56: out of memory.
     OutOfMemory,
-    /// 57: the log has no entry of the number.
+    /// 57: the log has no entry with this number.
     NoSuchEntry,
-    /// 58: the entry is no command and no batch of the client.
+    /// 58: the entry is no command and no batch of this client.
     NotOwn,
     /// 59: the entry was taken back already.
     NotLive,
@@ -37,19 +37,19 @@ pub enum Refusal {
     BadBatch,
     /// 70: a command of a batch is refused.
     InBatch {
-        /// Its place among the commands, from 0.
+        /// Its index among the commands, from 0.
         place: u32,
         /// Why it is refused: 42 to 48.
         cause: MoveRefusal,
     },
 }
 
-/// Why a call through a seat of a bench was refused. The seats are those of `workspace_lock`; what refuses a call stands here, so that
-/// a printer of refusals needs no lock.
+/// Why a call through a seat of a bench was refused. `workspace_lock` has the seats. The refusal is here, so that code
+/// that prints refusals needs no lock.
 #[derive(Clone, Copy, PartialEq, Eq)]
 pub enum SeatRefusal {
-    /// 42 to 70: what the bench refused the call for. The seat has had its turn, and has seen the log.
+    /// 42 to 70: why the bench refused the call. The seat has had its turn, and has seen the log.
     Bench(Refusal),
-    /// 73: the seat has made 4,294,967,295 calls. It is as before.
+    /// 73: the seat has made 4,294,967,295 calls. It stays as it was.
     SeatSpent,
 }

@@ -1,4 +1,4 @@
-//! What an accepted call is answered.
+//! The replies to accepted calls.
 
 use event_index::{EventList, Pairs};
 use moves::Names;
@@ -6,7 +6,7 @@ use moves::Names;
 /// The reply to an accepted call. Entries of the log and proposals are numbered from 0.
 #[derive(Drop)]
 pub enum Reply {
-    /// The command, or all commands of the batch, were applied; the number of the entry.
+    /// The command, or all commands of the batch, were applied. The number is that of the entry.
     Done(u64),
     /// A command or a batch was taken back.
     Undone {

@@ -1,4 +1,4 @@
-//! Looks at the workspace, which change nothing.
+//! Calls that look at the workspace and change nothing.
 ghost use Rattle.std.specs.Prelude.{◌≡◌, ◌<◌, ℕ, Some, None, Ok, Err, IfSome, IfNone};
 ghost use Rattle.inverse_log.specs.declared.call.Call.{Call};
 ghost use Rattle.inverse_log.specs.Answer.{Called, show_answer};
@@ -11,7 +11,7 @@ use event_index::EventList;
 use moves::{MoveRefusal, Name};
 
 impl Bench {
-    /// The events of this schedule, as a call `Show` answers them. They are lent, so this takes no memory.
+    /// The events of this schedule, as a call `Show` answers them. It borrows them, so it takes no memory.
     pub fn shown(&self, name: &Name) -> Option<&[u32]>
         ensures none { (c : ℕ) → IfNone result (show_answer self.now c name.now ≡ Err (Refusal.Move
             MoveRefusal.NoSuchSchedule)) }

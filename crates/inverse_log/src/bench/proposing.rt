@@ -45,7 +45,7 @@ impl Bench {
         }
     }
 
-    // Puts a list that shows its pair on the board, where the log has room, and tells its number there.
+    // Puts a list that shows its pair on the board, and returns its number there. The log has room for its entry.
     fn put_proposal(
         &mut self,
         client: u32,

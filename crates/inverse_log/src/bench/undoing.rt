@@ -1,4 +1,4 @@
-//! Undos: which entry is taken back, and what blocks it.
+//! Undos: which entry an undo takes back, and what blocks it.
 ghost use Rattle.std.specs.Prelude.{◌≡◌, ◌<◌, ◌≤◌, ◌++◌, ◌∷◌, [], length, Some, None, Ok, Err, OnOk, OnErr};
 ghost use Rattle.dependence.specs.Limits.{client_limit};
 ghost use Rattle.inverse_log.specs.declared.call.Call.{Call};
@@ -37,7 +37,7 @@ impl Bench {
         self.undo_live(client, entry)
     }
 
-    /// Takes back this live entry, which has to be the client's.
+    /// Takes back this live entry. It must be the client's.
     pub(crate) fn undo_at(&mut self, client: u32, entry: u64) -> Result<Reply, Refusal>
         requires low { 1 ≤ client }
         requires high { client ≤ client_limit }
@@ -60,7 +60,7 @@ impl Bench {
         self.undo_live(client, entry)
     }
 
-    // Takes back a client's live entry, or tells what blocks it.
+    // Takes back a client's live entry, or returns the refusal that names what blocks it.
     fn undo_live(&mut self, client: u32, entry: u64) -> Result<Reply, Refusal>
         requires client { client ≤ client_limit }
         requires room { length self.old.log < entry_limit }
@@ -85,7 +85,7 @@ impl Bench {
         Ok(Reply::Undone { number, entry })
     }
 
-    // Takes back a client's live entry that nothing blocks. `single` is its command, where it did a single one.
+    // Takes back a client's live entry that nothing blocks. `single` is its command, if it did a single one.
     fn take_back(
         &mut self,
         client: u32,
