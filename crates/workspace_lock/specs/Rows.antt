@@ -1,5 +1,5 @@
--- The rows of seats and the places behind them: how seats are made from the first place, and how they are joined
--- again. All notions here are this project's own.
+-- The rows of seats and their places: how seats are made from the first place, and how they are joined again. All
+-- notions here are this project's own.
 use Rattle.std.specs.List.{All, Contains}
 use Rattle.std.specs.Prelude.{suc, ◌-◌, ◌≡◌, ℕ, ◌+◌, ◌*◌, ◌<◌, ◌≤◌, length, List, [], ◌∷◌, Option, Some, None}
 use Rattle.atomic_table.specs.Seated.{TableId}

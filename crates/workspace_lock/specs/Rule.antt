@@ -23,7 +23,7 @@ abbrev pub fresh_marks : Benched → ℕ → ℕ → ℕ → List Mark
 fresh_marks start clients number zero = []
 fresh_marks start clients number (suc more) = mark start clients number start.log ∷ fresh_marks start clients (suc number) more
 
--- the view of the first place, which stands for all clients
+-- the view of the first place, which has the marks of all clients
 abbrev pub opened : Benched → ℕ → PlaceView
 opened start clients = record { marks = fresh_marks start clients 1 clients; turns = 0; stage = idle }
 
@@ -31,17 +31,17 @@ opened start clients = record { marks = fresh_marks start clients 1 clients; tur
 abbrev pub claims_in : ℕ → List Mark → ℕ
 claims_in c ms = count_by (λ (m : Mark). m.number == c) ms
 
--- how often a place stands for client c
+-- how many marks of client c a place has
 abbrev pub claims : ℕ → PlaceView → ℕ
 claims c v = claims_in c v.marks
 
--- 1 if this stage has ticket t, else 0
+-- 1 if this stage has ticket t, otherwise 0
 abbrev pub has_drawn : ℕ → Stage → ℕ
 has_drawn t idle = 0
 has_drawn t (waits k) = cond (k == t) 1 0
 has_drawn t (holds k) = cond (k == t) 1 0
 
--- 1 if the place has ticket t, else 0
+-- 1 if the place has ticket t, otherwise 0
 abbrev pub draws : ℕ → PlaceView → ℕ
 draws t v = has_drawn t v.stage
 
@@ -49,7 +49,7 @@ draws t v = has_drawn t v.stage
 abbrev pub turns_of : PlaceView → ℕ
 turns_of v = v.turns
 
--- how many clients the place stands for
+-- how many clients the place has marks of
 abbrev pub parts_of : PlaceView → ℕ
 parts_of v = length v.marks
 
@@ -62,7 +62,7 @@ pub record Fits (start : Benched) (clients : ℕ) (log : List Entry) (m : Mark) 
   pub begins : IsPrefix m.seen log
   pub same : own_entries log m.number ≡ own_entries m.seen m.number
 
--- A place with a ticket stands for a client. A place with the turn has the ticket that SERVING names, and has seen
+-- A place with a ticket has the mark of a client. A place with the turn has the ticket that SERVING names, and has seen
 -- the whole log.
 abbrev pub Current : ℕ → List Entry → List Mark → Stage → Type 0
 Current serving log marks idle = Unit {0}

@@ -82,7 +82,7 @@ fn pass_answered<R: Wait, G: Gate, N: Told>(rt: &R, gate: &mut G, answered: &Res
     gate.pass::<R, N>(rt, 2);
 }
 
-// Sleeps until it is the ticket's turn. The load that sees this also takes the bench.
+// Sleeps until it is the ticket's turn. The load that sees the turn also takes the bench.
 fn watch<R: Wait>(rt: &R, hall: &Hall, place: &mut Place, ticket: u64)
     requires { (place.old.table_id ≡ hall.now.lock.shared.table_id) × IsSized place.old.table_id × IsWaiting ticket place.old.me }
     ensures { (place.new.table_id ≡ place.old.table_id) × (place.new.id ≡ place.old.id) × GotTurn ticket place.old.me place.new.me }
