@@ -150,7 +150,7 @@ fn append_in_batch(
     Ok(())
 }
 
-/// Appends the line of an undo that is refused because a later entry rests on its entry.
+/// Appends the line of an undo that is refused because a later entry touches a name that its entry wrote.
 fn append_rests_on(out: &mut Vec<u8>, entry: u64, name: &Name) -> Result<(), OutOfMemory>
     ensures ok { OnOk result (out.new.items ≡ out.old.items ++ refused_line (codes "52 rests on " ++ decimal entry ++ codes " " ++ name.now)) }
     ensures err { OnErr result (out.new.items ≡ out.old.items) }
