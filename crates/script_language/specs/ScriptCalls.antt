@@ -1,4 +1,4 @@
--- The call that a script gives: made, lent, or not made yet.
+-- The call that a script gives: made, borrowed, or not made yet.
 use denote.Ref.{Bor}
 use Rattle.inverse_log.specs.declared.call.Call.{Call}
 use Rattle.script_language.specs.declared.script.ScriptCall.{ScriptCall}
@@ -11,7 +11,7 @@ abbrev pub call_given : ScriptCall → Call
 call_given (Made call) = call
 call_given (Lent call) = call.now
 
--- the same of a call that may not be made yet
+-- the same for a call that may not be made yet
 abbrev pub call_there : GivenCall → Call
 call_there (Plain call) = call
 call_there (LentAsItIs call) = call.now

@@ -13,7 +13,7 @@ use Rattle.script_language.specs.Scripts.{then_read, batch_reading}
 abbrev pub simple_call : Simple → Call → Call
 simple_call s own = call_in s.form s.name.now s.to.now s.number own
 
--- It has the names of its form, and can be kept.
+-- The call has the names of its form, and can be kept.
 pub record IsSimple (s : Simple) : Type 0 where
   pub form : s.form ≢ Owned
   pub name : length s.name.now ≤ 64
@@ -25,12 +25,12 @@ abbrev pub AsksCall : Found → Result Call ScriptCause → Type 0
 AsksCall (FoundSimple s) reading = IsSimple s × ((own : Call) → reading ≡ Ok (simple_call s own))
 AsksCall (FoundBatch words) reading = reading ≡ batch_reading words
 
--- the same with a client
+-- the same for a client and its call
 abbrev pub AsksWords : ℕ → Found → Result (ℕ × Call) ScriptCause → Type 0
 AsksWords client (FoundSimple s) reading = IsSimple s × ((own : Call) → reading ≡ Ok (client, simple_call s own))
 AsksWords client (FoundBatch words) reading = reading ≡ then_read (batch_reading words) (λ call. Ok (client, call))
 
--- the same of a line
+-- the same for a line
 abbrev pub AsksLine : ℕ → Found → Result (Option (ℕ × Call)) ScriptCause → Type 0
 AsksLine client (FoundSimple s) reading = IsSimple s × ((own : Call) → reading ≡ Ok (Some (client, simple_call s own)))
 AsksLine client (FoundBatch words) reading = reading ≡ then_read (batch_reading words) (λ call. Ok (Some (client, call)))

@@ -13,7 +13,7 @@ up_to false words = words
 abbrev pub words_left : Inside → List (List ℕ)
 words_left w = up_to w.is_part (words_of w.rest.now)
 
--- the parts that are left; none behind the last one, which no separator ends
+-- the parts that are left; none after the last one, which no separator ends
 abbrev pub parts_left : Option (List (List ℕ)) → List (List (List ℕ))
 parts_left None = []
 parts_left (Some words) = slice_split is_separator words

@@ -212,7 +212,7 @@ pub(crate) fn keep(
     })
 }
 
-/// The name of so many bytes that begins at a place.
+/// The name with this number of bytes that begins at this index.
 fn name_at(names: &[u8], at: usize, len: u8) -> Name
     requires within { at + len ≤ length names.now }
     requires name { is_name (take len (drop at names.now)) ≡ true }
@@ -233,7 +233,7 @@ pub(crate) fn first_name(names: &[u8], kept: &Kept) -> Name
     name_at(names, kept.at, kept.name)
 }
 
-/// Its second name.
+/// The second name of a kept call.
 fn second_name(names: &[u8], kept: &Kept) -> Name
     requires within { kept.now.at + kept.now.name + kept.now.to ≤ length names.now }
     requires named { is_name (to_in names.now kept.now) ≡ true }

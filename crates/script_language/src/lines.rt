@@ -9,7 +9,7 @@ use memchr::memchr;
 use rapid_text::{is_a_blank, trim_start};
 use std::marker::Model;
 
-/// How many bytes stand before the first blank.
+/// How many bytes come before the first blank.
 fn word_len(bytes: &[u8]) -> usize
     ensures word { result ≡ position_or_len is_blank bytes.now }
     ensures within { result ≤ length bytes.now }
@@ -17,7 +17,7 @@ fn word_len(bytes: &[u8]) -> usize
     bytes.iter().take_while(|byte| !is_a_blank(**byte)).count()
 }
 
-/// The first word of a line and what stands after it, if there is a word.
+/// The first word of a line and what comes after it, if there is a word.
 fn first_word(line: &[u8]) -> Option<(&[u8], &[u8])>
     ensures none { IfNone result (words_of line.now ≡ []) }
     ensures some { IfSome result (λ parts. words_of line.now ≡ parts.0.now ∷ words_of parts.1.now) }
@@ -40,7 +40,7 @@ pub(crate) fn is_separator(word: &[u8]) -> bool
 #[derive(Drop)]
 pub(crate) struct Words<'a> {
     rest: &'a [u8],
-    // whether the first word `;` of the rest ends them
+    // whether the first word `;` of the rest ends the words
     is_part: bool,
 }
 
@@ -74,7 +74,7 @@ impl<'a> Words<'a> {
         }
     }
 
-    /// The words before the first `;`, or all.
+    /// The words before the first `;`, or all words.
     pub(crate) fn before_separator(&self) -> Words<'a>
         ensures { result ≡ before_first is_separator self.now }
     {

@@ -7,7 +7,7 @@ ghost use Rattle.script_language.specs.LineWords.{is_digit, value_of, written_nu
 /// The greatest number of a script.
 pub(crate) const MAX_NUMBER: u64 = 4_294_967_295;
 
-/// Whether the byte is one from `0` to `9`.
+/// Whether the byte is from `0` to `9`.
 fn is_decimal(byte: u8) -> bool
     ensures { result ≡ is_digit byte }
 {

@@ -31,7 +31,7 @@ impl<'a> Model for PlainCall<'a> {
 }
 
 impl<'a> PlainCall<'a> {
-    /// The call that is kept so.
+    /// The call that a script keeps in this form.
     pub(crate) fn of(names: &'a [u8], kept: &'a Kept) -> PlainCall<'a>
         requires form { kept.now.form ≢ Owned }
         requires within { kept.now.at + kept.now.name + kept.now.to ≤ length names.now }
@@ -66,6 +66,6 @@ impl<'a> PlainCall<'a> {
 pub enum GivenCall<'a> {
     /// A call that owns no memory.
     Plain(PlainCall<'a>),
-    /// A call that the script keeps.
+    /// A call that the script keeps, borrowed.
     Lent(&'a Call),
 }

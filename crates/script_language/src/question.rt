@@ -175,7 +175,7 @@ fn read_asked(words: &mut Words<'_>) -> Result<Question, ScriptCause>
     }
 }
 
-/// The question of a line whose words these are; none if the first word is not `?`.
+/// The question in these words of a line. Returns None if the first word is not `?`.
 fn read_words(words: &mut Words<'_>) -> Option<Result<Question, ScriptCause>>
     ensures { result ≡ question_in words.old }
 {

@@ -42,7 +42,7 @@ impl Model for Script {
 pub enum ScriptCall<'a> {
     /// A call that owns no memory.
     Made(Call),
-    /// A call that the script keeps.
+    /// A call that the script keeps, borrowed.
     Lent(&'a Call),
 }
 
@@ -70,7 +70,7 @@ impl Script {
         }
     }
 
-    /// Adds a call at the end.
+    /// Appends a call.
     pub(crate) fn push(&mut self, line: u64, client: u32, call: Call) -> Result<(), OutOfMemory>
         requires client { (1 ≤ client) × (client ≤ client_limit) }
         ensures { OnOk result (self.new ≡ self.old ++ record { line = line; client = client; call = call } ∷ []) }
@@ -80,7 +80,7 @@ impl Script {
         Ok(())
     }
 
-    /// Adds a call that owns no memory at the end.
+    /// Appends a call that owns no memory.
     pub(crate) fn push_simple(
         &mut self,
         line: u64,

@@ -23,7 +23,7 @@ pub(crate) struct Simple<'a> {
     pub(crate) form: Form,
     /// The number among its arguments.
     pub(crate) number: u32,
-    /// Its name, empty where it has none.
+    /// Its name; empty if it has none.
     pub(crate) name: &'a [u8],
     /// The second name of a branch.
     pub(crate) to: &'a [u8],
