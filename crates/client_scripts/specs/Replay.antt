@@ -90,7 +90,7 @@ abbrev pub IsUnread : Texts → ℕ → ReadCause → Type 0
 IsUnread t input why =
     ((input ≡ 1) × IsUnreadable t.first why) ⊎ ((input ≡ 2) × IsAccepted t × IsUnreadable t.second why)
 
--- the fault that comes before the first call: that of the trace, or else that of the script
+-- the fault that comes before the first call: that of the trace, or otherwise that of the script
 abbrev pub IsFault : Texts → ReplayFault → Type 0
 IsFault t (Text refusal) = IsShort t.first × (trace_of t.trace ≡ Err (Text refusal))
 IsFault t (Rule refusal) = IsShort t.first × (trace_of t.trace ≡ Err (Rule refusal))

@@ -61,7 +61,7 @@ pub record MakesCall (trace : Recording) (script : List Asked) (at : ℕ) (log :
   pub reply : accepted ≡ is_ok (answer_of trace log asked.0 asked.1)
   pub logged : after ≡ log_after trace log asked.0 asked.1
 
--- The line goes after the bytes that were kept before. The writer has taken a beginning of these bytes, and the rest
+-- The line comes after the bytes that were kept before. The writer has taken a beginning of these bytes, and the rest
 -- is kept.
 abbrev pub HandsOn : Option (List ℕ) → Option (List ℕ) → List ℕ → List ℕ → List ℕ → Type 0
 HandsOn old new kept kept_now line = (out : List ℕ) × Appends old new out × (out ++ kept_now ≡ kept ++ line)

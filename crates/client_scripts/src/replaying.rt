@@ -23,7 +23,7 @@ use script_language::{GivenCall, PlainCall, Script, read_script};
 use std::alloc::Global;
 use std::sync::Arc;
 
-/// How many bytes of output are kept before they are written.
+/// How many bytes of output are collected before they are written.
 const FULL: usize = 65_536;
 
 /// Makes a call and appends the line of its answer. Returns whether the answer is a reply. If the call shows a
@@ -134,7 +134,7 @@ fn write_if_full<K: Sink>(writer: &mut K, kept: &mut Vec<u8>) -> Result<(), Repl
 }
 
 /// Makes the calls of a script on a bench with an empty log, and writes a line for each answer. `kept` has the bytes
-/// that are not yet written.
+/// that are not written yet.
 fn make_calls<K: Sink>(
     bench: &mut Bench,
     script: &Script,

@@ -13,7 +13,7 @@ use std::marker::Model;
 #[derive(Clone, Copy, PartialEq, Eq, Debug)]
 pub struct Failed;
 
-/// A reader. `rest` is the bytes that it will still give, if its type shows them. `has_failed` is whether a call has
+/// A reader. `rest` is the bytes that are left to read, if its type shows them. `has_failed` is whether a call has
 /// failed.
 pub trait Source {
     ghost use Rattle.std.specs.Prelude.{Bool, List, ℕ, Option};
@@ -96,7 +96,7 @@ impl<R: io::Read> Source for FromRead<R> {
     }
 }
 
-/// How many bytes one read asks for.
+/// The most bytes that one read may return.
 const PIECE: usize = 65_536;
 
 /// Reads all bytes of the source, using `piece` as the buffer.
