@@ -1,5 +1,5 @@
-//! A caller that knows of a bench what its public contracts say, and nothing else: for lists of calls of any clients it has the
-//! headline.
+//! A caller that uses only the public contracts of a bench. For lists of calls of any clients, these contracts give it
+//! the laws of `inverse_log`.
 
 mod driving;
 

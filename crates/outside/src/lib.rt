@@ -1,4 +1,4 @@
-//! Callers that know of the crates below what their public contracts say, and nothing else.
+//! Callers that use only the public contracts of the crates below.
 #![tactic(auto)]
 
 pub mod headline;

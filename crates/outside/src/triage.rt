@@ -1,5 +1,5 @@
-//! A caller that knows of triage what its public contracts say, and nothing else: from them it has that each race has a
-//! schedule, and that two locations which are apart are never shown.
+//! A caller that uses only the public contracts of triage. From them it concludes that each race has a schedule, and
+//! that no schedule shows two locations that are apart.
 
 mod deciding;
 

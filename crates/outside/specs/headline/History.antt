@@ -11,7 +11,7 @@ use Rattle.outside.specs.declared.headline.driving.Asked.{Asked}
 abbrev pub IsClient : Asked → Type 0
 IsClient a = (1 ≤ a.client) × (a.client ≤ client_limit)
 
--- from L the calls lead to M, each answered as is promised
+-- from L the calls lead to M, each answered as its contract promises
 abbrev pub Follows : Recording → List Entry → List Asked → List Entry → Type 0
 Follows T L [] M = L ≡ M
 Follows T L (a ∷ A) M = (r : Result Reply Refusal) × (N : List Entry) × Called T L a.client a.call r N × Follows T N A M

@@ -1,4 +1,4 @@
--- What the verdicts of triage mean, said without places and counts. `r` is the recording of a trace, `T` its events.
+-- What the verdicts of triage mean, without places and counts. `r` is the recording of a trace, `T` its events.
 use Rattle.std.specs.Prelude.{◌≡◌, ◌⊎◌, ℕ, ◌<◌, List, Contains, length, slice_get}
 use Rattle.rapid_text.specs.Recording.{Recording}
 use Rattle.rapid_text.specs.declared.event.Event.{Event}
@@ -9,7 +9,7 @@ use Rattle.explain_report.specs.declared.verdict.How.{How}
 use Rattle.race_triage.specs.declared.verdicts.Outcome.TheVariants.{Race, Apart}
 use Rattle.race_triage.specs.declared.verdicts.Verdict.{Verdict}
 
--- the two events have one location
+-- the two events have the same location
 abbrev pub IsAtLocationOf : Recording → ℕ → ℕ → Type 0
 IsAtLocationOf r a b = slice_get r.locations a ≡ slice_get r.locations b
 

@@ -13,10 +13,10 @@ use inverse_log::headline::{rows_are_the_fold, undo_directly_restores};
 use inverse_log::{Bench, Call, Refusal, Reply};
 use moves::Command;
 
-/// A call and who makes it.
+/// A call and its client.
 #[derive(Drop)]
 pub struct Asked {
-    /// Who asks.
+    /// The client's number, 1 to 32.
     pub client: u32,
     /// The call.
     pub call: Call,
@@ -44,9 +44,9 @@ pub fn make_all(bench: &mut Bench, asked: &[Asked])
 pub enum Outcome {
     /// The command was refused.
     Refused,
-    /// It was applied and not taken back.
+    /// The command was applied and not taken back.
     Stays,
-    /// It was applied and taken back.
+    /// The command was applied and taken back.
     Restored,
 }
 
@@ -57,7 +57,7 @@ pub fn do_and_undo(bench: &mut Bench, client: u32, command: Command) -> Outcome
     requires room { length bench.old.log + 1 < entry_limit }
     ensures trace { bench.new.trace ≡ bench.old.trace }
     ensures refused { result ≡ Outcome.Refused → bench.new ≡ bench.old }
-    // the rows are those before, whatever rows one finds to be those of the two logs
+    // any rows of the log after both are those of the log before
     ensures restored { result ≡ Outcome.Restored → (W V : Rows)
         → IsFoldOfLive bench.old.trace bench.old.log W → IsFoldOfLive bench.new.trace bench.new.log V → W ≡ V }
     ensures stays { result ≡ Outcome.Stays → bench.new.log ≡ bench.old.log ++ Did client command ∷ [] }

@@ -8,8 +8,8 @@ use race_triage::{Effort, MAX_TRIES, Silent, TriageRefusal, Verdicts, triage};
 use std::alloc::Global;
 use std::thread::Threads;
 
-/// A verdict for each pair of locations with conflicting accesses. It fails if there are more than 1,048,576 such
-/// pairs of locations, or if memory is refused.
+/// A verdict for each pair of locations with conflicting accesses. Fails if there are more than 1,048,576 such pairs of
+/// locations, or if memory runs out.
 pub fn decide<R: Threads + Sync>(
     rt: &R,
     alloc: Global,
