@@ -23,14 +23,14 @@ kept_said name text k = record {
   earlier = k.earlier;
 }
 
--- The kept row describes the first line of rest, and behind is the text after that line.
+-- The kept row describes the first line of `rest`, and `behind` is the text after that line.
 pub record IsRowOn (text rest behind : List ℕ) (k : KeptRow) : Type 0 where
   pub line : List ℕ
   pub cut : rest ≡ line ++ 10 ∷ behind
   pub one : HasNoFeed line
   pub said : (name : List ℕ) → kept_said name text k ≡ said_in name line
 
--- The kept rows, and then the rows in rest, are the rows of the text.
+-- The kept rows, and then the rows in `rest`, are the rows of the text.
 abbrev pub IsKeeping : List ℕ → List ℕ → List KeptRow → Type 0
 IsKeeping text rest ks =
     (name : List ℕ) → map (kept_said name text) ks ++ map (said_in name) (lines_of rest) ≡ map (said_in name) (drop 1 (lines_of text))

@@ -8,7 +8,7 @@ abbrev pub AreAlike : List (List ℕ × List ℕ) → List (List ℕ × List ℕ
 AreAlike xs ys = (q s t : List ℕ) → told_in xs q ≡ Some s → told_in ys q ≡ Some t → s ≡ t
 
 pub record MergingIsAUnion : Type 0 where
-  -- a name has its text in xs, or else its text in ys
+  -- a name has its text in xs, or otherwise its text in ys
   pub each : (xs ys : List (List ℕ × List ℕ)) (q : List ℕ) → told_in (xs ++ ys) q ≡ joined (told_in xs q) (told_in ys q)
   pub commutes : (xs ys : List (List ℕ × List ℕ)) → AreAlike xs ys → (q : List ℕ) → told_in (xs ++ ys) q ≡ told_in (ys ++ xs) q
   pub associates : (xs ys zs : List (List ℕ × List ℕ)) (q : List ℕ) → told_in ((xs ++ ys) ++ zs) q ≡ told_in (xs ++ (ys ++ zs)) q

@@ -1,5 +1,4 @@
--- The lines of a text as JSON values, and the line at which a text stops to be that. All notions here are this
--- project's own.
+-- The lines of a text as JSON values, and the first line that is none. All notions here are this project's own.
 use Rattle.std.specs.Prelude.{◌≡◌, ◌≢◌, ◌≤◌, ◌<◌, ◌⊎◌, ℕ, List, [], ◌∷◌, ◌++◌, length, cond, nat_eq, Some, None, IsUtf8, slice_index, ⊤}
 use Rattle.serde_json.specs.Data.{Data}
 use Rattle.serde_json.specs.Read.{read}
@@ -47,7 +46,7 @@ IsUnread text Version = ⊥
 IsUnread text (Clash file) = ⊥
 IsUnread text OutOfMemory = ⊤
 
--- The first line of the text is this value, and behind is the text after it.
+-- The first line of the text is this value, and `behind` is the text after that line.
 pub record IsReadOn (text behind : List ℕ) (d : Data) : Type 0 where
   pub bytes : List ℕ
   pub cut : text ≡ bytes ++ 10 ∷ behind

@@ -43,7 +43,7 @@ pub(crate) fn run_counts(cell: Cell<'_>, cells: &[Cell<'_>], from: usize) -> Cou
     }
 }
 
-/// 1 if true, else 0.
+/// 1 if true, otherwise 0.
 fn one_if(is: bool) -> usize
     ensures { result ≡ one_if is }
 {

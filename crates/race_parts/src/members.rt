@@ -63,7 +63,7 @@ pub(crate) fn is_kind(value: &Value, word: &str) -> bool
     text_of(value, "kind") == word.as_bytes()
 }
 
-/// Returns the access with this index, 0 or 1, in the member `accesses`; None if there is none.
+/// Returns the access with this index, 0 or 1, in the member `accesses`. Returns None if there is no such access.
 pub fn access_in(value: &Value, place: usize) -> Option<&Value>
     ensures { option_map (λ found. view found.now) result ≡ access_in place (view value.now) }
 {
