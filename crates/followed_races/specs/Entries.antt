@@ -1,14 +1,15 @@
--- What a line of `record/confirm` says of a race, by the value that the line is as JSON. All notions here are this project's own.
+-- What a line of `record/confirm` reports about a race, from the JSON value of the line. All notions here are this
+-- project's own.
 use Rattle.std.specs.Prelude.{◌≡◌, ℕ, Bool, ◌&&◌, ◌||◌, List, [], Option, is_some, option_and_then, unwrap_or, codes, bytes_eq}
 use Rattle.serde_json.specs.Data.{Data}
 use Rattle.serde_json.specs.Find.{as_bool, as_number, as_str, as_u64, at, get}
 use Rattle.followed_races.specs.declared.entries.Followed.{Followed}
 
--- what stands at a place of a member's list
+-- the item at this index of a member's list
 abbrev pub item_in : List ℕ → ℕ → Data → Option Data
 item_in name place d = option_and_then (at place) (get name d)
 
--- a number, a text, and whether something is true: nothing if there is none
+-- a number, a text, or a truth value; None if there is none
 abbrev pub find_number : List ℕ → ℕ → Data → Option ℕ
 find_number name place d = option_and_then as_u64 (option_and_then as_number (item_in name place d))
 
@@ -21,7 +22,7 @@ find_text name d = option_and_then as_str (get name d)
 abbrev pub said_flag : List ℕ → Data → Option Bool
 said_flag name d = option_and_then as_bool (get name d)
 
--- the same, empty where there is none
+-- the same; 0 or empty if there is none
 abbrev pub said_number : List ℕ → ℕ → Data → ℕ
 said_number name place d = unwrap_or (find_number name place d) 0
 
@@ -44,7 +45,7 @@ is_entry d =
     && is_some (find_text_at (codes "locations") 1 d)
     && is_ended (said_text (codes "ended") d)
 
--- The entry has what the value says.
+-- The entry has the values of the line.
 pub record IsSaid (d : Data) (f : Followed) : Type 0 where
   pub first_event : f.first_event ≡ said_number (codes "events") 0 d
   pub second_event : f.second_event ≡ said_number (codes "events") 1 d

@@ -1,4 +1,4 @@
-//! What a line says of a race that was followed.
+//! An entry: what a line of `record/confirm` reports about a race.
 ghost use Rattle.std.specs.Prelude.{◌≡◌, IfOk};
 ghost use Rattle.serde_json.specs.View.{view};
 ghost use Rattle.followed_races.specs.Entries.{IsSaid};
@@ -8,35 +8,35 @@ use rapid_text::OutOfMemory;
 use serde_json::Value;
 use std::alloc::Global;
 
-/// What a line says of a race that was followed on the real program, once with each access first. Texts and numbers are those of the line; what the line
-/// does not have is empty.
+/// What a line reports about a race that was followed on the real program, once with each access first. Texts and
+/// numbers are those of the line. If a text is missing, it is empty.
 #[derive(Drop)]
 pub struct Followed {
-    /// The event of the access A, in the trace that was followed.
+    /// The event number of the access A, in the trace that was followed.
     pub first_event: u64,
-    /// That of the access B.
+    /// The event number of the access B.
     pub second_event: u64,
     /// The location of A.
     pub first_location: Vec<u8>,
     /// The location of B.
     pub second_location: Vec<u8>,
-    /// `stands`, or `departed`.
+    /// `stands` or `departed`.
     pub ended: Vec<u8>,
-    /// What `record/follow` printed of it.
+    /// What `record/follow` printed about the race.
     pub text: Vec<u8>,
-    /// Whether the two accesses were on the same memory.
+    /// Whether the two accesses were on the same memory; None if the line has no such member.
     pub same_memory: Option<bool>,
     /// How the program ended with A first.
     pub first: Vec<u8>,
-    /// How it ended with B first.
+    /// How the program ended with B first.
     pub second: Vec<u8>,
-    /// Whether the order matters; none if that is not known.
+    /// Whether the order matters; None if that is not known.
     pub matters: Option<bool>,
-    /// Why it is thought so.
+    /// Why `record/confirm` says so.
     pub why: Vec<u8>,
 }
 
-/// What the value of a line says.
+/// The entry for the JSON value of a line.
 pub(crate) fn entry_of(alloc: Global, value: &Value) -> Result<Followed, OutOfMemory>
     ensures { IfOk result (IsSaid (view value.now)) }
 {
@@ -55,7 +55,7 @@ pub(crate) fn entry_of(alloc: Global, value: &Value) -> Result<Followed, OutOfMe
     })
 }
 
-/// The same bytes.
+/// A copy of the bytes.
 fn copied(alloc: Global, bytes: &[u8]) -> Result<Vec<u8>, OutOfMemory>
     ensures { IfOk result (λ copy. copy.items ≡ bytes.now) }
 {

@@ -1,4 +1,5 @@
-//! How races came out that were followed on the real program: the lines that `record/confirm` writes, and which of them is about a race.
+//! How races ended that were followed on the real program: the lines that `record/confirm` writes, and which line is
+//! about a race.
 #![tactic(auto)]
 
 mod choosing;

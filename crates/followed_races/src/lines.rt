@@ -15,15 +15,15 @@ use std::alloc::Global;
 /// The most lines of a text. Each is a race that was followed, which takes two runs of the program.
 pub const MAX_LINES: usize = 16_384;
 
-/// The most bytes of a line, without its end.
+/// The most bytes of a line, without its line feed.
 pub const MAX_LINE: usize = 65_536;
 
 /// Why a text is refused.
 #[derive(Clone, Copy, PartialEq, Eq, Debug)]
 pub enum FollowedRefusal {
-    /// This line, the first being 1, is none that `record/confirm` writes, or is one too many.
+    /// The line with this number, counted from 1, is none that `record/confirm` writes, or is one too many.
     Line(u64),
-    /// There was no memory.
+    /// Out of memory.
     OutOfMemory,
 }
 
@@ -38,7 +38,8 @@ impl From<OutOfMemory> for FollowedRefusal {
     }
 }
 
-/// The entries of a text that `record/confirm` wrote, one for each line.
+/// Returns the entries of a text that `record/confirm` wrote, one for each line. Fails at the first other line, or if
+/// memory runs out.
 pub fn followed_in(alloc: Global, text: &[u8]) -> Result<Vec<Followed>, FollowedRefusal>
     ensures ok { IfOk result (λ found. AreLines text.now found.items) }
     ensures few { IfOk result (λ found. length found.items ≤ MAX_LINES) }
@@ -65,7 +66,7 @@ fn read_lines(alloc: Global, found: &mut Vec<Followed>, text: &[u8]) -> Result<(
     Ok(())
 }
 
-/// Reads the first line, and answers what stands after it.
+/// Reads the first line, and returns the text after it.
 fn read_on<'a>(
     alloc: Global,
     found: &mut Vec<Followed>,
@@ -90,7 +91,7 @@ fn read_on<'a>(
     Ok(behind)
 }
 
-/// Keeps the entry.
+/// Adds the entry.
 fn keep(found: &mut Vec<Followed>, entry: Followed) -> Result<(), OutOfMemory>
     ensures ok { OnOk result (found.new.items ≡ found.old.items ++ entry ∷ []) }
     ensures err { OnErr result (found.new.items ≡ found.old.items) }
@@ -99,7 +100,7 @@ fn keep(found: &mut Vec<Followed>, entry: Followed) -> Result<(), OutOfMemory>
     Ok(())
 }
 
-/// What stands before the first line feed, and what after it.
+/// The text before the first line feed and the text after it. Returns None if there is no line feed.
 fn cut_line(text: &[u8]) -> Option<(&[u8], &[u8])>
     ensures some { IfSome result (λ parts. (text.now ≡ parts.0.now ++ 10 ∷ parts.1.now) × HasNoFeed parts.0.now) }
     ensures none { result ≡ None → HasNoFeed text.now }
@@ -108,7 +109,7 @@ fn cut_line(text: &[u8]) -> Option<(&[u8], &[u8])>
     Some((&text[..at], &text[at + 1..]))
 }
 
-/// What a line says, if it is one of those lines.
+/// The entry of a line. Returns None if `record/confirm` writes no such line.
 fn told_in(alloc: Global, line: &[u8]) -> Result<Option<Followed>, OutOfMemory>
     ensures some { IfOk result (λ told. IfSome told (Tells line.now)) }
     ensures none { IfOk result (λ told. told ≡ None → ¬ ((d : Data) × IsEntryOf line.now d)) }
@@ -125,7 +126,7 @@ fn told_in(alloc: Global, line: &[u8]) -> Result<Option<Followed>, OutOfMemory>
     Ok(Some(entry_of(alloc, &value)?))
 }
 
-/// The value that a text is as JSON, if it is one.
+/// Parses a text as JSON. Returns None if it is not JSON.
 fn value_of(alloc: Global, text: &[u8]) -> Result<Option<Value>, OutOfMemory>
     ensures some { IfOk result (λ found. IfSome found (λ value. IsUtf8 text.now × (read text.now ≡ Some (view value)))) }
     ensures none { IfOk result (λ found. found ≡ None → IsUtf8 text.now → read text.now ≡ None) }
