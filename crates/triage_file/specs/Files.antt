@@ -1,4 +1,5 @@
--- Which text is a triage file, and why another one is refused. All notions here are this project's own, but for TOML.
+-- Which text is a triage file, and why another text is refused. All notions here are this project's own, except those
+-- of TOML.
 use Rattle.std.specs.Prelude.{◌≡◌, ◌≤◌, ℕ, ◌+◌, ◌&&◌, Bool, true, false, List, [], ◌∷◌, length, position, Option, Some, None, is_some, option_and_then, codes, cond, bytes_eq, IsUtf8, ⊤}
 use Rattle.std.specs.List.{list_all}
 use Rattle.toml.specs.Data.{Data, Members, as_array, get_member}
@@ -24,11 +25,11 @@ is_list_by (Some d) = is_some (as_array d)
 abbrev pub is_race_key : List ℕ → Bool
 is_race_key key = bytes_eq key race_key
 
--- at its top a file has nothing but an array `race`, if anything
+-- at its top a file has at most one key, an array `race`
 abbrev pub is_top : Members → Bool
 is_top ms = list_all is_race_key (keys_in ms) && is_list_by (get_member race_key ms)
 
--- the first key that is not `race`, or else `race`
+-- the first key that is not `race`; `race` if there is none
 abbrev pub other_key : List (List ℕ) → List ℕ
 other_key [] = race_key
 other_key (key ∷ keys) = cond (is_race_key key) (other_key keys) key
@@ -37,7 +38,7 @@ abbrev pub or_mistaken : ℕ → Option Mistake → Option (ℕ × Mistake) → 
 or_mistaken n None later = later
 or_mistaken n (Some mistake) later = Some (n, mistake)
 
--- the first entry with a mistake, and its mistake; the first of these entries has number n
+-- the first entry with a mistake, and its mistake; the first entry of the list has number n
 abbrev pub mistaken_from : ℕ → List Data → Option (ℕ × Mistake)
 mistaken_from n [] = None
 mistaken_from n (d ∷ ds) = or_mistaken n (mistake_of d) (mistaken_from (n + 1) ds)
@@ -46,7 +47,7 @@ mistaken_from n (d ∷ ds) = or_mistaken n (mistake_of d) (mistaken_from (n + 1)
 abbrev pub first_expired : ℕ → List Data → Option ℕ
 first_expired today ds = position (is_expired today) ds
 
--- The text is this document.
+-- The text is the TOML of this document.
 pub record IsDocument (text : List ℕ) (ms : Members) : Type 0 where
   pub utf8 : IsUtf8 text
   pub value : parse_document text ≡ Some ms
@@ -58,8 +59,8 @@ pub record IsTaken (text : List ℕ) (today : ℕ) (ms : Members) : Type 0 where
   pub right : mistaken_from 0 (races_in ms) ≡ None
   pub current : first_expired today (races_in ms) ≡ None
 
--- Where a mistake about a key is reported: at the line of entry k that begins with the key; at the entry's header if no line does; at the
--- beginning of the text if the entry has no header.
+-- Where a mistake about a key of entry k is reported: at the entry's first line with the key. If the entry has no such
+-- line, at its header. If it has no header, at the beginning of the text.
 pub data IsKeyPlace (text : List ℕ) (k : ℕ) (key : List ℕ) : ℕ → Type 0 where
   at_key : (start n : ℕ) → IsHeader text k start → IsKeySpot key text start n → IsKeyPlace text k key n
   at_header : (start : ℕ) → IsHeader text k start → HasNoKey key text start → IsKeyPlace text k key start
@@ -68,7 +69,7 @@ pub data IsKeyPlace (text : List ℕ) (k : ℕ) (key : List ℕ) : ℕ → Type 
 abbrev pub IsKeyReport : List ℕ → ℕ → List ℕ → Spot → Type 0
 IsKeyReport text k key spot = (n : ℕ) × IsKeyPlace text k key n × IsSpot text n spot
 
--- A document whose entry k has this mistake, and none before it has one.
+-- Entry k of the document has this mistake, and no earlier entry has one.
 pub record IsMistaken (text : List ℕ) (spot : Spot) (number : ℕ) (mistake : Mistake) : Type 0 where
   pub ms : Members
   pub k : ℕ
@@ -78,19 +79,19 @@ pub record IsMistaken (text : List ℕ) (spot : Spot) (number : ℕ) (mistake : 
   pub number_is : number ≡ k + 1
   pub place : IsKeyReport text k (key_of mistake) spot
 
--- Of these entries the one with this number, from 1, has expired, and none before it.
+-- The entry with this number, counted from 1, has expired, and no earlier entry has.
 pub record IsOutdated (text : List ℕ) (today : ℕ) (ds : List Data) (spot : Spot) (number : ℕ) : Type 0 where
   pub k : ℕ
   pub first : first_expired today ds ≡ Some k
   pub number_is : number ≡ k + 1
   pub place : IsKeyReport text k (codes "expires") spot
 
--- a refusal of entries that says so
+-- the refusal is that of an expired entry
 abbrev pub IsOver : List ℕ → ℕ → List Data → Refusal → Type 0
 IsOver text today ds (Expired spot number) = IsOutdated text today ds spot number
 IsOver text today ds refusal = ⊥
 
--- why a text is refused
+-- the reason why a text is refused
 abbrev pub IsRefusal : List ℕ → ℕ → Refusal → Type 0
 IsRefusal text today (Toml spot) = (IsUtf8 text → parse_document text ≡ None) × ((n : ℕ) × (n ≤ length text) × IsSpot text n spot)
 IsRefusal text today (Top spot) =

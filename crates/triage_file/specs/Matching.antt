@@ -1,5 +1,5 @@
--- Which entry of a triage file is about a race. `r` is the trace's recording, `numbers` has the number of each event's location. All notions
--- here are this project's own.
+-- Which entry of a triage file is about a race. `r` is the trace's recording, and `numbers` has the number of each
+-- event's location. All notions here are this project's own.
 use Rattle.std.specs.Prelude.{ℕ, ℤ, pos, ◌==◌, ◌&&◌, ◌||◌, nat_lt, not, Bool, true, false, cond, List, [], length, slice_get, slice_index, codes, decimal, bytes_eq, unsigned_abs, int_le, Option, Some, None, unwrap_or}
 use Rattle.std.specs.List.{after_last, before_last, list_all, list_any}
 use Rattle.rapid_text.specs.Canonical.{name_at}
@@ -19,7 +19,7 @@ use Rattle.toml.specs.View.{view}
 use Rattle.toml.specs.declared.value.Value.{Value}
 use Rattle.triage_file.specs.Entries.{has, hides, list_of, number_at, said_at}
 
--- the path and the line of a place `PATH:LINE`; another place is a path without a line
+-- the path and the line of a place `PATH:LINE`; a place of another form is a path without a line
 abbrev pub path_of : List ℕ → List ℕ
 path_of place = cond (is_line place) (before_last is_colon place) place
 
@@ -34,16 +34,16 @@ function_by (Some calls) = call_function (before_arrow calls)
 abbrev pub function_of : List ℕ → List ℕ
 function_of location = function_by (behind_arrow location)
 
--- the number in decimal digits is the text
+-- the text is the number in decimal digits
 abbrev pub is_number : ℤ → List ℕ → Bool
 is_number z text = int_le (pos 0) z && bytes_eq (decimal (unsigned_abs z)) text
 
--- The number is that of the line. No number and 0 are those of a place without a line.
+-- The number is that of the line. No number, or 0, fits a place without a line.
 abbrev pub is_line_by : Option ℤ → List ℕ → Bool
 is_line_by None line = length line == 0
 is_line_by (Some z) line = is_number z line || (is_number z (codes "0") && length line == 0)
 
--- the entry names a function of its access n, and variables
+-- the entry names a function for its access n, and the entry has variables
 abbrev pub has_function : Data → ℕ → Bool
 has_function d n = nat_lt 0 (length (said_at (codes "functions") n d))
 
@@ -54,17 +54,17 @@ has_variables d = has (codes "variables") d
 abbrev pub fits_function : Data → ℕ → List ℕ → Bool
 fits_function d n location = not (has_function d n) || bytes_eq (said_at (codes "functions") n d) (function_of location)
 
--- the line fits, if the entry names no function or no variables
+-- the line fits; it need not if the entry names a function for this access, and variables
 abbrev pub fits_line : Data → ℕ → List ℕ → Bool
 fits_line d n location =
     (has_function d n && has_variables d) || is_line_by (number_at (codes "lines") n d) (line_of (before_arrow location))
 
--- an access at this location is the entry's access n, but for its variable
+-- an access at this location is the entry's access n, apart from its variable
 abbrev pub is_side : Data → ℕ → List ℕ → Bool
 is_side d n location =
     bytes_eq (said_at (codes "paths") n d) (path_of (before_arrow location)) && (fits_function d n location && fits_line d n location)
 
--- two accesses are those of the entry, in its order or in the other
+-- two accesses are those of the entry, in either order
 abbrev pub are_sides : Data → List ℕ → List ℕ → Bool
 are_sides d one other = (is_side d 0 one && is_side d 1 other) || (is_side d 0 other && is_side d 1 one)
 
@@ -77,7 +77,7 @@ abbrev pub use_by : Recording → Option Event → Option (List ℕ)
 use_by r None = None
 use_by r (Some v) = name_by_op r v.op
 
--- the variable that event e accesses; nothing if it is no access
+-- the variable that event e accesses; None if it is not an access
 abbrev pub use_at : Recording → ℕ → Option (List ℕ)
 use_at r e = use_by r (slice_get r.events e)
 
@@ -93,19 +93,20 @@ abbrev pub is_named_by : Data → Option (List ℕ) → Bool
 is_named_by d None = true
 is_named_by d (Some name) = is_named d name
 
--- event e is at place p
+-- event e is at the location with number p
 abbrev pub is_at : List ℕ → ℕ → ℕ → Bool
 is_at numbers p e = nat_lt e (length numbers) && slice_index numbers e == p
 
--- event e is not at place p, or is no access, or accesses a variable that the entry names
+-- event e is not at location p, or is not an access, or accesses a variable that the entry names
 abbrev pub is_free : Recording → List ℕ → Data → ℕ → ℕ → Bool
 is_free r numbers d p e = not (is_at numbers p e) || is_named_by d (use_at r e)
 
--- every access at place p is one of a variable that the entry names
+-- the entry names the variable of every access at location p
 abbrev pub are_named : Recording → List ℕ → Data → ℕ → Bool
 are_named r numbers d p = list_all (is_free r numbers d p) (before (length r.events))
 
--- The entry's variables fit two places: at one of them, no other variable is accessed. So every race of the two is on one of them.
+-- The entry has no variables, or it names the variable of every access at one of the two locations. Then it names the
+-- variable of each race on the two.
 abbrev pub fits_variables : Recording → List ℕ → Data → ℕ × ℕ → Bool
 fits_variables r numbers d places =
     not (has_variables d) || (are_named r numbers d places.0 || are_named r numbers d places.1)
@@ -131,10 +132,10 @@ leaves_out r numbers v d = hides d && is_match r numbers d v
 abbrev pub is_triaged : Recording → List ℕ → List Value → Verdict → Bool
 is_triaged r numbers es v = is_race v && list_any (λ e. leaves_out r numbers v (view e)) es
 
--- the places of a verdict are those of such a race
+-- an entry leaves out a race on the locations of the verdict
 abbrev pub is_left_out : Recording → List ℕ → List Value → List Verdict → Verdict → Bool
 is_left_out r numbers es vs v = list_any (λ w. is_triaged r numbers es w && same_places v.row.places w.row.places) vs
 
--- the entry is about a race
+-- the entry is about one of the races
 abbrev pub is_met : Recording → List ℕ → List Verdict → Data → Bool
 is_met r numbers vs d = list_any (λ v. is_race v && is_match r numbers d v) vs

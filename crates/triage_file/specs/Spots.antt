@@ -1,4 +1,4 @@
--- Places in a text: lines and columns, both counted from 1. All notions here are this project's own.
+-- Spots in a text: lines and columns, both counted from 1. All notions here are this project's own.
 use Rattle.std.specs.Prelude.{◌≡◌, ◌<◌, ◌≤◌, ◌⊎◌, ℕ, zero, suc, ◌+◌, ◌-◌, ◌==◌, ◌&&◌, ◌||◌, nat_eq, nat_le, nat_lt, not, Bool, true, false, cond, List, take, drop, length, count_by, slice_index, codes}
 use Rattle.std.specs.List.{after_last, starts_with}
 use Rattle.triage_file.specs.declared.spots.Spot.{Spot}
@@ -6,7 +6,7 @@ use Rattle.triage_file.specs.declared.spots.Spot.{Spot}
 abbrev pub is_feed : ℕ → Bool
 is_feed b = b == 10
 
--- the byte begins a character, as UTF-8 writes it
+-- the byte begins a character in UTF-8
 abbrev pub is_first_byte : ℕ → Bool
 is_first_byte b = nat_lt b 128 || nat_le 192 b
 
@@ -42,17 +42,17 @@ abbrev pub headers_before : List ℕ → ℕ → ℕ
 headers_before text zero = 0
 headers_before text (suc n) = headers_before text n + cond (is_header_at text n) 1 0
 
--- The header of the entry with number k, from 0, begins at n.
+-- The header of the entry with number k, counted from 0, begins at n.
 pub record IsHeader (text : List ℕ) (k n : ℕ) : Type 0 where
   pub within : n < length text
   pub header : is_header_at text n ≡ true
   pub number : headers_before text n ≡ k
 
--- no line after the first, up to n, begins with this key or a header
+-- no line that begins after `start` and before n begins with this key, or is a header
 abbrev pub IsBarren : List ℕ → List ℕ → ℕ → ℕ → Type 0
 IsBarren key text start n = (m : ℕ) → start < m → m < n → (is_key_at key text m ≡ false) × (is_header_at text m ≡ false)
 
--- The line of an entry, whose header begins at `start`, that begins with this key, begins at n.
+-- The header of an entry begins at `start`, and the entry's first line with this key begins at n.
 pub record IsKeySpot (key text : List ℕ) (start n : ℕ) : Type 0 where
   pub behind : start < n
   pub within : n < length text
@@ -70,7 +70,7 @@ pub record IsSpot (text : List ℕ) (n : ℕ) (spot : Spot) : Type 0 where
   pub line : spot.line ≡ line_at text n
   pub column : spot.column ≡ column_at text n
 
--- where the first word of a line begins that begins at n: behind one or two brackets, if they are there
+-- the first word of the line that begins at n: after one or two brackets, if there are any
 abbrev pub word_start : List ℕ → ℕ → ℕ
 word_start text n = cond (slice_index text n == 91) (cond (slice_index text (n + 1) == 91) (n + 2) (n + 1)) n
 

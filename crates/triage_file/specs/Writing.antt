@@ -1,5 +1,5 @@
--- A triage file that has an entry for each race. `r` is the trace's recording, `numbers` has the number of each event's location. All notions
--- here are this project's own.
+-- A triage file that has an entry for each race. `r` is the trace's recording, and `numbers` has the number of each
+-- event's location. All notions here are this project's own.
 use Rattle.std.specs.Prelude.{◌≡◌, ℕ, ◌==◌, ◌&&◌, ◌||◌, nat_lt, cond, not, Bool, true, false, List, [], ◌∷◌, ◌++◌, flat_map, length, slice_index, codes, Option, Some, None, bytes_eq}
 use Rattle.std.specs.List.{concat, list_all}
 use Rattle.std.specs.Str.Lossy.{utf8_lossy}
@@ -12,11 +12,11 @@ use Rattle.explain_report.specs.places.Places.{before_arrow}
 use Rattle.toml_writer.specs.Text.{string_text}
 use Rattle.triage_file.specs.Matching.{function_of, is_at, is_race, line_of, path_of, use_at}
 
--- bytes of a trace as a string of TOML: what is no UTF-8 becomes U+FFFD
+-- bytes of a trace as a TOML string; bytes that are not UTF-8 become U+FFFD
 abbrev pub text_of : List ℕ → List ℕ
 text_of bytes = string_text (utf8_lossy bytes)
 
--- a key with an array of two
+-- a key with an array of two items
 abbrev pub two_of : List ℕ → List ℕ → List ℕ → List ℕ
 two_of key one other = concat (key ∷ codes " = [" ∷ one ∷ codes ", " ∷ other ∷ codes "]\n" ∷ [])
 
@@ -29,7 +29,7 @@ path_text r e = text_of (path_of (place_at r e))
 abbrev pub function_text : Recording → ℕ → List ℕ
 function_text r e = text_of (function_of (location_at r e))
 
--- the digits are a number as TOML writes it, below 10 ^ 18
+-- the digits are a positive number as TOML writes it, below 10^18
 abbrev pub is_plain : List ℕ → Bool
 is_plain digits = nat_lt 0 (length digits) && (nat_lt (length digits) 19 && not (slice_index digits 0 == 48))
 
@@ -37,16 +37,16 @@ is_plain digits = nat_lt 0 (length digits) && (nat_lt (length digits) 19 && not 
 abbrev pub line_text : Recording → ℕ → List ℕ
 line_text r e = cond (is_plain (line_of (place_at r e))) (line_of (place_at r e)) (codes "0")
 
--- the variable is the one of event d, or there is none
+-- the other variable is this one, or there is none
 abbrev pub is_same_by : List ℕ → Option (List ℕ) → Bool
 is_same_by name None = true
 is_same_by name (Some other) = bytes_eq other name
 
--- event e is not at place p, or accesses no variable but this
+-- event e is not at location p, or accesses no variable other than this one
 abbrev pub is_only : Recording → List ℕ → List ℕ → ℕ → ℕ → Bool
 is_only r numbers name p e = not (is_at numbers p e) || is_same_by name (use_at r e)
 
--- no variable but this is accessed at place p
+-- no access at location p is to another variable
 abbrev pub is_alone : Recording → List ℕ → List ℕ → ℕ → Bool
 is_alone r numbers name p = list_all (is_only r numbers name p) (before (length r.events))
 
@@ -60,7 +60,7 @@ abbrev pub variable_by : Recording → List ℕ → Verdict → Option (List ℕ
 variable_by r numbers v None = []
 variable_by r numbers v (Some name) = alone_line r numbers name v.row.places
 
--- the variable of a race, if one of its places has no other; without it the lines count
+-- the variable of a race, if one of its locations has no access to another; without it, the lines decide
 abbrev pub variable_line : Recording → List ℕ → Verdict → List ℕ
 variable_line r numbers v = variable_by r numbers v (use_at r v.first)
 

@@ -67,7 +67,8 @@ pub fn is_met(indexed: &Indexed, numbers: &[u32], verdicts: &[Verdict], entry: &
         .any(|verdict| is_about(indexed, numbers, entry, verdict))
 }
 
-/// Adds to the places whose races are known those of the races that the entries leave out. `numbers` has the number of each event's location.
+/// Adds the pairs of locations of all races that the entries leave out to the known ones. `numbers` has the number of
+/// each event's location.
 pub fn add_triaged(
     known: &mut Known,
     indexed: &Indexed,
@@ -75,7 +76,7 @@ pub fn add_triaged(
     verdicts: &[Verdict],
     entries: &[Value],
 ) -> Result<(), OutOfMemory>
-    // A verdict is known if it was, or if its places are those of a race that an entry leaves out.
+    // A verdict is known if it was known before, or if an entry leaves out a race on its locations.
     ensures { OnOk result ((v : Told) → is_known (Some known.new.keys) v
         ≡ (is_known (Some known.old.keys) v || is_left_out indexed.now numbers.now entries.now verdicts.now v)) }
 {

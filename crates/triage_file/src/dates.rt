@@ -1,4 +1,4 @@
-//! Days, each as one number: year, month and day one after another, in decimal digits.
+//! Days, each as one number: the digits of the year, the month and the day, one after another.
 ghost use Rattle.std.specs.Prelude.{◌≡◌, option_and_then};
 ghost use Rattle.toml.specs.Data.{as_datetime};
 ghost use Rattle.toml.specs.View.{view};
@@ -14,7 +14,7 @@ fn day_of(date: Date) -> u32
     u32::from(date.year) * 10_000 + u32::from(date.month) * 100 + u32::from(date.day)
 }
 
-/// The number of a date without a time.
+/// The number of a date without a time. Returns None for any other value.
 fn day_by(found: &Datetime) -> Option<u32>
     ensures { result ≡ day_by found.now }
 {
@@ -27,7 +27,7 @@ fn day_by(found: &Datetime) -> Option<u32>
     }
 }
 
-/// The number of the date that a member is, if it is a date without a time.
+/// The number of a member that is a date without a time.
 fn day_at(entry: &Value, name: &str) -> Option<u32>
     ensures { result ≡ day_at name.now (view entry.now) }
 {
@@ -37,7 +37,7 @@ fn day_at(entry: &Value, name: &str) -> Option<u32>
     }
 }
 
-/// The number of the date that a value is.
+/// The number of a value that is a date without a time.
 fn day_in(value: &Value) -> Option<u32>
     ensures { result ≡ option_and_then day_by (as_datetime (view value.now)) }
 {

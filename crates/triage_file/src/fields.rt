@@ -1,4 +1,4 @@
-//! What an entry has.
+//! The members of an entry.
 ghost use Rattle.std.specs.Prelude.{◌≡◌, codes, map, option_and_then, option_map};
 ghost use Rattle.std.specs.List.{list_all};
 ghost use Rattle.toml.specs.Data.{as_array, as_str, get};
@@ -7,7 +7,7 @@ ghost use Rattle.triage_file.specs.Entries.{are_texts, are_two_numbers, are_two_
 
 use toml::Value;
 
-/// The item at a place of a member's array.
+/// The item at this index of a member's array.
 fn item_of<'a>(entry: &'a Value, name: &str, place: usize) -> Option<&'a Value>
     ensures { option_map (λ found. view found.now) result ≡ item_of name.now place (view entry.now) }
 {
@@ -17,7 +17,7 @@ fn item_of<'a>(entry: &'a Value, name: &str, place: usize) -> Option<&'a Value>
     }
 }
 
-/// The text at a place of a member's array.
+/// The text at this index of a member's array.
 fn text_at<'a>(entry: &'a Value, name: &str, place: usize) -> Option<&'a str>
     ensures { option_map (λ text. text.now) result ≡ text_at name.now place (view entry.now) }
 {
@@ -27,7 +27,7 @@ fn text_at<'a>(entry: &'a Value, name: &str, place: usize) -> Option<&'a str>
     }
 }
 
-/// The number at a place of a member's array.
+/// The number at this index of a member's array.
 pub(crate) fn number_at(entry: &Value, name: &str, place: usize) -> Option<i64>
     ensures { result ≡ number_at name.now place (view entry.now) }
 {
@@ -37,7 +37,7 @@ pub(crate) fn number_at(entry: &Value, name: &str, place: usize) -> Option<i64>
     }
 }
 
-/// The text at a place of a member's array; empty if there is none.
+/// The text at this index of a member's array; empty if there is none.
 pub(crate) fn said_at<'a>(entry: &'a Value, name: &str, place: usize) -> &'a [u8]
     ensures { result.now ≡ said_at name.now place (view entry.now) }
 {
@@ -99,7 +99,7 @@ pub(crate) fn are_two_numbers(entry: &Value, name: &str) -> bool
         && item_of(entry, name, 2).is_none()
 }
 
-/// The items of a member that is an array; none if it is no array.
+/// The items of a member that is an array; empty if it is not an array.
 pub(crate) fn list_of<'a>(entry: &'a Value, name: &str) -> &'a [Value]
     ensures { map view result.now ≡ list_of name.now (view entry.now) }
 {
@@ -109,7 +109,7 @@ pub(crate) fn list_of<'a>(entry: &'a Value, name: &str) -> &'a [Value]
     }
 }
 
-/// The items of a value that is an array; none if it is no array.
+/// The items of a value that is an array; empty if it is not an array.
 pub(crate) fn items_of(value: &Value) -> &[Value]
     ensures { map view result.now ≡ items_by (as_array (view value.now)) }
 {
@@ -119,7 +119,7 @@ pub(crate) fn items_of(value: &Value) -> &[Value]
     }
 }
 
-/// Whether the member is an array of texts, one at least.
+/// Whether the member is an array of at least one item, and all items are texts.
 pub(crate) fn are_texts(entry: &Value, name: &str) -> bool
     ensures { result ≡ are_texts name.now (view entry.now) }
 {
@@ -133,14 +133,14 @@ fn are_all_texts(items: &[Value]) -> bool
     are_each_texts(items)
 }
 
-/// The same of each item's value.
+/// The same for the value of each item.
 fn are_each_texts(items: &[Value]) -> bool
     ensures { result ≡ list_all (λ item. is_text (view item)) items.now }
 {
     items.iter().all(|item| item.is_str())
 }
 
-/// Whether the entry's verdict is one of the four.
+/// Whether the entry's verdict is one of the four words.
 pub(crate) fn has_verdict(entry: &Value) -> bool
     ensures { result ≡ is_verdict (said_text (codes "verdict") (view entry.now)) }
 {
@@ -151,7 +151,7 @@ pub(crate) fn has_verdict(entry: &Value) -> bool
         || word == b"fixed".as_slice()
 }
 
-/// Whether the entry says that its race is to be left out. An entry of a race that was fixed does not.
+/// Whether the entry leaves its race out. An entry whose race was fixed does not.
 pub fn hides(entry: &Value) -> bool
     ensures { result ≡ hides (view entry.now) }
 {

@@ -17,22 +17,22 @@ use std::alloc::Global;
 use toml::de::Error;
 use toml::{Table, Value, table_from_slice};
 
-/// Why a text is refused.
+/// The reason why a text is refused.
 #[derive(Clone, Copy, PartialEq, Eq, Debug)]
 pub enum Refusal {
-    /// 110: it is no TOML, which shows here.
+    /// 110: the text is not TOML. The parser reports this spot.
     Toml(Spot),
-    /// 113: it has something beside an array `race`, here.
+    /// 113: the text has something other than an array `race`, at this spot.
     Top(Spot),
-    /// 111: the entry with this number, from 1, has a mistake.
+    /// 111: the entry with this number, counted from 1, has a mistake.
     Entry(Spot, u64, Mistake),
-    /// 112: the last day of the entry with this number, from 1, is over.
+    /// 112: the last day of the entry with this number, counted from 1, is over.
     Expired(Spot, u64),
-    /// There was no memory.
+    /// Out of memory.
     OutOfMemory,
 }
 
-/// Reads a triage file. An entry whose last day is before today, a number such as 20271231, is refused.
+/// Reads a triage file. Refuses an entry whose last day is before `today`, a number such as 20271231.
 pub fn read_triage(alloc: Global, text: &[u8], today: u32) -> Result<Table, Refusal>
     ensures ok { IfOk result (λ table. IsTaken text.now today (table_view table)) }
     ensures err { IfErr result (IsRefusal text.now today) }
@@ -43,7 +43,7 @@ pub fn read_triage(alloc: Global, text: &[u8], today: u32) -> Result<Table, Refu
     }
 }
 
-/// The document, if it is a triage file of today.
+/// The document, if it is a triage file none of whose entries has expired.
 fn checked(text: &[u8], table: Table, today: u32) -> Result<Table, Refusal>
     requires { IsDocument text.now (table_view table) }
     ensures ok { IfOk result (λ table. IsTaken text.now today (table_view table)) }
@@ -55,7 +55,7 @@ fn checked(text: &[u8], table: Table, today: u32) -> Result<Table, Refusal>
     }
 }
 
-/// The document that the text is.
+/// Parses a text as TOML.
 fn parsed(alloc: Global, text: &[u8]) -> Result<Table, Refusal>
     ensures ok { IfOk result (λ table. IsDocument text.now (table_view table)) }
     ensures err { IfErr result (λ refusal. (today : ℕ) → IsRefusal text.now today refusal) }
@@ -66,7 +66,7 @@ fn parsed(alloc: Global, text: &[u8]) -> Result<Table, Refusal>
     }
 }
 
-/// Why the text is no document.
+/// The refusal of a text that is not TOML.
 fn unparsed(text: &[u8], error: &Error) -> Refusal
     requires within { IsWithin text.now error.now }
     requires refused { ¬ IsMemory error.now → IsUtf8 text.now → parse_document text.now ≡ None }
@@ -78,7 +78,7 @@ fn unparsed(text: &[u8], error: &Error) -> Refusal
     }
 }
 
-/// Whether a document is a triage file of today.
+/// Checks that a document is a triage file none of whose entries has expired.
 fn check(text: &[u8], table: &Table, today: u32) -> Result<(), Refusal>
     requires { IsDocument text.now (table_view table.now) }
     ensures ok { OnOk result (IsTaken text.now today (table_view table.now)) }
@@ -98,14 +98,14 @@ fn check(text: &[u8], table: &Table, today: u32) -> Result<(), Refusal>
     }
 }
 
-/// Where the first key is that is not `race`, or else `race`.
+/// The spot of the first key that is not `race`. If there is no such key, the spot of `race`.
 fn top_spot(text: &[u8], table: &Table) -> Spot
     ensures { IsNameSpot (other_key (keys_in (table_view table.now))) text.now result }
 {
     name_spot(other_key(table), text)
 }
 
-/// The first key that is not `race`, or else `race`.
+/// The first key that is not `race`; `race` if there is none.
 fn other_key(table: &Table) -> &[u8]
     ensures { result.now ≡ other_key (keys_in (table_view table.now)) }
 {
@@ -117,7 +117,7 @@ fn other_key(table: &Table) -> &[u8]
     b"race"
 }
 
-/// A refusal if the last day of an entry is over.
+/// Refuses the entries if the last day of one is over.
 fn check_days(text: &[u8], entries: &[Value], today: u32) -> Result<(), Refusal>
     ensures ok { OnOk result (first_expired today (map view entries.now) ≡ None) }
     ensures err { IfErr result (IsOver text.now today (map view entries.now)) }
@@ -128,7 +128,7 @@ fn check_days(text: &[u8], entries: &[Value], today: u32) -> Result<(), Refusal>
     }
 }
 
-/// The first entry with a mistake.
+/// The first entry with a mistake. Entries are counted from 0.
 fn first_mistaken(entries: &[Value]) -> Option<(usize, Mistake)>
     ensures first { result ≡ mistaken_from 0 (map view entries.now) }
     ensures within { IfSome result (λ found. found.0 < length entries.now) }
@@ -142,7 +142,7 @@ fn first_mistaken(entries: &[Value]) -> Option<(usize, Mistake)>
     None
 }
 
-/// The first entry whose last day is before today.
+/// The first entry whose last day is before today. Entries are counted from 0.
 fn first_expired(entries: &[Value], today: u32) -> Option<usize>
     ensures first { result ≡ first_expired today (map view entries.now) }
     ensures within { IfSome result (λ at. at < length entries.now) }
@@ -150,7 +150,7 @@ fn first_expired(entries: &[Value], today: u32) -> Option<usize>
     expired_at(entries, today)
 }
 
-/// The same by the entries' values.
+/// The same, with the entries as values.
 fn expired_at(entries: &[Value], today: u32) -> Option<usize>
     ensures first { result ≡ position (λ entry. is_expired today (view entry)) entries.now }
     ensures within { IfSome result (λ at. at < length entries.now) }
@@ -158,7 +158,7 @@ fn expired_at(entries: &[Value], today: u32) -> Option<usize>
     entries.iter().position(|entry| is_expired(entry, today))
 }
 
-/// Where a mistake about a key of the entry with this number, from 0, is reported.
+/// The spot of a mistake about a key of the entry with this number, counted from 0.
 fn key_spot(text: &[u8], number: usize, key: &[u8]) -> Spot
     ensures { IsKeyReport text.now number key.now result }
 {
@@ -168,7 +168,7 @@ fn key_spot(text: &[u8], number: usize, key: &[u8]) -> Spot
     }
 }
 
-/// The same, if the entry's header begins at `start`.
+/// The same if the entry's header begins at `start`.
 fn spot_in(text: &[u8], start: usize, key: &[u8]) -> Spot
     requires { start < length text.now }
     ensures { (number : ℕ) → IsHeader text.now number start → IsKeyReport text.now number key.now result }
@@ -179,7 +179,7 @@ fn spot_in(text: &[u8], start: usize, key: &[u8]) -> Spot
     }
 }
 
-/// Whether a document has nothing but an array `race`, if anything.
+/// Whether a document has at most one key, an array `race`.
 fn is_top(table: &Table) -> bool
     ensures { result ≡ is_top (table_view table.now) }
 {
@@ -209,7 +209,7 @@ fn member_of<'a>(table: &'a Table, key: &str) -> Option<&'a Value>
     table.get(key)
 }
 
-/// The entries of a file.
+/// Returns the entries of a file.
 pub fn entries_of(table: &Table) -> &[Value]
     ensures { map view result.now ≡ races_in (table_view table.now) }
 {

@@ -1,4 +1,5 @@
-//! A triage file: what somebody decided of races, in TOML, an entry a race; which entry is about a race, and why a file is refused.
+//! A triage file: what somebody decided about races, as TOML with an entry for each race. Says which entry is about a
+//! race, and why a file is refused.
 #![tactic(auto)]
 
 mod choosing;

@@ -14,7 +14,7 @@ use race_triage::Verdict;
 use rapid_text::{Op, RawTrace};
 use toml::Value;
 
-/// The path of a place `PATH:LINE`; another place is a path without a line.
+/// The path of a place `PATH:LINE`. A place of another form is a path without a line.
 pub(crate) fn path_of(place: &[u8]) -> &[u8]
     ensures { result.now ≡ path_of place.now }
 {
@@ -26,7 +26,7 @@ pub(crate) fn path_of(place: &[u8]) -> &[u8]
     }
 }
 
-/// The line of a place `PATH:LINE`; empty if it has none.
+/// The line of a place `PATH:LINE`; empty if the place has none.
 pub(crate) fn line_of(place: &[u8]) -> &[u8]
     ensures { result.now ≡ line_of place.now }
 {
@@ -52,14 +52,14 @@ pub(crate) fn function_of(location: &[u8]) -> &[u8]
     }
 }
 
-/// Whether the number in decimal digits is the text.
+/// Whether the text is the number in decimal digits.
 fn is_number(number: i64, text: &[u8]) -> bool
     ensures { result ≡ is_number number text.now }
 {
     number >= 0 && is_decimal(number.unsigned_abs(), text)
 }
 
-/// The same of a number that is not negative.
+/// The same for a number that is not negative.
 fn is_decimal(number: u64, text: &[u8]) -> bool
     ensures { result ≡ bytes_eq (decimal number) text.now }
 {
@@ -67,7 +67,7 @@ fn is_decimal(number: u64, text: &[u8]) -> bool
     buffer.format(number).as_bytes() == text
 }
 
-/// Whether the number is that of the line. No number and 0 are those of a place without a line.
+/// Whether the number is that of the line. No number, or 0, fits a place without a line.
 fn is_line_by(number: Option<i64>, line: &[u8]) -> bool
     ensures { result ≡ is_line_by number line.now }
 {
@@ -77,7 +77,7 @@ fn is_line_by(number: Option<i64>, line: &[u8]) -> bool
     }
 }
 
-/// Whether the entry names a function of its access.
+/// Whether the entry names a function for this access.
 fn has_function(entry: &Value, side: usize) -> bool
     ensures { result ≡ has_function (view entry.now) side }
 {
@@ -91,7 +91,7 @@ fn fits_function(entry: &Value, side: usize, location: &[u8]) -> bool
     !has_function(entry, side) || said_at(entry, "functions", side) == function_of(location)
 }
 
-/// Whether the line fits, if the entry names no function or no variables.
+/// Whether the line fits. It need not fit if the entry names a function for this access, and variables.
 fn fits_line(entry: &Value, side: usize, location: &[u8]) -> bool
     ensures { result ≡ fits_line (view entry.now) side location.now }
 {
@@ -100,7 +100,7 @@ fn fits_line(entry: &Value, side: usize, location: &[u8]) -> bool
         || is_line_by(number_at(entry, "lines", side), line_of(place))
 }
 
-/// Whether an access at this location is this one of the entry, but for its variable.
+/// Whether an access at this location is this access of the entry, apart from its variable.
 fn is_side(entry: &Value, side: usize, location: &[u8]) -> bool
     ensures { result ≡ is_side (view entry.now) side location.now }
 {
@@ -110,7 +110,7 @@ fn is_side(entry: &Value, side: usize, location: &[u8]) -> bool
         && fits_line(entry, side, location)
 }
 
-/// Whether accesses at two locations are those of the entry, in its order or in the other, but for their variable.
+/// Whether accesses at two locations are those of the entry, in either order, apart from their variable.
 pub fn are_sides(entry: &Value, one: &[u8], other: &[u8]) -> bool
     ensures { result ≡ are_sides (view entry.now) one.now other.now }
 {
@@ -118,7 +118,7 @@ pub fn are_sides(entry: &Value, one: &[u8], other: &[u8]) -> bool
         || (is_side(entry, 0, other) && is_side(entry, 1, one))
 }
 
-/// The variable that the event accesses; nothing if it is no access.
+/// The variable that the event accesses. Returns None if the event is not an access.
 pub(crate) fn use_of(indexed: &Indexed, event: u32) -> Option<&[u8]>
     ensures { option_map (λ name. name.now) result ≡ use_at indexed.now event }
 {
@@ -148,7 +148,7 @@ fn is_same_text(item: &Value, name: &[u8]) -> bool
     text_in(item) == name
 }
 
-/// The text that a value is; empty if it is none.
+/// The text of a value; empty if it is not a text.
 fn text_in(item: &Value) -> &[u8]
     ensures { result.now ≡ unwrap_or (as_str (view item.now)) [] }
 {
@@ -165,7 +165,7 @@ fn has_text(items: &[Value], name: &[u8]) -> bool
     items.iter().any(|item| is_same_text(item, name))
 }
 
-/// The same by what the items are.
+/// The same, with the items as values.
 fn has_text_in(items: &[Value], name: &[u8]) -> bool
     ensures { result ≡ list_any (is_same_text name.now) (map view items.now) }
 {
@@ -186,7 +186,7 @@ pub fn is_named(entry: &Value, name: &[u8]) -> bool
     has_text_in(list_of(entry, "variables"), name)
 }
 
-/// The same, if there is a variable.
+/// The same if there is a variable; true if there is none.
 fn is_named_by(entry: &Value, name: Option<&[u8]>) -> bool
     ensures { result ≡ is_named_by (view entry.now) (option_map (λ text. text.now) name.entry) }
 {
@@ -196,28 +196,28 @@ fn is_named_by(entry: &Value, name: Option<&[u8]>) -> bool
     }
 }
 
-/// Whether the event is at this place.
+/// Whether the event is at the location with this number.
 pub(crate) fn is_at(numbers: &[u32], place: u32, event: u32) -> bool
     ensures { result ≡ is_at numbers.now place event }
 {
     (event as usize) < numbers.len() && numbers[event as usize] == place
 }
 
-/// Whether the event is not at this place, or is no access, or accesses a variable that the entry names.
+/// Whether the event is not at this location, or is not an access, or accesses a variable that the entry names.
 fn is_free(indexed: &Indexed, numbers: &[u32], entry: &Value, place: u32, event: u32) -> bool
     ensures { result ≡ is_free indexed.now numbers.now (view entry.now) place event }
 {
     !is_at(numbers, place, event) || is_named_by(entry, use_of(indexed, event))
 }
 
-/// Whether every access at this place is one of a variable that the entry names.
+/// Whether the entry names the variable of every access at this location.
 fn are_named(indexed: &Indexed, numbers: &[u32], entry: &Value, place: u32) -> bool
     ensures { result ≡ are_named indexed.now numbers.now (view entry.now) place }
 {
     (0..indexed.len()).all(|event| is_free(indexed, numbers, entry, place, event))
 }
 
-/// Whether the entry's variables fit two places.
+/// Whether the entry's variables fit two locations.
 fn fits_variables(indexed: &Indexed, numbers: &[u32], entry: &Value, places: (u32, u32)) -> bool
     ensures { result ≡ fits_variables indexed.now numbers.now (view entry.now) places }
 {

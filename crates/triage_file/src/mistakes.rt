@@ -11,29 +11,29 @@ use toml::{Table, Value};
 /// What is wrong with an entry.
 #[derive(Clone, Copy, PartialEq, Eq, Debug)]
 pub enum Mistake {
-    /// It is no table.
+    /// It is not a table.
     NoTable,
     /// It has a key that no entry has.
     Unknown,
-    /// `paths` is not there, or is no array of two texts.
+    /// `paths` is missing, or is not an array of two texts.
     Paths,
-    /// `functions` is no array of two texts.
+    /// `functions` is not an array of two texts.
     Functions,
-    /// `variables` is no array of texts, or an empty one.
+    /// `variables` is not an array of texts, or is empty.
     Variables,
-    /// `lines` is no array of two numbers.
+    /// `lines` is not an array of two numbers.
     Lines,
-    /// `verdict` is not there, or is none of the four.
+    /// `verdict` is missing, or is not one of the four words.
     Verdict,
-    /// `reason` is no text.
+    /// `reason` is not a text.
     Reason,
-    /// `author` is no text.
+    /// `author` is not a text.
     Author,
-    /// `expires` is no date without a time.
+    /// `expires` is not a date without a time.
     Expires,
 }
 
-/// The first mistake of an entry; none if it is right.
+/// The first mistake of an entry; None if it is right.
 pub(crate) fn mistake_of(entry: &Value) -> Option<Mistake>
     ensures { result ≡ mistake_of (view entry.now) }
 {
@@ -46,7 +46,7 @@ pub(crate) fn mistake_of(entry: &Value) -> Option<Mistake>
     place_mistake(entry)
 }
 
-/// The first mistake of what says which race it is.
+/// The first mistake in the members that name the race, or in those of the decision.
 fn place_mistake(entry: &Value) -> Option<Mistake>
     ensures { result ≡ place_mistake (view entry.now) }
 {
@@ -65,7 +65,7 @@ fn place_mistake(entry: &Value) -> Option<Mistake>
     decision_mistake(entry)
 }
 
-/// The first mistake of what was decided.
+/// The first mistake in the members of the decision.
 fn decision_mistake(entry: &Value) -> Option<Mistake>
     ensures { result ≡ decision_mistake (view entry.now) }
 {
@@ -84,7 +84,7 @@ fn decision_mistake(entry: &Value) -> Option<Mistake>
     None
 }
 
-/// Whether an entry may have each of the keys.
+/// Whether an entry may have all of these keys.
 fn are_known(table: &Table) -> bool
     ensures { result ≡ list_all is_key (keys_in (table_view table.now)) }
 {
@@ -96,7 +96,7 @@ fn are_known(table: &Table) -> bool
     true
 }
 
-/// The key that the mistake is about; the brackets of its header if it is about no key that is known.
+/// The key that the mistake is about. If no known key is, the brackets of the entry's header.
 pub(crate) fn key_of(mistake: Mistake) -> &'static [u8]
     ensures { result.now ≡ key_of mistake }
 {

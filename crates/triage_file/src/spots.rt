@@ -1,19 +1,19 @@
-//! Lines and columns of a text, both counted from 1, and where its entries and their keys are.
+//! Lines and columns of a text, both counted from 1; and the spots of its entries and their keys.
 ghost use Rattle.std.specs.Prelude.{◌≡◌, ◌≤◌, ◌<◌, ℕ, None, IfSome, count_by, length, slice_index};
 ghost use Rattle.triage_file.specs.Spots.{begins_at, headers_before, is_bare, is_feed, is_first_byte, is_header_at, is_key_at, is_name_at, word_start, HasNoKey, IsHeader, IsKeySpot, IsNameSpot, IsSpot};
 
 use explain_report::places::cut_at_last;
 
-/// A place in a text.
+/// A spot in a text.
 #[derive(Clone, Copy, PartialEq, Eq, Debug)]
 pub struct Spot {
-    /// The line, from 1.
+    /// The line, counted from 1.
     pub line: u64,
-    /// The character in the line, from 1.
+    /// The character in the line, counted from 1.
     pub column: u64,
 }
 
-/// The place of the byte with this index.
+/// The spot of the byte with this index.
 pub(crate) fn spot_at(text: &[u8], at: usize) -> Spot
     requires { at ≤ length text.now }
     ensures { IsSpot text.now at result }
@@ -26,21 +26,21 @@ pub(crate) fn spot_at(text: &[u8], at: usize) -> Spot
     }
 }
 
-/// How many line feeds there are.
+/// The number of line feeds.
 fn feeds_in(text: &[u8]) -> usize
     ensures { result ≡ count_by is_feed text.now }
 {
     text.iter().filter(|byte| **byte == b'\n').count()
 }
 
-/// How many characters there are: bytes that begin one.
+/// The number of characters. It counts the bytes that begin one.
 fn characters_in(text: &[u8]) -> usize
     ensures { result ≡ count_by is_first_byte text.now }
 {
     text.iter().filter(|byte| is_first_byte(**byte)).count()
 }
 
-/// Whether the byte begins a character, as UTF-8 writes it.
+/// Whether the byte begins a character in UTF-8.
 fn is_first_byte(byte: u8) -> bool
     ensures { result ≡ is_first_byte byte }
 {
@@ -66,7 +66,7 @@ fn begins_at(word: &[u8], text: &[u8], at: usize) -> bool
     (at == 0 || text[at - 1] == b'\n') && text[at..].starts_with(word)
 }
 
-/// Whether the header of an entry begins there.
+/// Whether the header of an entry begins at this index.
 fn is_header_at(text: &[u8], at: usize) -> bool
     requires { at < length text.now }
     ensures { result ≡ is_header_at text.now at }
@@ -74,7 +74,7 @@ fn is_header_at(text: &[u8], at: usize) -> bool
     begins_at(b"[[", text, at)
 }
 
-/// Whether a line begins there with this key.
+/// Whether a line begins at this index with this key.
 fn is_key_at(key: &[u8], text: &[u8], at: usize) -> bool
     requires { at < length text.now }
     ensures { result ≡ is_key_at key.now text.now at }
@@ -82,14 +82,14 @@ fn is_key_at(key: &[u8], text: &[u8], at: usize) -> bool
     begins_at(key, text, at) && !is_bare_at(text, at + key.len())
 }
 
-/// Whether the byte there may be in a key.
+/// Whether the byte at this index may be in a key.
 fn is_bare_at(text: &[u8], at: usize) -> bool
     ensures { result ≡ is_bare (slice_index text.now at) }
 {
     at < text.len() && is_bare(text[at])
 }
 
-/// Where the header of the entry with this number, from 0, begins.
+/// The index at which the header of the entry with this number, counted from 0, begins.
 pub(crate) fn header_of(text: &[u8], number: usize) -> Option<usize>
     ensures some { IfSome result (IsHeader text.now number) }
     ensures none { result ≡ None → headers_before text.now (length text.now) ≤ number }
@@ -106,7 +106,7 @@ pub(crate) fn header_of(text: &[u8], number: usize) -> Option<usize>
     None
 }
 
-/// Where the line begins that begins with this key, in the entry whose header begins at `start`.
+/// The index of the first line with this key, in the entry whose header begins at `start`.
 pub(crate) fn key_in(key: &[u8], text: &[u8], start: usize) -> Option<usize>
     requires { start < length text.now }
     ensures some { IfSome result (IsKeySpot key.now text.now start) }
@@ -123,7 +123,8 @@ pub(crate) fn key_in(key: &[u8], text: &[u8], start: usize) -> Option<usize>
     None
 }
 
-/// Where the first line begins that names this key, alone or in brackets; the beginning if no line does.
+/// The spot of the first line that begins with this key, alone or in brackets. If no line does, the beginning of the
+/// text.
 pub(crate) fn name_spot(key: &[u8], text: &[u8]) -> Spot
     ensures { IsNameSpot key.now text.now result }
 {
@@ -135,7 +136,7 @@ pub(crate) fn name_spot(key: &[u8], text: &[u8]) -> Spot
     spot_at(text, 0)
 }
 
-/// Whether a line begins there with this key, alone or in brackets.
+/// Whether a line begins at this index with this key, alone or in brackets.
 fn is_name_at(key: &[u8], text: &[u8], at: usize) -> bool
     requires { at < length text.now }
     ensures { result ≡ is_name_at key.now text.now at }
@@ -146,7 +147,7 @@ fn is_name_at(key: &[u8], text: &[u8], at: usize) -> bool
         && !is_bare_at(text, start + key.len())
 }
 
-/// Where the first word of the line begins that begins there: behind one or two brackets, if they are there.
+/// The index of the first word of the line that begins at this index: after one or two brackets, if there are any.
 fn word_start(text: &[u8], at: usize) -> usize
     requires { at < length text.now }
     ensures is { result ≡ word_start text.now at }

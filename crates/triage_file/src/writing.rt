@@ -13,8 +13,8 @@ use std::alloc::Global;
 use std::fmt::Formatter;
 use toml_writer::write_string;
 
-/// Appends an entry of a triage file for each race among the chosen verdicts, in their order. `numbers` has the number of each event's
-/// location. If memory is refused `out` stays as it was.
+/// Appends an entry of a triage file for each race among the chosen verdicts, in their order. `numbers` has the number
+/// of each event's location. If memory runs out, `out` stays as it was.
 pub fn triage_entries(
     indexed: &Indexed,
     numbers: &[u32],
@@ -30,7 +30,7 @@ pub fn triage_entries(
     Ok(())
 }
 
-/// Appends the entries of the races among these.
+/// Appends an entry for each race among these verdicts.
 fn append_all(
     out: &mut Vec<u8>,
     indexed: &Indexed,
@@ -79,7 +79,7 @@ fn append_entry(
     Ok(())
 }
 
-/// Appends a key with an array of two.
+/// Appends a key with an array of two items.
 fn append_two(out: &mut Vec<u8>, key: &[u8], one: &[u8], other: &[u8]) -> Result<(), OutOfMemory>
     ensures { OnOk result (out.new.items ≡ out.old.items ++ two_of key.now one.now other.now) }
 {
@@ -92,7 +92,7 @@ fn append_two(out: &mut Vec<u8>, key: &[u8], one: &[u8], other: &[u8]) -> Result
     Ok(())
 }
 
-/// Bytes of a trace as a string of TOML.
+/// Bytes of a trace as a TOML string. Bytes that are not UTF-8 become U+FFFD.
 fn text_of(alloc: Global, bytes: &[u8]) -> Result<String, OutOfMemory>
     ensures { IfOk result (λ text. string_bytes text ≡ text_of bytes.now) }
 {
@@ -104,7 +104,7 @@ fn text_of(alloc: Global, bytes: &[u8]) -> Result<String, OutOfMemory>
     }
 }
 
-/// The place of an event's location.
+/// The place of an event: the first part of its location.
 fn place_of(indexed: &Indexed, event: u32) -> &[u8]
     ensures { result.now ≡ place_at indexed.now event }
 {
@@ -156,14 +156,14 @@ fn line_in(indexed: &Indexed, event: u32) -> &[u8]
     if is_plain(line) { line } else { b"0" }
 }
 
-/// Whether the digits are a number as TOML writes it, below 10 ^ 18.
+/// Whether the digits are a positive number as TOML writes it, below 10^18.
 fn is_plain(digits: &[u8]) -> bool
     ensures { result ≡ is_plain digits.now }
 {
     !digits.is_empty() && digits.len() < 19 && digits[0] != b'0'
 }
 
-/// Appends the variable of a race, if one of its places has no other.
+/// Appends the variable of a race, if one of the race's locations has no access to another variable.
 fn append_variable(
     out: &mut Vec<u8>,
     indexed: &Indexed,
@@ -178,7 +178,7 @@ fn append_variable(
     }
 }
 
-/// The same of this variable.
+/// The same for this variable.
 fn append_alone(
     out: &mut Vec<u8>,
     indexed: &Indexed,
@@ -213,7 +213,7 @@ fn append_three(out: &mut Vec<u8>, one: &[u8], two: &[u8], three: &[u8]) -> Resu
     Ok(())
 }
 
-/// Whether the variable is this one, or there is none.
+/// Whether the other variable is this one, or there is none.
 fn is_same_by(name: &[u8], other: Option<&[u8]>) -> bool
     ensures { result ≡ is_same_by name.now (option_map (λ text. text.now) other.entry) }
 {
@@ -223,14 +223,14 @@ fn is_same_by(name: &[u8], other: Option<&[u8]>) -> bool
     }
 }
 
-/// Whether the event is not at this place, or accesses no variable but this.
+/// Whether the event is not at this location, or accesses no variable other than this one.
 fn is_only(indexed: &Indexed, numbers: &[u32], name: &[u8], place: u32, event: u32) -> bool
     ensures { result ≡ is_only indexed.now numbers.now name.now place event }
 {
     !is_at(numbers, place, event) || is_same_by(name, use_of(indexed, event))
 }
 
-/// Whether no variable but this is accessed at the place.
+/// Whether no access at this location is to another variable.
 fn is_alone(indexed: &Indexed, numbers: &[u32], name: &[u8], place: u32) -> bool
     ensures { result ≡ is_alone indexed.now numbers.now name.now place }
 {
