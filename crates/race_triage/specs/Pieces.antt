@@ -4,7 +4,7 @@ use Rattle.rapid_text.specs.Canonical.{name_at, op_text}
 use Rattle.rapid_text.specs.Recording.{Recording}
 use Rattle.rapid_text.specs.declared.event.Event.{Event}
 
--- a number of 64 bits; 2^64 - 1 stands for all greater numbers
+-- a number of 64 bits; a greater number counts as 2^64 - 1
 abbrev pub capped : ℕ → ℕ
 capped n = min n (2 ^ 64 - 1)
 

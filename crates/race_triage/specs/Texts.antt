@@ -53,8 +53,8 @@ place_lines t =
 abbrev pub totals_text : Totals → List ℕ
 totals_text t = trace_lines t ++ kind_lines t ++ place_lines t
 
--- The number of pairs that a block stands for. For an apart verdict these are all pairs. Otherwise they are the
--- candidates, or the open pairs if there is no candidate.
+-- The number of pairs that a block covers. For an apart verdict these are all pairs. Otherwise they are the candidates,
+-- or the open pairs if there is no candidate.
 abbrev pub pairs_by : Outcome → Counts → ℕ
 pairs_by Apart c = all_in c
 pairs_by o c = cond (nat_lt 0 c.candidates) c.candidates c.open_pairs

@@ -1,6 +1,6 @@
--- What a verdict says of a pair of locations, and of the pair of events that it names. `T` is the events of a trace,
--- and `r` is its recording. `place` gives the number of each event's location. All notions here are this project's
--- own.
+-- What a verdict says about a pair of locations, and about the pair of events that it names. `T` is the events of a
+-- trace, and `r` is its recording. `place` gives the number of each event's location. All notions here are this
+-- project's own.
 use Rattle.std.specs.Prelude.{◌≡◌, ◌≢◌, ◌⊎◌, ℕ, ◌<◌, ◌≤◌, ◌%◌, ◌/◌, ◌==◌, ◌&&◌, nat_lt, max, min, count_by, Bool, true, false, List, [], ◌∷◌, ◌++◌, All, AllPairs, Contains, length, take, slice_get, slice_index, slice_index_or, Option, Some, None, ⊤}
 use Rattle.rapid_text.specs.Recording.{Recording}
 use Rattle.rapid_text.specs.declared.event.Event.{Event}
@@ -49,7 +49,7 @@ IsRaceOf r a b how o = (events threads : ℕ) × (o ≡ Race how events threads)
 abbrev pub IsOpenRace : Recording → ℕ → ℕ → Outcome → Type 0
 IsOpenRace r a b o = IsRaceOf r a b Beyond o ⊎ IsRaceOf r a b Turned o
 
--- What an outcome says of the pair of events: if it is a race, a schedule shows the pair, and `how` is true.
+-- What an outcome says about the pair of events: if it is a race, a schedule shows the pair, and `how` is true.
 abbrev pub IsOutcome : Recording → ℕ → ℕ → Outcome → Type 0
 IsOutcome r a b (Race how events threads) = IsShownBy r.events a b how events threads × IsShownAs r a b how
 IsOutcome r a b (Undecided tried) = ⊤

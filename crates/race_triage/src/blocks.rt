@@ -77,7 +77,7 @@ fn append_size(out: &mut Vec<u8>, events: u32, threads: u32) -> Result<(), OutOf
     Ok(())
 }
 
-// Appends the number of pairs of events that the block stands for.
+// Appends the number of pairs of events that the block covers.
 fn append_pairs(out: &mut Vec<u8>, verdict: &Verdict) -> Result<(), OutOfMemory>
     ensures { OnOk result (out.new.items ≡ out.old.items ++ pairs_text verdict.now) }
 {

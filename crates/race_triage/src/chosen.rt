@@ -145,7 +145,7 @@ fn one_more(count: Option<u64>) -> Option<u64>
     }
 }
 
-// All verdicts if apart verdicts are wanted, else none.
+// All verdicts if apart verdicts are wanted, otherwise none.
 fn never_of(all: &[Verdict], apart: bool) -> &[Verdict]
     ensures { result.now ≡ cond apart all.now [] }
 {

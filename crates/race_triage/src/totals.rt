@@ -80,7 +80,7 @@ impl Totals {
     }
 }
 
-// 1 if the verdict is of this kind, else 0.
+// 1 if the verdict is of this kind, otherwise 0.
 fn one_if(verdict: &Verdict, part: Part) -> u64
     ensures { result ≡ cond (is_of part verdict.now) 1 0 }
 {
@@ -88,7 +88,7 @@ fn one_if(verdict: &Verdict, part: Part) -> u64
 }
 
 impl Verdict {
-    /// Returns the number of pairs of events that the verdict stands for. For an apart verdict these are all pairs.
+    /// Returns the number of pairs of events that the verdict covers. For an apart verdict these are all pairs.
     /// Otherwise they are the candidates, or the open pairs if there is no candidate.
     pub fn pairs(&self) -> u64
         ensures { result ≡ pairs_by self.now.outcome self.now.row.counts }

@@ -14,7 +14,7 @@ use std::alloc::Global;
 use std::thread;
 use std::thread::Threads;
 
-/// The verdicts on all rows, found by as many threads as the effort asks for, or by this one.
+/// The verdicts on all rows, found by the effort's number of worker threads, or by this thread.
 pub(crate) fn all_verdicts<R: Threads + Sync, W: Watch + Sync>(
     rt: &R,
     found: &Found<'_>,
