@@ -1,4 +1,4 @@
--- Which tasks the words may ask for. All notions here are this project's own.
+-- The tasks that arguments can name. All notions here are this project's own.
 use Rattle.std.specs.Prelude.{◌<◌, ◌≤◌, IfSome, vec_len, ⊤}
 use Rattle.program_words.specs.declared.task.CutTask.{CutTask}
 use Rattle.program_words.specs.declared.task.Limits.{Limits}
@@ -8,19 +8,19 @@ use Rattle.program_words.specs.declared.task.TriageTask.{TriageTask}
 use Rattle.program_words.specs.declared.task.Task.{Task}
 use Rattle.program_words.specs.declared.task.Task.TheVariants.{Joint, Info, Replay, Session, Log, Threads, Triage, Explain, Witness, Cut, Merge}
 
--- the client, where one is named, is one of those that there may be
+-- the client, if there is one, is from 1 to the limit
 abbrev pub IsSessionWithin : Limits → SessionTask → Type 0
 IsSessionWithin limits task = IfSome task.client (λ client. (1 ≤ client) × (client ≤ limits.clients))
 
--- there is a script behind the trace, and no more workers than there may be
+-- there is at least one script, and no more workers than the limit
 abbrev pub IsThreadsWithin : Limits → ThreadsTask → Type 0
 IsThreadsWithin limits task = (1 < vec_len task.paths) × (task.workers ≤ limits.workers)
 
--- there are no more tries and workers than there may be
+-- there are no more tries and workers than the limits
 abbrev pub IsTriageWithin : Limits → TriageTask → Type 0
 IsTriageWithin limits task = (task.tries ≤ limits.tries) × (task.workers ≤ limits.workers)
 
--- a window has an event
+-- a window has at least one event
 abbrev pub IsCutWithin : CutTask → Type 0
 IsCutWithin task = 0 < task.most
 

@@ -1,4 +1,4 @@
-//! What `clap` is told: the program and its commands, made from the table a word at a time.
+//! Builds the program and its commands for `clap`, from the table, one argument at a time.
 
 use crate::commands::{COMMANDS, words_of};
 use crate::program::{NAME, VERSION, program_words};
@@ -8,16 +8,16 @@ use clap::builder::ValueParser;
 use clap::{Arg, ArgAction, Command};
 use std::alloc::{AllocError, Global};
 
-/// What stands for a number in help.
+/// What help prints for a number.
 const NUMBER: &str = "N";
 
-/// A flag with a number behind it.
+/// An option with a number.
 fn numbered<'a>(arg: Arg<'a>, least: u32, most: u32) -> Arg<'a> {
     arg.value_name(NUMBER)
         .value_parser(ValueParser::signed(i64::from(least), i64::from(most)))
 }
 
-/// A flag with what stands behind it.
+/// An option with its value, if it has one.
 fn flag<'a>(arg: Arg<'a>, kind: Kind, limits: Limits) -> Arg<'a> {
     match kind {
         Kind::Text(name) | Kind::Texts(name) => arg.value_name(name),
@@ -44,7 +44,7 @@ fn flag<'a>(arg: Arg<'a>, kind: Kind, limits: Limits) -> Arg<'a> {
     }
 }
 
-/// What a word of this kind does.
+/// What `clap` does with an argument of this kind.
 fn action_of(kind: Kind) -> ArgAction {
     match kind {
         Kind::Flag(_) => ArgAction::SetTrue,
@@ -53,7 +53,7 @@ fn action_of(kind: Kind) -> ArgAction {
     }
 }
 
-/// The words beside which a word of this kind may not stand.
+/// The flags that an argument of this kind conflicts with.
 fn others_of(kind: Kind) -> &'static [&'static str] {
     match kind {
         Kind::Flag(others) => others,
@@ -61,7 +61,7 @@ fn others_of(kind: Kind) -> &'static [&'static str] {
     }
 }
 
-/// A word of a command.
+/// An argument of a command.
 fn argument<'a>(alloc: Global, word: &Word, limits: Limits) -> Result<Arg<'a>, AllocError> {
     let arg = Arg::new(alloc, word.name)
         .help(word.help.unwrap_or(""))
@@ -75,7 +75,7 @@ fn argument<'a>(alloc: Global, word: &Word, limits: Limits) -> Result<Arg<'a>, A
     arg.conflicts_with_all(others_of(word.kind))
 }
 
-/// A command with one word more.
+/// A command with one more argument.
 fn with_word<'a>(
     alloc: Global,
     command: Command<'a>,
@@ -88,14 +88,14 @@ fn with_word<'a>(
     }
 }
 
-/// A command, or the program itself, before its words.
+/// A command, or the program itself, without its arguments.
 fn titled<'a>(alloc: Global, words: &Words) -> Command<'a> {
     Command::new(alloc, words.name)
         .about(words.about)
         .after_help(words.example)
 }
 
-/// A command with its words.
+/// A command with its arguments.
 fn command<'a>(alloc: Global, words: &Words, limits: Limits) -> Result<Command<'a>, AllocError> {
     let mut command = titled(alloc, words);
     for word in words.words {
@@ -104,14 +104,14 @@ fn command<'a>(alloc: Global, words: &Words, limits: Limits) -> Result<Command<'
     Ok(command)
 }
 
-/// The program with no command.
+/// The program without commands.
 fn program<'a>(alloc: Global) -> Result<Command<'a>, AllocError> {
     titled(alloc, &program_words())
         .version(VERSION)
         .bin_name(NAME)
 }
 
-/// The program with one command more.
+/// The program with one more command.
 fn with_command<'a>(
     alloc: Global,
     program: Command<'a>,

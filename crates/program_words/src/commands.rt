@@ -1,4 +1,4 @@
-//! The commands of the program, each with its words, as a table: what help says of them, and what `clap` is told of them.
+//! The commands of the program, each with its arguments, as a table: it has the texts of help, and what `clap` accepts.
 
 use crate::pair_commands::{EXPLAIN, WITNESS};
 use crate::words::{Kind, Most, TRACE, Word, Words};
@@ -19,7 +19,7 @@ pub(crate) enum CommandName {
     Merge,
 }
 
-/// All of them, in the order of help.
+/// All commands, in the order of help.
 pub(crate) const COMMANDS: [CommandName; 10] = [
     CommandName::Info,
     CommandName::Replay,
@@ -294,7 +294,8 @@ parts means nothing, and a part that comes twice counts once.",
     ],
 };
 
-/// The words of a command. They are handed out one command at a time, since a proof carries all of a constant that it meets.
+/// The arguments of a command. Returns those of one command only, because a proof carries the whole value of each
+/// constant in it.
 pub(crate) fn words_of(command: CommandName) -> Words {
     match command {
         CommandName::Info => INFO,
@@ -310,7 +311,7 @@ pub(crate) fn words_of(command: CommandName) -> Words {
     }
 }
 
-/// The command of this name.
+/// The command with this name.
 pub(crate) fn command_of(name: &str) -> Option<CommandName> {
     for command in COMMANDS {
         if words_of(command).name == name {

@@ -1,4 +1,4 @@
-//! The words of the program: what may stand behind its name, what help says of that, and what the words ask for.
+//! The command line of the program: which arguments it accepts, what help says about them, and which task they name.
 #![tactic(auto)]
 
 mod building;

@@ -1,4 +1,4 @@
-//! What the words of `merge` ask for.
+//! Reads the arguments of `merge`.
 
 use crate::reading::{Filters, block_filters, check_source, texts, today_of, word};
 use crate::task::{MergeTask, RacesForm};
@@ -6,7 +6,7 @@ use crate::values::{Unread, check_inputs};
 use clap::ArgMatches;
 use std::alloc::Global;
 
-/// In which form `merge` is asked for.
+/// The form in which `merge` prints its report.
 fn merged_form(given: &ArgMatches<'_>) -> RacesForm {
     if given.get_flag("sarif") {
         RacesForm::Sarif
@@ -19,7 +19,7 @@ fn merged_form(given: &ArgMatches<'_>) -> RacesForm {
     }
 }
 
-/// The day that `merge` is given, or a refusal of what it is asked for.
+/// The day of `--today`. Refuses arguments of `merge` that do not go together.
 fn merged_day(given: &ArgMatches<'_>) -> Result<Option<u32>, Unread> {
     let parts = given.get_strs("PART").unwrap_or(&[]);
     check_inputs(parts, &[word(given, "known"), word(given, "triage")])?;
@@ -27,7 +27,7 @@ fn merged_day(given: &ArgMatches<'_>) -> Result<Option<u32>, Unread> {
     today_of(given)
 }
 
-/// What `merge` is asked for.
+/// The task that the arguments of `merge` name.
 pub(crate) fn merge<'a>(alloc: Global, given: &ArgMatches<'a>) -> Result<MergeTask<'a>, Unread> {
     let today = merged_day(given)?;
     let parts = texts(alloc, given, "PART")?;

@@ -1,4 +1,4 @@
-//! The commands on a pair of events, each with its words.
+//! The commands on a pair of events, each with its arguments.
 
 use crate::words::{Kind, TRACE, Word, Words};
 

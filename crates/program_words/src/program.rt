@@ -1,4 +1,4 @@
-//! The program's own words: its name, its version, and what help says where no command is named.
+//! The program itself: its name, its version, and what help says if no command is named.
 
 use crate::words::Words;
 
@@ -11,7 +11,7 @@ pub(crate) const VERSION: &str = "0.1.0";
 /// What the program does.
 const ABOUT: &str = "Find the data races of a recorded execution, and show each by a schedule";
 
-/// The line of the help after which the commands of a script come, each with its arguments and what it does.
+/// The line of help before the list of script commands. The list has each command with its arguments and what it does.
 pub const LISTED_BEHIND: &[u8] = b"After the client number comes one of these commands:";
 
 const OVERVIEW: &str = "Start with `racebench triage trace.std`. A path `-` is standard input.
@@ -46,12 +46,12 @@ After the client number comes one of these commands:
   list                        prints the names of all schedules
   races NAME                  prints the pairs that a schedule shows";
 
-/// What help says of the joint text and of the lines of a script.
+/// Returns what help says about the joint text and about the lines of a script.
 pub fn overview() -> &'static str {
     OVERVIEW
 }
 
-/// What is said of the program itself.
+/// What help says about the program itself.
 pub(crate) fn program_words() -> Words {
     Words {
         name: NAME,

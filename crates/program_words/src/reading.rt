@@ -1,4 +1,4 @@
-//! What the words ask for, read from what `clap` found in them.
+//! Reads the task from the arguments that `clap` found.
 ghost use Rattle.std.specs.Prelude.{◌≤◌, IfOk};
 ghost use Rattle.program_words.specs.Tasks.{IsWithin};
 
@@ -13,12 +13,12 @@ use clap::ArgMatches;
 use clap::error::{Error, ErrorKind};
 use std::alloc::{AllocError, Global};
 
-/// The word of this name, which `clap` has seen to be there.
+/// The argument with this name. `clap` has checked that there is one.
 pub(crate) fn word<'a>(given: &ArgMatches<'a>, name: &str) -> &'a str {
     given.get_str(name).unwrap_or("")
 }
 
-/// The texts that a flag is given.
+/// The texts that an option was given.
 pub(crate) fn texts<'a>(
     alloc: Global,
     given: &ArgMatches<'a>,
@@ -27,7 +27,7 @@ pub(crate) fn texts<'a>(
     Vec::from_slice(alloc, given.get_strs(name).unwrap_or(&[]))
 }
 
-/// In which form `triage` is asked for.
+/// The form in which `triage` prints the races.
 fn races_form(given: &ArgMatches<'_>) -> RacesForm {
     if given.get_flag("page") {
         RacesForm::Page
@@ -44,7 +44,7 @@ fn races_form(given: &ArgMatches<'_>) -> RacesForm {
     }
 }
 
-/// A refusal for this reason if a text is given under this name, and not the flag that it goes with.
+/// Refuses, for this reason, a text with this name without the flag that it goes with.
 fn check_beside(
     given: &ArgMatches<'_>,
     name: &str,
@@ -57,12 +57,13 @@ fn check_beside(
     Ok(())
 }
 
-/// A refusal if a folder is named for what a log has, and no log is asked for.
+/// Refuses `--source` without `--sarif`.
 pub(crate) fn check_source(given: &ArgMatches<'_>) -> Result<(), Unread> {
     check_beside(given, "source", "sarif", "`--source` goes with `--sarif`")
 }
 
-/// How many events a window has at most, if the trace is read in windows. Nothing may be asked for that a report of them has not.
+/// The most events of a window, if the trace is read in windows. Refuses options that a report of windows does not
+/// have.
 fn windows_of(given: &ArgMatches<'_>, limits: Limits) -> Result<Option<u32>, Unread> {
     let Some(word) = given.get_str("windows") else {
         return Ok(None);
@@ -76,15 +77,15 @@ fn windows_of(given: &ArgMatches<'_>, limits: Limits) -> Result<Option<u32>, Unr
     Ok(Some(number(word, 1, limits.events, WINDOWS)?))
 }
 
-/// Why other flags are refused beside `--windows`.
+/// Why `--windows` is refused with other options.
 const ALONE: &str = "`--windows` does not go with `--lines`, `--init-triage`, `--confirmed`";
 
-/// The day that is given, which goes with a triage file.
+/// The day of `--today`, which goes with a triage file.
 pub(crate) fn today_of(given: &ArgMatches<'_>) -> Result<Option<u32>, Unread> {
     day(given.get_str("today"), given.get_str("triage").is_some())
 }
 
-/// A refusal if the paths and texts that `triage` is given do not go together.
+/// Refuses paths and texts of `triage` that do not go together.
 fn check_triage(given: &ArgMatches<'_>) -> Result<(), Unread> {
     let decided = word(given, "triage");
     check_inputs(
@@ -105,7 +106,7 @@ fn check_triage(given: &ArgMatches<'_>) -> Result<(), Unread> {
     check_source(given)
 }
 
-/// The numbers that `triage` is given.
+/// The numbers that `triage` was given.
 #[derive(Clone, Copy)]
 struct TriageNumbers {
     tries: u32,
@@ -114,10 +115,10 @@ struct TriageNumbers {
     today: Option<u32>,
 }
 
-/// Why the number of tries, or that of workers, is refused.
+/// Why the number of tries or of workers is refused.
 const NUMBERS: &str = "`--tries` and `--workers` take numbers in decimal digits";
 
-/// The numbers that `triage` is given, or a refusal of what it is asked for.
+/// The numbers that `triage` was given. Refuses arguments that do not go together.
 fn triage_numbers(given: &ArgMatches<'_>, limits: Limits) -> Result<TriageNumbers, Unread>
     ensures { IfOk result (λ n. (n.tries ≤ limits.tries) × (n.workers ≤ limits.workers)) }
 {
@@ -134,13 +135,13 @@ fn triage_numbers(given: &ArgMatches<'_>, limits: Limits) -> Result<TriageNumber
     })
 }
 
-/// The texts of which a block has to hold one, and those of which it may hold none.
+/// The texts of which a block must have one, and the texts of which it may have none.
 pub(crate) struct Filters<'a> {
     pub(crate) only: Vec<&'a str>,
     pub(crate) hide: Vec<&'a str>,
 }
 
-/// The texts by which blocks are left out.
+/// The texts that filter blocks.
 pub(crate) fn block_filters<'a>(
     alloc: Global,
     given: &ArgMatches<'a>,
@@ -150,7 +151,7 @@ pub(crate) fn block_filters<'a>(
     Ok(Filters { only, hide })
 }
 
-/// What `triage` is asked for.
+/// The task that the arguments of `triage` name.
 fn triage<'a>(alloc: Global, given: &ArgMatches<'a>, limits: Limits) -> Result<Task<'a>, Unread>
     ensures { IfOk result (IsWithin limits) }
 {
@@ -175,7 +176,7 @@ fn triage<'a>(alloc: Global, given: &ArgMatches<'a>, limits: Limits) -> Result<T
     }))
 }
 
-/// The pair that the words name.
+/// The pair that the arguments name.
 fn pair<'a>(given: &ArgMatches<'a>) -> PairTask<'a> {
     PairTask {
         trace: word(given, "TRACE"),
@@ -184,7 +185,7 @@ fn pair<'a>(given: &ArgMatches<'a>) -> PairTask<'a> {
     }
 }
 
-/// In which form `witness` is asked for.
+/// The form in which `witness` prints the schedule.
 fn schedule_form(given: &ArgMatches<'_>) -> ScheduleForm {
     if given.get_flag("script") {
         ScheduleForm::Script
@@ -200,7 +201,7 @@ fn schedule_form(given: &ArgMatches<'_>) -> ScheduleForm {
 /// Why the numbers of windows are refused.
 const WINDOWS: &str = "`--windows` and `--window` take numbers in decimal digits";
 
-/// The event at which the window begins that `cut` is asked for.
+/// The event at which the window of `cut` begins; 0 without `--window`.
 fn start(given: &ArgMatches<'_>, into: Option<&str>) -> Result<u32, Unread> {
     let Some(word) = given.get_str("window") else {
         return Ok(0);
@@ -211,7 +212,7 @@ fn start(given: &ArgMatches<'_>, into: Option<&str>) -> Result<u32, Unread> {
     number(word, 0, u32::MAX, WINDOWS)
 }
 
-/// The windows that `cut` is asked for.
+/// The task that the arguments of `cut` name.
 fn window<'a>(given: &ArgMatches<'a>, limits: Limits) -> Result<Task<'a>, Unread>
     ensures { IfOk result (IsWithin limits) }
 {
@@ -224,7 +225,7 @@ fn window<'a>(given: &ArgMatches<'a>, limits: Limits) -> Result<Task<'a>, Unread
     }))
 }
 
-/// What a command is asked for.
+/// The task that the arguments of a command name.
 fn command_task<'a>(
     alloc: Global,
     command: CommandName,
@@ -247,7 +248,7 @@ fn command_task<'a>(
     }
 }
 
-/// What is asked for in the words that `clap` took.
+/// The task that the arguments name. `clap` has accepted them.
 fn task_in<'a>(alloc: Global, given: &ArgMatches<'a>, limits: Limits) -> Result<Task<'a>, Unread>
     ensures { IfOk result (IsWithin limits) }
 {
@@ -260,7 +261,7 @@ fn task_in<'a>(alloc: Global, given: &ArgMatches<'a>, limits: Limits) -> Result<
     }
 }
 
-/// What `clap` finds in the words.
+/// What `clap` finds in the arguments.
 fn matches<'a>(
     alloc: Global,
     words: &'a [String],
@@ -272,7 +273,8 @@ fn matches<'a>(
     }
 }
 
-/// Whether the words are those of `triage`, and the number of `--windows` is a word of its own, which `clap` takes for another.
+/// Whether these are arguments of `triage` in which `--windows` has a number without `=`. `clap` takes it for another
+/// argument.
 fn has_loose_number(words: &[String]) -> bool {
     let mut is_triage = false;
     let mut is_behind = false;
@@ -286,10 +288,10 @@ fn has_loose_number(words: &[String]) -> bool {
     false
 }
 
-/// Why such words are refused.
+/// Why such arguments are refused.
 const LOOSE: &str = "`--windows` takes its number after `=`, as in `--windows=1000`";
 
-/// What is said of words that `clap` does not take.
+/// The text about arguments that `clap` does not accept.
 fn untaken(alloc: Global, words: &[String], limits: Limits, error: &Error) -> Told {
     if error.kind() == ErrorKind::UnknownArgument && has_loose_number(words) {
         return refused(alloc, limits, LOOSE);
@@ -297,7 +299,7 @@ fn untaken(alloc: Global, words: &[String], limits: Limits, error: &Error) -> To
     told_of(alloc, error)
 }
 
-/// What is asked for in the words that `clap` took, or what is said in its place.
+/// The task that the arguments name, or the text to print instead. `clap` has accepted them.
 fn task_or_told<'a>(alloc: Global, given: &ArgMatches<'a>, limits: Limits) -> Result<Task<'a>, Told>
     ensures { IfOk result (IsWithin limits) }
 {
@@ -308,8 +310,8 @@ fn task_or_told<'a>(alloc: Global, given: &ArgMatches<'a>, limits: Limits) -> Re
     }
 }
 
-/// What the words ask for, of which the first is the program's name, or what is said in its place. The numbers of a task are within
-/// the limits.
+/// Returns the task that the arguments name, or the text to print instead. The first argument is the program's name.
+/// The numbers of a task are within the limits.
 pub fn task_of<'a>(alloc: Global, words: &'a [String], limits: Limits) -> Result<Task<'a>, Told>
     ensures { IfOk result (IsWithin limits) }
 {

@@ -1,22 +1,22 @@
-//! What the words may ask for.
+//! The tasks that arguments can name.
 
 use crate::words::Most;
 
-/// How large the numbers among the words may be.
+/// The limits of numbers among the arguments.
 #[derive(Clone, Copy)]
 pub struct Limits {
-    /// How many clients there may be.
+    /// The greatest number of a client.
     pub clients: u32,
-    /// How many workers.
+    /// The most workers.
     pub workers: u32,
-    /// How many pairs of events may be tried for a pair of places.
+    /// The most open pairs of events that may be tried for a pair of locations.
     pub tries: u32,
-    /// How many events a trace may have.
+    /// The most events of a trace.
     pub events: u32,
 }
 
 impl Limits {
-    /// The most that a number may be.
+    /// The greatest value of a number with this limit.
     pub(crate) fn most(&self, most: Most) -> u32 {
         match most {
             Most::Clients => self.clients,
@@ -28,42 +28,42 @@ impl Limits {
     }
 }
 
-/// In which form a schedule is asked for.
+/// The form in which a schedule is printed.
 #[derive(Clone, Copy)]
 pub enum ScheduleForm {
     /// Its events, each with its line of the trace.
     Events,
     /// A script that makes it.
     Script,
-    /// A trace, with the pair behind it.
+    /// A trace, with the pair at its end.
     Trace,
     /// A picture.
     Svg,
 }
 
-/// In which form the races are asked for.
+/// The form in which the races are printed.
 #[derive(Clone, Copy)]
 pub enum RacesForm {
     /// Lines of text.
     Text,
-    /// An object a line.
+    /// JSON lines: an object for each line.
     Json,
-    /// Lines as compilers write them.
+    /// Lines in the form of a compiler's warnings.
     Lines,
     /// A triage file with an entry for each race.
     Entries,
     /// A page.
     Page,
-    /// A log as code-scanning pages take it.
+    /// A SARIF log for code-scanning pages.
     Sarif,
 }
 
-/// What a word names of a trace.
+/// What an argument names in a trace.
 #[derive(Clone, Copy)]
 pub enum Named<'a> {
-    /// The event of this number.
+    /// The event with this number.
     Event(u32),
-    /// The accesses at a place.
+    /// The accesses at this place.
     Place(&'a str),
 }
 
@@ -72,79 +72,79 @@ pub enum Named<'a> {
 pub struct PairTask<'a> {
     /// The path of the trace.
     pub trace: &'a str,
-    /// What names one event.
+    /// One event, by its number or its place.
     pub one: Named<'a>,
-    /// What names the other.
+    /// The other event.
     pub other: Named<'a>,
 }
 
-/// Lines that are answered as they come.
+/// A session: it answers lines as they come.
 #[derive(Clone, Copy)]
 pub struct SessionTask<'a> {
     /// The path of the trace.
     pub trace: &'a str,
     /// The path of the log.
     pub log: &'a str,
-    /// Whose calls the lines are, where they do not say it.
+    /// The client who makes all calls, if the lines do not name one.
     pub client: Option<u32>,
 }
 
-/// Scripts that run at once.
+/// Scripts that run at the same time.
 #[derive(Drop)]
 pub struct ThreadsTask<'a> {
-    /// The paths, that of the trace first and those of the scripts behind it.
+    /// The paths: first that of the trace, and then those of the scripts.
     pub paths: Vec<&'a str>,
-    /// How many workers slice candidates meanwhile.
+    /// How many workers slice candidates in the background.
     pub workers: u32,
-    /// How many seats at a time may queue for the lock, where it is said.
+    /// How many seats may queue for the lock at a time, if the arguments say so.
     pub room: Option<u32>,
 }
 
-/// The races of a trace by pairs of places.
+/// The races of a trace, by pairs of locations.
 #[derive(Drop)]
 pub struct TriageTask<'a> {
     /// The path of the trace.
     pub trace: &'a str,
-    /// The path of what was printed before, whose races are left out.
+    /// The path of an earlier report, whose races are left out.
     pub known: Option<&'a str>,
-    /// Texts of which a block has to hold one, where there are any.
+    /// Texts of which a block must have one, if there are any.
     pub only: Vec<&'a str>,
-    /// Texts of which a block may hold none.
+    /// Texts of which a block may have none.
     pub hide: Vec<&'a str>,
-    /// Whether blocks are printed of what is apart.
+    /// Whether to print the blocks of pairs that are apart.
     pub apart: bool,
-    /// How many open pairs of a pair of places are tried.
+    /// How many open pairs are tried for a pair of locations.
     pub tries: u32,
     /// How many threads share the counting and look for schedules.
     pub workers: u32,
-    /// In which form they are printed.
+    /// The form in which they are printed.
     pub form: RacesForm,
-    /// How many events a window of the trace has at most, if it is read in windows.
+    /// The most events of a window, if the trace is read in windows.
     pub windows: Option<u32>,
-    /// The path of what `record/confirm` wrote, which a page shows beside its races.
+    /// The path of what `record/confirm` wrote, which a page shows with its races.
     pub confirmed: Option<&'a str>,
-    /// The path of the folder of the code, for a log.
+    /// The path of the folder of the code, for a SARIF log.
     pub source: Option<&'a str>,
     /// The path of the triage file, whose races are left out.
     pub triage: Option<&'a str>,
-    /// The day on which its entries must be in force, a number such as 20271231; nothing for today.
+    /// The day on which its entries must be in force, a number such as 20271231; None means today.
     pub today: Option<u32>,
-    /// Whether a race that is printed makes the status 3, and a trace without events 4.
+    /// Whether the exit status is 3 if a race is printed, and 4 if the trace has no events.
     pub fail: bool,
-    /// Whether standard error shows how far the work is, even if it is no terminal.
+    /// Whether standard error shows the progress, even if it is not a terminal.
     pub progress: bool,
 }
 
-/// A window of the trace in a file.
+/// Windows of the trace in a file.
 #[derive(Clone, Copy)]
 pub struct CutTask<'a> {
     /// The path of the trace.
     pub trace: &'a str,
-    /// The event at which it begins.
+    /// The event at which the window begins.
     pub from: u32,
-    /// The most events that it has, at least one.
+    /// The most events of a window, at least one.
     pub most: u32,
-    /// The path of the folder into which all windows are written, if one is named.
+    /// The path of the folder into which all windows are written, if there is one.
     pub into: Option<&'a str>,
 }
 
@@ -153,49 +153,49 @@ pub struct CutTask<'a> {
 pub struct MergeTask<'a> {
     /// The paths of the parts, at least one.
     pub parts: Vec<&'a str>,
-    /// The path of what was printed before, whose races are left out.
+    /// The path of an earlier report, whose races are left out.
     pub known: Option<&'a str>,
-    /// Texts of which a block has to hold one, where there are any.
+    /// Texts of which a block must have one, if there are any.
     pub only: Vec<&'a str>,
-    /// Texts of which a block may hold none.
+    /// Texts of which a block may have none.
     pub hide: Vec<&'a str>,
-    /// Whether blocks are printed of what is apart.
+    /// Whether to print the blocks of pairs that are apart.
     pub apart: bool,
-    /// In which form: text, an object a line, a page, or a log.
+    /// The form of the report: text, JSON lines, a page, or a SARIF log.
     pub form: RacesForm,
-    /// The path of the folder of the code, for a log.
+    /// The path of the folder of the code, for a SARIF log.
     pub source: Option<&'a str>,
     /// The path of the triage file, whose races are left out.
     pub triage: Option<&'a str>,
-    /// The day on which its entries must be in force, a number such as 20271231; nothing for today.
+    /// The day on which its entries must be in force, a number such as 20271231; None means today.
     pub today: Option<u32>,
-    /// Whether a race that is printed makes the status 3.
+    /// Whether the exit status is 3 if a race is printed.
     pub fail: bool,
 }
 
-/// What the words ask for.
+/// The task that the arguments name.
 #[derive(Drop)]
 pub enum Task<'a> {
-    /// No words: the joint text on standard input.
+    /// No arguments: the joint text on standard input.
     Joint,
-    /// What the trace in this file holds.
+    /// The counts of the trace in this file.
     Info(&'a str),
     /// The script in the second file, on the trace in the first.
     Replay(&'a str, &'a str),
-    /// The lines on standard input as they come, on the trace in a file and the log in another.
+    /// The lines on standard input as they come, with the trace in one file and the log in another.
     Session(SessionTask<'a>),
     /// The lines of the log in this file.
     Log(&'a str),
-    /// The scripts in files at once, on the trace in another.
+    /// The scripts in several files at the same time, on the trace in another file.
     Threads(ThreadsTask<'a>),
-    /// The races of a trace by pairs of places.
+    /// The races of a trace, by pairs of locations.
     Triage(TriageTask<'a>),
-    /// What is found of a pair, with all runs of its schedule or the last.
+    /// The finding on a pair, with all runs of its schedule or only the last ones.
     Explain(PairTask<'a>, bool),
     /// The schedule that shows a pair, in this form.
     Witness(PairTask<'a>, ScheduleForm),
-    /// A window of a trace.
+    /// Windows of a trace.
     Cut(CutTask<'a>),
-    /// One report of many.
+    /// One report from many.
     Merge(MergeTask<'a>),
 }

@@ -1,22 +1,22 @@
-//! What is said where the words name nothing to do: help, or why they are refused.
+//! The text to print if the arguments name no task: help, or why they are refused.
 
 use crate::building::words_taken;
 use crate::task::Limits;
 use clap::error::{Error, ErrorKind};
 use std::alloc::{AllocError, Global};
 
-/// What is said in place of a task.
+/// What to print instead of doing a task.
 #[derive(Drop)]
 pub enum Told {
-    /// Help or the version, which the words ask for: a text for standard output.
+    /// Help or the version, as the arguments requested: a text for standard output.
     Help(String),
-    /// Why the words are refused: a text for standard error.
+    /// Why the arguments are refused: a text for standard error.
     Refusal(String),
-    /// There was no memory to read the words.
+    /// Out of memory while reading the arguments.
     OutOfMemory,
 }
 
-/// What `clap` says, as a text.
+/// The text that `clap` has for an error.
 pub(crate) fn told_of(alloc: Global, error: &Error) -> Told {
     if error.kind() == ErrorKind::OutOfMemory {
         return Told::OutOfMemory;
@@ -33,7 +33,7 @@ pub(crate) fn told_of(alloc: Global, error: &Error) -> Told {
     }
 }
 
-/// A refusal that `clap` itself does not make, in its form.
+/// A refusal that `clap` itself does not make, in the form of `clap`.
 fn refusal_of(alloc: Global, limits: Limits, text: &str) -> Result<Error, AllocError> {
     match words_taken(alloc, limits) {
         Ok(mut words) => words.error(ErrorKind::InvalidValue, text),
@@ -41,7 +41,7 @@ fn refusal_of(alloc: Global, limits: Limits, text: &str) -> Result<Error, AllocE
     }
 }
 
-/// The refusal of words for this reason.
+/// The refusal of arguments for this reason.
 pub(crate) fn refused(alloc: Global, limits: Limits, text: &str) -> Told {
     match refusal_of(alloc, limits, text) {
         Ok(error) => told_of(alloc, &error),
@@ -49,7 +49,7 @@ pub(crate) fn refused(alloc: Global, limits: Limits, text: &str) -> Told {
     }
 }
 
-/// The refusal of words that are no text, which never come to `task_of`.
+/// The refusal of arguments that are not text. They never reach `task_of`.
 pub fn no_text(alloc: Global, limits: Limits) -> Told {
     refused(alloc, limits, "the words are no text")
 }

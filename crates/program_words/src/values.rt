@@ -1,14 +1,14 @@
-//! What a single word says: a number, a name, a date, or a path.
+//! Reads a single argument: a number, a name, a date, or a path.
 ghost use Rattle.std.specs.Prelude.{◌≤◌, IfOk};
 
 use crate::task::Named;
 use std::alloc::AllocError;
 
-/// Why words that `clap` takes are refused all the same.
+/// Why arguments that `clap` accepts are refused.
 pub(crate) enum Unread {
     /// For this reason.
     Refused(&'static str),
-    /// There was no memory.
+    /// Out of memory.
     OutOfMemory,
 }
 
@@ -18,13 +18,13 @@ impl From<AllocError> for Unread {
     }
 }
 
-/// Whether the word is one or more decimal digits.
+/// Whether the argument is one or more decimal digits.
 pub(crate) fn is_number(word: &str) -> bool {
     !word.is_empty() && word.as_bytes().iter().all(|byte| byte.is_ascii_digit())
 }
 
-/// The number that the word is, from `least` to `most`. `clap` has seen to the bounds, and takes a sign before the digits, which is
-/// refused for this reason.
+/// The argument as a number from `least` to `most`. `clap` has checked the limits, but accepts a sign before the
+/// digits. A number with a sign is refused for this reason.
 pub(crate) fn number(word: &str, least: u32, most: u32, reason: &'static str) -> Result<u32, Unread>
     ensures { IfOk result (λ n. (least ≤ n) × (n ≤ most)) }
 {
@@ -37,8 +37,8 @@ pub(crate) fn number(word: &str, least: u32, most: u32, reason: &'static str) ->
     }
 }
 
-/// What the word names: digits an event, any other word a place. A number that is larger than any event is one that no
-/// trace has.
+/// What the argument names: digits are an event, anything else is a place. A number that does not fit in 32 bits
+/// becomes an event that no trace has.
 pub(crate) fn named(word: &str) -> Named<'_> {
     if is_number(word) {
         Named::Event(word.parse::<u32>().unwrap_or(u32::MAX))
@@ -47,10 +47,10 @@ pub(crate) fn named(word: &str) -> Named<'_> {
     }
 }
 
-/// The path that stands for standard input.
+/// The path that means standard input.
 pub(crate) const STANDARD: &str = "-";
 
-/// How many of the paths are that of standard input.
+/// How many of the paths are standard input.
 fn standards(paths: &[&str]) -> u32 {
     let mut count = 0u32;
     for path in paths {
@@ -61,12 +61,12 @@ fn standards(paths: &[&str]) -> u32 {
     count
 }
 
-/// Whether more than one of the paths in the two lists is that of standard input.
+/// Whether more than one path of the two lists is standard input.
 pub(crate) fn share_input(paths: &[&str], others: &[&str]) -> bool {
     standards(paths).saturating_add(standards(others)) > 1
 }
 
-/// A refusal if more than one of the paths in the two lists is that of standard input.
+/// Refuses more than one path that is standard input.
 pub(crate) fn check_inputs(paths: &[&str], others: &[&str]) -> Result<(), Unread> {
     if share_input(paths, others) {
         return Err(Unread::Refused("`-` is standard input, and may be given once"));
@@ -74,7 +74,7 @@ pub(crate) fn check_inputs(paths: &[&str], others: &[&str]) -> Result<(), Unread
     Ok(())
 }
 
-/// A date such as 2027-12-31 as the number 20271231, if there is one.
+/// A date such as 2027-12-31 as the number 20271231, if one is given. It is refused unless `may_be` is true.
 pub(crate) fn day(word: Option<&str>, may_be: bool) -> Result<Option<u32>, Unread> {
     let Some(word) = word else {
         return Ok(None);
@@ -88,7 +88,7 @@ pub(crate) fn day(word: Option<&str>, may_be: bool) -> Result<Option<u32>, Unrea
     }
 }
 
-/// The number of a date.
+/// The number of a date. Returns None if it is not a date.
 fn day_of(word: &[u8]) -> Option<u32> {
     if word.len() != 10 || word[4] != b'-' || word[7] != b'-' {
         return None;
@@ -107,7 +107,7 @@ fn day_of(word: &[u8]) -> Option<u32> {
     }
 }
 
-/// How many days a month has; none if no month has this number.
+/// How many days a month has; 0 if no month has this number.
 fn days_of(year: u32, month: u32) -> u32 {
     match month {
         2 => { if is_leap(year) { 29 } else { 28 } }
@@ -117,12 +117,12 @@ fn days_of(year: u32, month: u32) -> u32 {
     }
 }
 
-/// Whether the year has a day more.
+/// Whether the year is a leap year.
 fn is_leap(year: u32) -> bool {
     year % 4 == 0 && (year % 100 != 0 || year % 400 == 0)
 }
 
-/// The number with one more digit.
+/// The number with one more digit. Returns None if the byte is not a digit.
 fn with_digit(number: u32, digit: u8) -> Option<u32> {
     if !(b'0' <= digit && digit <= b'9') {
         return None;

@@ -1,74 +1,74 @@
-//! What a command takes: the form of its words.
+//! The form of the arguments that a command takes.
 
-/// What is said of a command, or of the program itself, and the words that it takes.
+/// What help says about a command, or about the program itself, and the arguments that it takes.
 #[derive(Clone, Copy)]
 pub(crate) struct Words {
     pub(crate) name: &'static str,
-    /// What it does.
+    /// What the command does.
     pub(crate) about: &'static str,
-    /// What help says behind the words.
+    /// What help says after the arguments.
     pub(crate) example: &'static str,
     pub(crate) words: &'static [Word],
 }
 
-/// A word behind a command.
+/// An argument of a command.
 pub(crate) struct Word {
-    /// Its name, by which it is read; a flag is this name behind two hyphens.
+    /// The name by which it is read. An option has two hyphens before its name.
     pub(crate) name: &'static str,
     pub(crate) kind: Kind,
-    /// What help says of it; it names no word of which it says nothing.
+    /// What help says about it. Without such a text, help does not list the argument.
     pub(crate) help: Option<&'static str>,
 }
 
-/// What kind of word it is.
+/// The kind of argument.
 #[derive(Clone, Copy)]
 pub(crate) enum Kind {
-    /// A word that has to be there.
+    /// A required argument.
     Needed,
-    /// Words of which one has to be there.
+    /// One or more required arguments.
     SeveralNeeded,
-    /// A flag, which may not stand beside these.
+    /// A flag, with the flags that it conflicts with.
     Flag(&'static [&'static str]),
-    /// A flag with a text behind it, which help calls so.
+    /// An option with a text. Help prints this name for the text.
     Text(&'static str),
-    /// The same, which may be given again.
+    /// The same, and it may be repeated.
     Texts(&'static str),
-    /// A flag with a number behind it.
+    /// An option with a number.
     Number {
-        /// The least that it may be.
+        /// The least value.
         least: u32,
-        /// The most.
+        /// The greatest value.
         most: Most,
-        /// The number where the flag is not there.
+        /// The number if the option is missing.
         default: Option<&'static str>,
     },
-    /// A flag with a number behind a sign of equality, or without one.
+    /// An option with a number after `=`, or without a number.
     Optional {
-        /// The least that it may be.
+        /// The least value.
         least: u32,
-        /// The most.
+        /// The greatest value.
         most: Most,
-        /// The number that the flag alone stands for.
+        /// The number if the option has none.
         missing: &'static str,
     },
 }
 
-/// Which limit a number has.
+/// The limit of a number.
 #[derive(Clone, Copy)]
 pub(crate) enum Most {
-    /// That of clients.
+    /// The limit of clients.
     Clients,
-    /// That of workers.
+    /// The limit of workers.
     Workers,
-    /// That of tries.
+    /// The limit of tries.
     Tries,
-    /// That of the events of a trace.
+    /// The limit of events in a trace.
     Events,
-    /// That of the numbers of events of a longer trace.
+    /// The limit of event numbers, also of traces that are read in windows.
     Numbers,
 }
 
-/// The file of a trace, which may be standard input.
+/// The file of a trace. It may be standard input.
 pub(crate) const TRACE: Word = Word {
     name: "TRACE",
     kind: Kind::Needed,

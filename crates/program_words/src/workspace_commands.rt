@@ -1,4 +1,4 @@
-//! The commands that run scripts, and those of sessions, each with its words.
+//! The commands that run scripts, and those of sessions, each with its arguments.
 
 use crate::words::{Kind, Most, TRACE, Word, Words};
 
@@ -104,7 +104,7 @@ and post them as one extra client. A slice is the least that has to come before 
             },
             help: Some("Threads that slice candidates in the background, 0 to 16"),
         },
-        // It is for the tests, which judge how calls are mixed.
+        // Only tests use it. They judge how calls are mixed.
         Word {
             name: "room",
             kind: Kind::Number {

@@ -1,4 +1,4 @@
-//! What the words of the commands that run scripts ask for.
+//! Reads the arguments of the commands that run scripts.
 ghost use Rattle.std.specs.Prelude.{◌≤◌, IfOk};
 ghost use Rattle.program_words.specs.Tasks.{IsWithin};
 
@@ -8,7 +8,7 @@ use crate::values::{STANDARD, Unread, check_inputs, number, share_input};
 use clap::ArgMatches;
 use std::alloc::{AllocError, Global};
 
-/// The two files that `replay` is asked for.
+/// The task that the arguments of `replay` name.
 pub(crate) fn replay<'a>(given: &ArgMatches<'a>, limits: Limits) -> Result<Task<'a>, Unread>
     ensures { IfOk result (IsWithin limits) }
 {
@@ -18,7 +18,7 @@ pub(crate) fn replay<'a>(given: &ArgMatches<'a>, limits: Limits) -> Result<Task<
     Ok(Task::Replay(trace, script))
 }
 
-/// What `session` is asked for.
+/// The task that the arguments of `session` name.
 pub(crate) fn session<'a>(given: &ArgMatches<'a>, limits: Limits) -> Result<Task<'a>, Unread>
     ensures { IfOk result (IsWithin limits) }
 {
@@ -39,14 +39,14 @@ pub(crate) fn session<'a>(given: &ArgMatches<'a>, limits: Limits) -> Result<Task
     Ok(Task::Session(SessionTask { trace, log, client }))
 }
 
-/// The paths that `threads` is given, that of the trace first.
+/// The paths that `threads` was given, that of the trace first.
 fn paths<'a>(alloc: Global, given: &ArgMatches<'a>) -> Result<Vec<&'a str>, AllocError> {
     let mut paths = Vec::from_slice(alloc, &[word(given, "TRACE")])?;
     paths.extend_from_slice(given.get_strs("SCRIPT").unwrap_or(&[]))?;
     Ok(paths)
 }
 
-/// How many workers `threads` is asked for, or a refusal of the paths that it is given.
+/// The number of workers of `threads`. Refuses paths that do not go together.
 fn workers(given: &ArgMatches<'_>, limits: Limits) -> Result<u32, Unread>
     ensures { IfOk result (λ n. n ≤ limits.workers) }
 {
@@ -63,7 +63,7 @@ fn workers(given: &ArgMatches<'_>, limits: Limits) -> Result<u32, Unread>
     Ok(workers)
 }
 
-/// What `threads` is asked for.
+/// The task that the arguments of `threads` name.
 pub(crate) fn threads<'a>(
     alloc: Global,
     given: &ArgMatches<'a>,
