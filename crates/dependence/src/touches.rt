@@ -47,7 +47,7 @@ impl Touches {
         Ok(Touches::keyed(alloc, TextKeyed::of(&[])))
     }
 
-    /// The same, with hashers for the names that the caller has keyed.
+    /// The same. The caller gives the keyed hashers for the names.
     pub fn keyed(alloc: Global, hashers: TextKeyed) -> Touches
         ensures { (x : List ℕ) → under result x ≡ [] }
     {

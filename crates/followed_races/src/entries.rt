@@ -24,7 +24,7 @@ pub struct Followed {
     pub ended: Vec<u8>,
     /// What `record/follow` printed about the race.
     pub text: Vec<u8>,
-    /// Whether the two accesses were on the same memory; None if the line has no such member.
+    /// Whether the two accesses were on the same memory; None if the line does not say so.
     pub same_memory: Option<bool>,
     /// How the program ended with A first.
     pub first: Vec<u8>,

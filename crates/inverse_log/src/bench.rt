@@ -43,7 +43,7 @@ pub struct Bench {
     log: Vec<Entry>,
     // for each entry what takes it back, if it did commands and was not undone
     steps: Vec<Kept>,
-    // for what wants a box
+    // the box for the next inverse that needs one
     spare: Spare,
     touches: Touches,
     clients: Clients,
@@ -77,7 +77,7 @@ impl Bench {
         Bench::keyed(alloc, indexed, hashers)
     }
 
-    /// The same, with hashers for the names of schedules that the caller has keyed.
+    /// The same. The caller gives the keyed hashers for the names of schedules.
     pub fn keyed(
         alloc: Global,
         indexed: Arc<Indexed, Global>,

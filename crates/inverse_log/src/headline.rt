@@ -13,8 +13,8 @@ pub fn undo_is_refused_exactly()
     ensures { UndoIsRefusedExactly }
 {}
 
-/// An undo by number is refused exactly if a later live command touches a name that the entry to take back wrote,
-/// whenever that entry was made.
+/// An undo by number is refused exactly if a later live command touches a name that the entry to take back wrote. It
+/// does not matter when that entry was made.
 pub fn undo_at_is_refused_exactly()
     ensures { UndoAtIsRefusedExactly }
 {}

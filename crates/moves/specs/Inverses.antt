@@ -14,7 +14,7 @@ use Rattle.moves.specs.declared.inverse.Step.TheVariants.{Goes, Comes, Was, Lose
 use Rattle.moves.specs.Rows.{Rows, row_of, with_row, IsFree}
 use Rattle.moves.specs.Moves.{front}
 
--- the schedule with these events in place of its own
+-- the schedule with these events instead of its own
 abbrev pub with_list : Scheduled → List ℕ → Scheduled
 with_list s P = record { trace = s.trace; events = P }
 

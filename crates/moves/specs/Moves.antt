@@ -19,7 +19,7 @@ use Rattle.moves.specs.Rows.{Rows, row_of, with_row}
 abbrev pub new_row : Recording → ℕ → List ℕ → Row
 new_row T n P = record { birth = n; schedule = record { trace = T; events = P } }
 
--- the row with these events in place of its own
+-- the row with these events instead of its own
 abbrev pub with_events : Row → List ℕ → Row
 with_events r P = record { birth = r.birth; schedule = record { trace = r.schedule.trace; events = P } }
 

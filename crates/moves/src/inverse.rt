@@ -23,7 +23,7 @@ pub enum Step {
     Loses,
     /// This event is appended.
     Gains(u32),
-    /// The events at this index and the next change places.
+    /// The events at this index and the next are exchanged.
     Exchanges(u32),
 }
 

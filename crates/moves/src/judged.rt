@@ -33,7 +33,7 @@ pub(crate) enum Judged<'a> {
     Loses,
     /// This event is appended.
     Gains(u32),
-    /// The events at this index and the next change places.
+    /// The events at this index and the next are exchanged.
     Exchanges(u32),
 }
 

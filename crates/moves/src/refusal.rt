@@ -15,7 +15,7 @@ pub enum MoveRefusal {
     NothingToRetract,
     /// 46: the event is not enabled.
     Disabled(Disabled),
-    /// 47: the two neighbours may not change places.
+    /// 47: the two neighbours cannot be exchanged.
     Swap(SwapRefusal),
     /// 48: the schedule has fewer events than the branch copies.
     TooShort,

@@ -53,7 +53,7 @@ impl Workspace {
         Ok(Workspace::keyed(alloc, TextKeyed::of(b"")))
     }
 
-    /// The same, with hashers for the names that the caller has keyed.
+    /// The same. The caller gives the keyed hashers for the names.
     pub fn keyed(alloc: Global, hashers: TextKeyed) -> Workspace
         ensures { result ≡ [] }
     {

@@ -190,7 +190,7 @@ pub enum Task<'a> {
     Threads(ThreadsTask<'a>),
     /// The races of a trace, by pairs of locations.
     Triage(TriageTask<'a>),
-    /// The finding on a pair, with all runs of its schedule or only the last ones.
+    /// The finding on a pair. The flag says whether to print all runs of its schedule, or only the last ten.
     Explain(PairTask<'a>, bool),
     /// The schedule that shows a pair, in this form.
     Witness(PairTask<'a>, ScheduleForm),

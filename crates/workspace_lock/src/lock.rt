@@ -33,7 +33,7 @@ pub struct Opening {
     pub clients: u32,
 }
 
-/// The rule that the words, the slot and all places keep.
+/// The rule that the three words, the slot and all places keep.
 pub struct Order;
 
 impl TableRule<Option<BoxedBench>, View, Opening> for Order {

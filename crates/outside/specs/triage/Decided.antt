@@ -1,4 +1,5 @@
--- What the verdicts of triage mean, without places and counts. `r` is the recording of a trace, `T` its events.
+-- What the verdicts of triage mean, without numbers of locations and without counts. `r` is the recording of a trace,
+-- `T` its events.
 use Rattle.std.specs.Prelude.{◌≡◌, ◌⊎◌, ℕ, ◌<◌, List, Contains, length, slice_get}
 use Rattle.rapid_text.specs.Recording.{Recording}
 use Rattle.rapid_text.specs.declared.event.Event.{Event}
