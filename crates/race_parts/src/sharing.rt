@@ -6,7 +6,8 @@ use rapid_text::OutOfMemory;
 use std::alloc::Global;
 use std::hash::{BuildHasherDefault, DefaultHasher, FoldHasher, Hasher};
 
-/// The different locations. The hasher has a key, so that a trace cannot easily choose names that collide.
+/// The different locations. The hash is SipHash-1-3 with a fixed key. So names that were searched for can collide, and
+/// make look-ups slow.
 type Locations<'a> = IndexSet<&'a [u8], BuildHasherDefault<DefaultHasher>>;
 
 /// How many guesses there are: a power of two.
