@@ -7,6 +7,7 @@ ghost use Rattle.race_groups.specs.Holding.{AreHeld, AreKnown};
 ghost use Rattle.race_groups.specs.Takers.{AreTakers};
 
 use crate::class::Class;
+use crate::class_keys::{ClassKeys, class_number};
 use crate::grouping::{Regrouped, grouped};
 use crate::holding::{begin, note};
 use crate::listing::{Holds, Listing};
@@ -15,9 +16,6 @@ use event_index::Indexed;
 use indexmap::IndexSet;
 use rapid_text::{Op, OutOfMemory};
 use std::alloc::Global;
-
-/// The key of a class: its place and its locks, the kind of operation, and its operand.
-type Key = ((u32, u32), (u32, u32));
 
 /// The classes of a trace, and the class of each event.
 #[derive(Drop)]
@@ -104,7 +102,7 @@ impl Regrouped {
 /// The classes of the events so far.
 #[derive(Drop)]
 struct Numbering {
-    keys: IndexSet<Key>,
+    keys: ClassKeys,
     numbers: Vec<u32>,
     infos: Vec<Class>,
     lists: IndexSet<Vec<u32>>,
@@ -123,13 +121,7 @@ fn numbering_of(
     ensures { IfOk result (λ made. AreNumbered indexed.now.events (slice_index places.now) (length indexed.now.events)
         made.numbers.items made.infos.items made.lists.keys) }
 {
-    let mut numbering = Numbering {
-        keys: IndexSet::new(alloc),
-        numbers: Vec::with_capacity(alloc, indexed.len() as usize)?,
-        infos: Vec::new(alloc),
-        lists: IndexSet::new(alloc),
-        listing: Listing::new(alloc, indexed)?,
-    };
+    let mut numbering = Numbering::new(alloc, indexed, places)?;
     let mut held = begin(alloc, indexed)?;
     for event in 0..indexed.len() {
         let holds = Holds {
@@ -144,6 +136,24 @@ fn numbering_of(
 }
 
 impl Numbering {
+    // No event has a number yet.
+    fn new(alloc: Global, indexed: &Indexed, places: &[u32]) -> Result<Numbering, OutOfMemory>
+        ensures known { IfOk result (λ made. AreKnown indexed.now.events 0 made.lists.keys made.listing.known.items) }
+        ensures threads { IfOk result (λ made. length made.listing.known.items ≡ length indexed.now.threads) }
+        ensures numbered { IfOk result (λ made. AreNumbered indexed.now.events (slice_index places.now) 0
+            made.numbers.items made.infos.items made.lists.keys) }
+    {
+        let keys = ClassKeys::new(alloc, places)?;
+        let listing = Listing::new(alloc, indexed)?;
+        Ok(Numbering {
+            keys,
+            numbers: Vec::with_capacity(alloc, indexed.len() as usize)?,
+            infos: Vec::new(alloc),
+            lists: IndexSet::new(alloc),
+            listing,
+        })
+    }
+
     // Adds the next event.
     fn add(&mut self, holds: Holds<'_>, places: &[u32], event: u32) -> Result<(), OutOfMemory>
         requires event { event < length holds.indexed.now.events }
@@ -172,28 +182,6 @@ impl Numbering {
         self.numbers.push(number)?;
         Ok(())
     }
-}
-
-// The number of the class. If it is new, the function appends it.
-fn class_number(
-    keys: &mut IndexSet<Key>,
-    infos: &mut Vec<Class>,
-    class: Class,
-) -> Result<u32, OutOfMemory>
-    requires few { length infos.old.items < 1048576 }
-    ensures found { IfOk result (λ n. slice_get infos.new.items n ≡ Some class) }
-    ensures grown { OnOk result ((infos.new.items ≡ infos.old.items) ⊎ (infos.new.items ≡ infos.old.items ++ class ∷ [])) }
-{
-    let key = key_of(class);
-    if let Some(at) = keys.get_index_of(&key) {
-        if is_at(infos.as_slice(), at, class) {
-            return Ok(at as u32);
-        }
-    }
-    let at = infos.len() as u32;
-    infos.push(class)?;
-    keys.insert(key)?;
-    Ok(at)
 }
 
 /// Whether the class is at this index.
@@ -269,23 +257,7 @@ fn add_member(members: &mut Vec<Vec<u32>>, infos: &[Class], class: usize) -> Res
     Ok(())
 }
 
-fn key_of(class: Class) -> Key {
-    ((class.place, class.held), word_of(class.op))
-}
-
-// The kind of the operation, and its operand.
-fn word_of(op: Op) -> (u32, u32) {
-    match op {
-        Op::Read(variable) => (0, variable),
-        Op::Write(variable) => (1, variable),
-        Op::Acquire(lock) => (2, lock),
-        Op::Release(lock) => (3, lock),
-        Op::Fork(thread) => (4, thread),
-        Op::Join(thread) => (5, thread),
-    }
-}
-
-/// The variable that the operation accesses, or None.
+/// The variable that the operation accesses, where it does.
 pub(crate) fn variable_of(op: Op) -> Option<u32>
     ensures some { IfSome result (λ x. is_access x op ≡ true) }
     ensures one { IfSome result (λ x. (y : ℕ) → is_access y op ≡ true → y ≡ x) }

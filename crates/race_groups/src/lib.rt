@@ -5,6 +5,7 @@ mod apart;
 mod basis;
 mod below;
 mod class;
+mod class_keys;
 mod classes;
 mod counted;
 mod counting;
