@@ -1,5 +1,5 @@
 //! Each method makes its call of the system, and then notes it with its answer.
-ghost use Rattle.std.specs.Prelude.{◌≡◌, ◌≢◌, ◌+◌, ◌<◌, ◌^◌, [], ◌∷◌, length, true, false, Err, IfOk, IsOk, IsErrOf};
+ghost use Rattle.std.specs.Prelude.{◌≡◌, ◌≢◌, ◌+◌, ◌<◌, ◌^◌, [], ◌∷◌, length, true, false, Err, IfErr, IfOk, IsOk, IsErrOf};
 ghost use Rattle.kept_host.specs.History.{seen_of, left_of, left_since, faults_of, held_of, found_of};
 ghost use Rattle.kept_host.specs.HistoryLaws.{now_counts, now_only};
 ghost use Rattle.kept_log.specs.declared.device.DeviceError.TheVariants.{Failed, Shorter};
@@ -96,6 +96,7 @@ fn locked(file: &File, alloc: Global, at: usize) -> Result<Vec<u8>, DeviceError>
 fn told(is_done: bool) -> Result<(), DeviceError>
     ensures done { is_done ≡ true → IsOk result }
     ensures failed { is_done ≡ false → result ≡ Err Failed }
+    ensures only { IfErr result (λ why. why ≡ Failed) }
 {
     if is_done {
         return Ok(());

@@ -1,6 +1,6 @@
 //! A file as the log sees it: what a read returns, and what a crash may leave.
 ghost use Rattle.std.specs.Prelude.{◌≡◌, ◌≢◌, ◌≤◌, ◌<◌, ◌^◌, List, ℕ, ◌∷◌, Bool, true, false, Option, Some, None, length, take, drop, IfOk, IfErr, IsErrOf, OnOk, OnErr};
-ghost use Rattle.kept_log.specs.declared.device.DeviceError.TheVariants.{Memory, Shorter};
+ghost use Rattle.kept_log.specs.declared.device.DeviceError.TheVariants.{Memory, Failed, Shorter};
 ghost use Rattle.kept_log.specs.Device.{Only, Follows, Torn, Cut, Holds, Elapses, HasCause, OthersMay, AfterOthers};
 
 use std::alloc::{AllocError, AllocFailed, Global};
@@ -79,7 +79,8 @@ pub trait Device {
         ensures seen { seen self.new ≡ seen self.old }
         ensures crash { (c : List ℕ) → may_leave self.new c → AfterOthers gate (may_leave self.old) c }
         ensures time { Elapses (moment self.old) (moment self.new) (left_since self.old) (left_since self.new) (AfterOthers gate (may_leave self.old)) }
-        ensures cause { HasCause (faults self.old) (faults self.new) result };
+        ensures cause { HasCause (faults self.old) (faults self.new) result }
+        ensures only { IfErr result (λ why. why ≡ Failed) };
 
     /// Writes over what is there, and past the end. Until a sync, a crash may leave any bytes in the range. A
     /// failed call shows what a torn one leaves.
@@ -92,7 +93,11 @@ pub trait Device {
         ensures torn { OnErr result (Torn at (length bytes.now) (seen self.old) (seen self.new)) }
         ensures crash { Follows (Torn at (length bytes.now)) (may_leave self.old) (may_leave self.new) }
         ensures time { Elapses (moment self.old) (moment self.new) (left_since self.old) (left_since self.new) (may_leave self.new) }
-        ensures cause { HasCause (faults self.old) (faults self.new) result };
+        ensures cause { HasCause (faults self.old) (faults self.new) result }
+        ensures not_shorter { IfErr result (λ why. why ≢ Shorter) }
+
+        // Where a growth was refused, nothing was written.
+        ensures memory { IsErrOf result Memory → seen self.new ≡ seen self.old };
 
     /// Cuts the file to a length. A failed call shows some length between.
     fn cut(&mut self, len: usize) -> Result<(), DeviceError>
@@ -104,7 +109,8 @@ pub trait Device {
         ensures short { OnErr result (Cut len (seen self.old) (seen self.new)) }
         ensures crash { Follows (Cut len) (may_leave self.old) (may_leave self.new) }
         ensures time { Elapses (moment self.old) (moment self.new) (left_since self.old) (left_since self.new) (may_leave self.new) }
-        ensures cause { HasCause (faults self.old) (faults self.new) result };
+        ensures cause { HasCause (faults self.old) (faults self.new) result }
+        ensures not_shorter { IfErr result (λ why. why ≢ Shorter) };
 
     /// After it, a crash leaves what a read returns.
     fn sync(&mut self) -> Result<(), DeviceError>
@@ -114,7 +120,8 @@ pub trait Device {
         ensures seen { seen self.new ≡ seen self.old }
         ensures crash { (c : List ℕ) → may_leave self.new c → may_leave self.old c }
         ensures time { Elapses (moment self.old) (moment self.new) (left_since self.old) (left_since self.new) (may_leave self.new) }
-        ensures cause { HasCause (faults self.old) (faults self.new) result };
+        ensures cause { HasCause (faults self.old) (faults self.new) result }
+        ensures only { IfErr result (λ why. why ≡ Failed) };
 
     /// This moment is one of those since an earlier one.
     ghost counts_now: { (file : Self) (t : ℕ) (c : List ℕ) → t ≤ moment file → may_leave file c → left_since file t c };

@@ -1,9 +1,10 @@
 //! The log: opened, and grown by blocks.
 ghost use Rattle.std.specs.Prelude.{◌≡◌, ◌≢◌, ◌≤◌, ◌<◌, ◌+◌, ◌++◌, [], ◌∷◌, All, List, ℕ, length, take, drop, IfOk, OnOk, IfErr, IsErr, IsErrOf, ◌^◌, None, true, false};
 ghost use Rattle.kept_log.specs.Device.{Only, HasCause};
-ghost use Rattle.kept_log.specs.declared.device.DeviceError.TheVariants.{Shorter};
+ghost use Rattle.kept_log.specs.declared.device.DeviceError.{DeviceError};
+ghost use Rattle.kept_log.specs.declared.device.DeviceError.TheVariants.{Memory, Failed, Shorter};
 ghost use Rattle.kept_log.specs.Lines.{IsLine, IsEnd, lines_text};
-ghost use Rattle.kept_log.specs.Log.{EndsBehind, at_rest, lines_behind, head_of, lines_of, IsAtRest, IsKnown, IsLeft, lines_after, HasHead, LacksHead, HasNoLine, IsTextOf, rest_at, rest_of, StandsAt, StandsAfter, StandsIfHeaded, StandsForLog, BeginsWithLog, MayHaveBlock, lines_beyond, OthersLeave, IsKept, IsTooMuch, IsFoundOnce, IsDiskFailure};
+ghost use Rattle.kept_log.specs.Log.{EndsBehind, at_rest, lines_behind, head_of, lines_of, IsAtRest, IsKnown, IsLeft, lines_after, HasHead, LacksHead, HasNoLine, IsTextOf, rest_at, rest_of, StandsAt, StandsAfter, StandsIfHeaded, StandsForLog, BeginsWithLog, MayHaveBlock, lines_beyond, OthersLeave, IsKept, IsTooMuch, IsFoundOnce, IsDiskFailure, HasSameLines};
 ghost use Rattle.kept_log.specs.Moments.{LeavesOnly, LeavesAlso};
 
 use crate::lines::lines_end;
@@ -57,6 +58,7 @@ fn repair<D: Device>(device: &mut D, at: usize) -> Result<(), DeviceError>
     ensures held { D.is_held device.new ≡ true }
     ensures found { D.found device.new ≡ D.found device.old }
     ensures cause { HasCause (D.faults device.old) (D.faults device.new) result }
+    ensures not_shorter { IfErr result (λ why. why ≢ Shorter) }
 {
     // The cut has to be on the disk first: behind a gate that is torn open, what was there would count.
     cut_through(device, at)?;
@@ -85,6 +87,7 @@ fn settle<D: Device>(device: &mut D, at: usize, text: &[u8]) -> Result<usize, De
     ensures held { D.is_held device.new ≡ true }
     ensures found { D.found device.new ≡ D.found device.old }
     ensures cause { HasCause (D.faults device.old) (D.faults device.new) result }
+    ensures not_shorter { IfErr result (λ why. why ≢ Shorter) }
 {
     let end = lines_end(text);
     if text[end..] == [b'!'] {
@@ -107,6 +110,7 @@ pub fn create<D: Device>(alloc: Global, device: &mut D, head: &[u8]) -> Result<(
     ensures held { D.is_held device.new ≡ true }
     ensures found { D.found device.new ≡ D.found device.old }
     ensures cause { HasCause (D.faults device.old) (D.faults device.new) result }
+    ensures not_shorter { IfErr result (λ why. why ≢ Shorter) }
 {
     let mut text = head.to_vec(alloc)?;
     text.push(b'!')?;
@@ -144,6 +148,8 @@ fn find<D: Device>(device: &mut D, head: &[u8], bytes: &[u8]) -> Result<usize, O
     ensures found { D.found device.new ≡ D.found device.old }
     ensures begins { OnOk result (HasHead head.now (D.seen device.old)) }
     ensures sound { OnOk result (D.faults device.new ≡ D.faults device.old) }
+    ensures failed { IsErrOf result (OpenError.Device Failed) → D.faults device.old < D.faults device.new }
+    ensures not_shorter { IfErr result (λ why. why ≢ OpenError.Device Shorter) }
     ensures within { IfOk result (λ len. length head.now + len ≤ length (D.seen device.old)) }
     ensures lines { IfOk result (λ len. IsTextOf head.now bytes.now len (lines_after head.now (D.seen device.old))) }
     ensures len { IfOk result (λ len. len ≡ length (lines_text (lines_after head.now (D.seen device.old)))) }
@@ -179,7 +185,7 @@ fn closed_text(end: usize, block: Block) -> Result<Vec<u8>, AppendError>
     ensures are_lines { All IsLine block }
     ensures fits { OnOk result (end + length (lines_text block) ≤ 2 ^ 60) }
     ensures full { IsErrOf result AppendError.Full → 2 ^ 60 < end + length (lines_text block) }
-    ensures not_disk { ¬ IsDiskFailure result }
+    ensures not_device { (why : DeviceError) → ¬ IsErrOf result (AppendError.Device why) }
 {
     let mut text = block.into_text();
     if text.len() > MAX_LENGTH || end > MAX_LENGTH - text.len() {
@@ -213,6 +219,8 @@ impl<D: Device> KeptLog<D> {
         ensures text { IfOk result (λ r. IsTextOf head.now bytes.now r.1 (lines_of D.Device r.0)) }
         ensures begins { OnOk result (HasHead head.now (D.seen device)) }
         ensures sound { IfOk result (λ opened. D.faults opened.0.device ≡ D.faults device) }
+        ensures failed { IfErr result (λ e. e.0 ≡ OpenError.Device Failed → D.faults device < D.faults e.1) }
+        ensures not_shorter { IfErr result (λ e. e.0 ≢ OpenError.Device Shorter) }
 
         // A file that begins otherwise is refused, and is left as it was.
         ensures refused { IfErr result (λ e. e.0 ≡ OpenError.Stranger → LacksHead head.now (D.seen device)) }
@@ -268,6 +276,7 @@ impl<D: Device> KeptLog<D> {
         ensures kept { (c : List ℕ) → D.may_leave self.new.device c → BeginsWithLog D.Device self.old c }
         ensures any_moment { LeavesOnly D.Device self.old.device self.new.device (BeginsWithLog D.Device self.old) }
         ensures cause { HasCause (D.faults self.old.device) (D.faults self.new.device) result }
+        ensures only { IfErr result (λ why. why ≡ Failed) }
     {
         self.device.release(self.end)
     }
@@ -293,6 +302,7 @@ impl<D: Device> KeptLog<D> {
         ensures view { StandsForLog D.Device self.old (D.seen self.new.device) }
         ensures any_moment { LeavesAlso D.Device self.old.device self.new.device (StandsForLog D.Device self.old) }
         ensures cause { HasCause (D.faults self.old.device) (D.faults self.new.device) result }
+        ensures not_shorter { IfErr result (λ why. why ≢ Shorter) }
     {
         // What another process wrote, and was killed, may be on no disk yet.
         self.device.sync()?;
@@ -323,6 +333,10 @@ impl<D: Device> KeptLog<D> {
         // It doesn't give up by itself, and then nothing is changed.
         ensures memory { IsErrOf result AppendError.OutOfMemory → self.new ≡ self.old }
         ensures failed { IsDiskFailure result → D.faults self.old.device < D.faults self.new.device }
+        ensures not_shorter { IfErr result (λ why. why ≢ AppendError.Device Shorter) }
+
+        // If the device was refused a growth, the lines are those from before.
+        ensures refused { IsErrOf result (AppendError.Device Memory) → HasSameLines D.Device self.old self.new }
         ensures sound { OnOk result (D.faults self.new.device ≡ D.faults self.old.device) }
         ensures full { IsErrOf result AppendError.Full → IsTooMuch self.old block × (self.new ≡ self.old) }
     {

@@ -1,6 +1,7 @@
 //! Calls of a device, each with its sync.
-ghost use Rattle.std.specs.Prelude.{◌≡◌, ◌≤◌, ◌⊎◌, true, length, take, OnOk};
+ghost use Rattle.std.specs.Prelude.{◌≡◌, ◌≢◌, ◌≤◌, ◌⊎◌, true, length, take, IfErr, IsErrOf, OnOk};
 ghost use Rattle.kept_log.specs.Device.{Only, Torn, Cut, Holds, HasCause};
+ghost use Rattle.kept_log.specs.declared.device.DeviceError.TheVariants.{Memory, Shorter};
 ghost use Rattle.kept_log.specs.Moments.{LeavesOnly};
 
 use crate::{Device, DeviceError};
@@ -24,6 +25,10 @@ pub(crate) fn write_through<D: Device>(
     ensures held { D.is_held device.new ≡ true }
     ensures found { D.found device.new ≡ D.found device.old }
     ensures cause { HasCause (D.faults device.old) (D.faults device.new) result }
+    ensures not_shorter { IfErr result (λ why. why ≢ Shorter) }
+
+    // Where a growth was refused, nothing was written.
+    ensures memory { IsErrOf result Memory → D.seen device.new ≡ D.seen device.old }
 {
     device.write_at(at, bytes)?;
     device.sync()
@@ -44,6 +49,7 @@ pub(crate) fn cut_through<D: Device>(device: &mut D, len: usize) -> Result<(), D
     ensures held { D.is_held device.new ≡ true }
     ensures found { D.found device.new ≡ D.found device.old }
     ensures cause { HasCause (D.faults device.old) (D.faults device.new) result }
+    ensures not_shorter { IfErr result (λ why. why ≢ Shorter) }
 {
     device.cut(len)?;
     device.sync()

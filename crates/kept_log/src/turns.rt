@@ -1,10 +1,10 @@
 //! Turns with a log that several processes share: each takes the lock, sees what others added, adds its own, and lets the lock go.
-ghost use Rattle.std.specs.Prelude.{◌≡◌, ◌+◌, ◌<◌, ◌++◌, [], ◌∷◌, None, true, IfOk, OnOk, IsErrOf};
+ghost use Rattle.std.specs.Prelude.{◌≡◌, ◌≢◌, ◌+◌, ◌<◌, ◌++◌, [], ◌∷◌, None, true, IfOk, IfErr, OnOk, IsErrOf};
 ghost use Rattle.kept_log.specs.Moments.{LeavesOnly};
 ghost use Rattle.kept_log.specs.Lines.{kept_lines};
-ghost use Rattle.kept_log.specs.Log.{IsAtRest, IsLeft, HasTurn, IsAsFound, head_of, lines_of, BeginsWithLog, MayHaveBlock, HasGained, IsTooMuch, IsDiskFailure};
-ghost use Rattle.kept_log.specs.declared.device.DeviceError.TheVariants.{Shorter};
-ghost use Rattle.kept_log.specs.declared.turns.EnterError.TheVariants.{Unread};
+ghost use Rattle.kept_log.specs.Log.{IsAtRest, IsLeft, HasTurn, IsAsFound, head_of, lines_of, BeginsWithLog, MayHaveBlock, HasGained, HasSameLines, IsTooMuch, IsDiskFailure};
+ghost use Rattle.kept_log.specs.declared.device.DeviceError.TheVariants.{Memory, Failed, Shorter};
+ghost use Rattle.kept_log.specs.declared.turns.EnterError.TheVariants.{Unread, Unwritten};
 
 use crate::{AppendError, Block, Device, DeviceError, KeptLog};
 use std::alloc::Global;
@@ -38,6 +38,11 @@ impl<D: Device> KeptLog<D> {
 
         // `Shorter` is answered only if the file ended before the gate that is known.
         ensures shorter { IsErrOf result (Unread Shorter) → D.found self.new.device ≡ None ∷ D.found self.old.device }
+        ensures not_shorter { IfErr result (λ why. why ≢ Unwritten Shorter) }
+
+        // `Failed` is answered only if a call of the file failed.
+        ensures unread { IsErrOf result (Unread Failed) → D.faults self.old.device < D.faults self.new.device }
+        ensures unwritten { IsErrOf result (Unwritten Failed) → D.faults self.old.device < D.faults self.new.device }
 
         // A crash at any moment leaves a file whose lines begin with those that were known.
         ensures any_moment { LeavesOnly D.Device self.old.device self.new.device (BeginsWithLog D.Device self.old) }
@@ -70,6 +75,10 @@ impl<D: Device> KeptLog<D> {
         // It doesn't give up by itself, and then nothing is changed.
         ensures memory { IsErrOf result AppendError.OutOfMemory → self.new ≡ self.old }
         ensures failed { IsDiskFailure result → D.faults self.old.device < D.faults self.new.device }
+        ensures not_shorter { IfErr result (λ why. why ≢ AppendError.Device Shorter) }
+
+        // If the device was refused a growth, the lines are those from before.
+        ensures refused { IsErrOf result (AppendError.Device Memory) → HasSameLines D.Device self.old self.new }
         ensures sound { OnOk result (D.faults self.new.device ≡ D.faults self.old.device) }
         ensures full { IsErrOf result AppendError.Full → IsTooMuch self.old block × (self.new ≡ self.old) }
     {

@@ -1,6 +1,8 @@
-use Rattle.std.proofs.Common.{sym, subst}
+use Rattle.std.proofs.Common.{◌≢◌, sym, subst}
+use Rattle.std.proofs.lemmas.Result.{IfErr-weaker}
+use Rattle.kept_log.specs.declared.device.DeviceError.TheVariants.{Shorter}
 use Rattle.kept_log.specs.Device.{Cut}
-use Rattle.kept_log.proofs.MomentLemmas.{stepped, stepped_on, then_cause}
+use Rattle.kept_log.proofs.MomentLemmas.{stepped, stepped_on, then_cause, is_not_shorter}
 use Rattle.kept_log.proofs.FileLemmas.{cut_none, cut_whole}
 use Rattle.kept_log.proofs.steps.cut_through.Goals as goal
 
@@ -19,3 +21,6 @@ returns-clause-any_moment g c =
 
 pub returns-clause-cause : goal.returns-clause-cause
 returns-clause-cause g c = then_cause _ _ _ _ _ c.in_ok-cut.ensures.cause c.sync.ensures.cause
+
+pub returns-clause-not_shorter : goal.returns-clause-not_shorter
+returns-clause-not_shorter g c = IfErr-weaker c.sync.result _ (λ why. why ≢ Shorter) (λ why is. is_not_shorter why is) c.sync.ensures.only

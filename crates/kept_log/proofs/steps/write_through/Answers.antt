@@ -1,6 +1,8 @@
-use Rattle.std.proofs.Common.{sym, subst, length}
+use Rattle.std.proofs.Common.{◌≢◌, sym, subst, length}
+use Rattle.std.proofs.lemmas.Result.{IfErr-weaker}
+use Rattle.kept_log.specs.declared.device.DeviceError.TheVariants.{Shorter}
 use Rattle.kept_log.specs.Device.{Torn}
-use Rattle.kept_log.proofs.MomentLemmas.{stepped, stepped_on, then_cause}
+use Rattle.kept_log.proofs.MomentLemmas.{stepped, stepped_on, then_cause, is_not_shorter, failed_only}
 use Rattle.kept_log.proofs.FileLemmas.{torn_none, torn_whole}
 use Rattle.kept_log.proofs.steps.write_through.Goals as goal
 
@@ -19,3 +21,9 @@ returns-clause-any_moment g c =
 
 pub returns-clause-cause : goal.returns-clause-cause
 returns-clause-cause g c = then_cause _ _ _ _ _ c.in_ok-write_at.ensures.cause c.sync.ensures.cause
+
+pub returns-clause-not_shorter : goal.returns-clause-not_shorter
+returns-clause-not_shorter g c = IfErr-weaker c.sync.result _ (λ why. why ≢ Shorter) (λ why is. is_not_shorter why is) c.sync.ensures.only
+
+pub returns-clause-memory : goal.returns-clause-memory
+returns-clause-memory g c = λ is. absurd (failed_only c.sync.result c.sync.ensures.only is)
