@@ -10,11 +10,22 @@ export const state = {
 // So many signs at the end of a name are the last to be cut.
 const END = 9;
 
+// Letters that are read from right to left. Parts stand from left to right, so a name with such letters is one part.
+const LEFTWARD = /[\u0590-\u08ff\ufb1d-\ufdff\ufe70-\ufefc\u{10800}-\u{10fff}\u{1e800}-\u{1efff}]/u;
+
+// A name that is written as its first letter is: if there is no room, its end is cut and not its beginning.
+function named(kind, text) {
+  const made = el("bdi", kind, text);
+  made.dir = "auto";
+  return made;
+}
+
 // A text in parts: where there is no room for all of it, the folder is cut first, then the front, and the end last.
 function inParts(kind, text, folder = 0, calls = null) {
   const signs = [...text.slice(folder)];
-  const front = signs.length > END + 7 ? signs.slice(0, -END).join("").length : 0;
-  if (!folder && !front && !calls) return el("bdi", `${kind} whole`, text);
+  const isCut = signs.length > END + 7 && !LEFTWARD.test(text.slice(folder));
+  const front = isCut ? signs.slice(0, -END).join("").length : 0;
+  if (!folder && !front && !calls) return named(`${kind} whole`, text);
   const cut = [[text.slice(0, folder), "folder"], [text.slice(folder, folder + front), "front"],
     [text.slice(folder + front), "end"]];
   return el("bdi", kind, cut.map(([part, which]) => (part ? el("span", which, part) : null)), calls);
@@ -39,7 +50,7 @@ export function tag(thread) {
 }
 
 export function who(client) {
-  const made = el("bdi", `who${client === state.client ? " me" : ""}`, clientName(client));
+  const made = named(`who${client === state.client ? " me" : ""}`, clientName(client));
   made.title = ["client", client, state.names[client]].filter(Boolean).join(" ");
   return made;
 }

@@ -335,3 +335,48 @@ async def test_how_a_race_ended(program):
                     "the order matters: the endings differ\na run by itself may not: wait",
                 )
             is_clean(page, screen)
+
+
+# Names that are read from right to left, as the first and the last of their letters stand; and names whose blanks are
+# not drawn as they are.
+LEFTWARD = """(selector) => {
+  const [text, box] = [document.querySelector(selector)?.firstChild, document.querySelector(selector)];
+  if (text?.nodeType !== Node.TEXT_NODE) return "in parts";
+  const at = (from) => {
+    const range = document.createRange();
+    range.setStart(text, from);
+    range.setEnd(text, from + 1);
+    return range.getBoundingClientRect();
+  };
+  const [first, last] = [at(0), at(text.length - 1)];
+  const { left, right } = box.getBoundingClientRect();
+  return [first.left > last.left, first.left >= left - 1 && first.right <= right + 1].join();
+}"""
+MERGED = (
+    "[...document.querySelectorAll('bdi')].filter((name) => name.offsetWidth && name.innerText !== name.textContent)"
+    ".map((name) => `${name.parentElement.className}: ${name.innerText}`).join('; ')"
+)
+
+
+async def test_names_from_right_to_left_and_blanks(program):
+    """Such a name is in one piece, and if there is no room its end is cut. Two blanks are not drawn as one."""
+    long = "אבגדהוזחטיכלמנסעפצקרשת" * 2
+    lines = [f"T  one|w({long})|a.c:1", f"שני|r({long})|a.c:2", "T  one|w(a  b   c)|a.c:3", "שני|w(a  b   c)|a.c:4"]
+    traces.write("trace", "\n".join(lines) + "\n")
+    traces.write("log.names", "2 Ada  B\n3 " + long[:22] + "\n")
+    async with Screen(program, "trace", "log") as screen, Browser() as browser:
+        page = await browser.page(screen.link)
+        await page.until("document.querySelectorAll('.race').length > 0")
+        await new(page, 2)
+        await session(program, 2, "add A 0\nadd A 2\n")
+        await session(program, 3, "add A 1\nadd A 3\n")
+        await page.until(f"{ROWS} === 4")
+        where = "#at-0 .name", ".race .variable", "#feed .entry .who"
+        for selector in where:
+            await page.until(f"({LEFTWARD})({json.dumps(selector)}) === 'true,true'", what=selector)
+        await page.until(f"{MERGED} === ''", what=f"blanks as they are: {await page.run(MERGED)}")
+        await page.click(".race")
+        await page.until("!document.getElementById('pair').hidden")
+        await page.until(f"({LEFTWARD})('#pair .name') === 'true,true'")
+        await page.until(f"{MERGED} === ''", what=f"blanks as they are: {await page.run(MERGED)}")
+        is_clean(page, screen)
