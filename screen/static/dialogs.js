@@ -37,20 +37,21 @@ const KEYS = [
   ["Next events", [
     ["↑ ↓  j k", "choose a thread"], ["↵  1–9", "add its next event"], ["⌫", "take the last event back"],
     ["r", "run the thread until it must stop"], ["t", "run it as far as the aim needs"],
-    ["f", "run what it waits for"], ["→", "see what comes, and run to there"],
+    ["f", "run what it waits for"], ["→ ←", "list what comes, fold the list; a click runs to there"],
   ]],
   ["Schedule", [
-    ["↑ ↓", "move the cursor"], ["Alt ↑ ↓", "swap with the neighbour"],
-    ["↵", "open or close a block, go to the write that is read"], ["Home End", "first, last event"],
-    ["b", "branch after the cursor"],
+    ["↑ ↓  j k", "move the cursor"], ["Alt ↑ ↓", "swap with the neighbour"],
+    ["↵", "open or close a block, go to the write that is read"], ["b", "branch after the cursor"],
+    ["v", "show the source around the event"],
   ]],
   ["Work", [
     ["w", "witness of the aim; work on it"], ["e", "start empty towards the aim"], ["x", "why: the explanation"],
-    ["p", "propose the pair that is shown"], ["n", "new schedule"], ["[ ]", "other schedules"],
-    ["u", "undo my latest"], ["s", "mark the log as seen"],
+    ["p", "propose the pair that is shown"], ["n", "new schedule"], ["[ ]", "previous, next schedule"],
+    ["u  Ctrl z", "undo your latest step"], ["s", "mark the log as seen"],
   ]],
   ["Screen", [
-    ["/", "filter races"], ["v", "the source round an event"], ["F6", "next pane"], ["?", "keys"], ["Esc", "close"],
+    ["F6", "next pane"], ["Shift F6", "previous pane"], ["Home End", "first, last line of a list"],
+    ["↵", "open a race, work on its witness"], ["/", "filter the races"], ["?", "keys"], ["Esc", "close"],
   ]],
 ];
 

@@ -385,8 +385,11 @@ async def test_what_was_taken_back_is_struck_out(program):
         is_clean(page, screen)
 
 
+KEYS = "↑ ↓ j k ↵ 1–9 ⌫ r t f → ← Alt b v w e x p n [ ] u Ctrl z s F6 Shift Home End / ? Esc"
+
+
 async def test_keys_are_read_from_their_beginning(program):
-    """In a low window the list is scrolled, and its first lines are in sight at first."""
+    """Each is listed. In a low window the list is scrolled, and its first lines are in sight at first."""
     traces.write("trace", FREE)
     async with Screen(program, "trace", "log") as screen, Browser() as browser:
         page = await browser.page(screen.link, 720, 300)
@@ -396,6 +399,8 @@ async def test_keys_are_read_from_their_beginning(program):
             await page.until("document.getElementById('help').open")
             box = "(({ scrollHeight, clientHeight, scrollTop }) => [scrollHeight > clientHeight, scrollTop])"
             same(await page.run(f"{box}(document.getElementById('help'))"), [True, 0])
+            told = await page.run("[...document.querySelectorAll('#help .key kbd')].map((key) => key.textContent)")
+            same(set(" ".join(told).split()), set(KEYS.split()))
             await page.run("document.getElementById('help').scrollTop = 1e6")
             await page.run("document.getElementById('help').close()")
             await page.run("document.getElementById('keys').click()")
