@@ -42,10 +42,14 @@ function drawn(row, at, isFresh, isOn) {
 }
 
 function proposal(entry) {
+  const [length, adopt] = [many(entry.n, "event"), button("Adopt", "", () => events.adopt(entry))];
+  adopt.setAttribute("aria-label", `Adopt p${entry.p}`);
   const made = el("div", "proposal",
     el("span", "told", el("span", "num", `p${entry.p}`), " shows ", el("span", "num", entry.pair.join("–")),
-      el("span", "dim", ` · ${count(entry.n)}`)),
-    who(entry.c), button("Adopt", "", () => events.adopt(entry)));
+      el("span", "dim", ` · ${length}`)),
+    who(entry.c), adopt);
+  const pair = entry.pair.join(" and ");
+  made.title = `p${entry.p}: ${length} that show ${pair}, proposed by ${clientName(entry.c)} in entry ${entry.i}`;
   made.id = `proposal-${entry.p}`;
   return made;
 }

@@ -456,6 +456,8 @@ async def test_an_undo_of_very_many_entries(program):
         is_clean(page, screen)
 
 
+PROPOSAL = """(({ title, firstChild, lastChild }) => [firstChild.textContent, title, lastChild.ariaLabel].join("; "))(
+  document.querySelector(".proposal"))"""
 PROPOSALS = "[...document.querySelectorAll('.proposal')].map((p) => p.textContent.match(/p\\d+/)[0]).join()"
 
 
@@ -468,6 +470,8 @@ async def test_proposals_of_a_long_log(program):
         page = await browser.page(screen.link)
         latest = "p10,p9,p8,p7,p6,p5"
         await page.until(f"{PROPOSALS} === '{latest}'")
+        line, whole = "p10 shows 7–12 · 11 events", "p10: 11 events that show 7 and 12, proposed by 2 in entry 411"
+        same(await page.run(PROPOSAL), f"{line}; {whole}; Adopt p10")
         older = "[...document.querySelectorAll('#feed button')].find((b) => b.textContent === 'older')"
         for _ in range(2):
             before = await page.run("document.getElementById('feed').textContent.length")
