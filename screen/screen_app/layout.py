@@ -153,7 +153,10 @@ class Layout:
         if kind == READ:
             told["rf"] = sheet.seen(position)
         elif kind == WRITE:
-            told["rd"] = sheet.readers(position, READERS)
+            found = sheet.readers(position, READERS + 1)
+            told["rd"] = found[:READERS]
+            if len(found) > READERS:
+                told["others"] = 1
         if sheet.expanded and sheet.run_start[sheet.run_of(position)] in sheet.expanded:
             told["x"] = 1
         return told
@@ -183,7 +186,6 @@ class Layout:
                 "from": self.row_of(section.begin) if section.begin >= low else first - 1,
                 "to": self.row_of(section.end) if section.end is not None and section.end <= high else last,
                 "open": section.end is None,
-                "above": section.begin < low,
                 "e": sheet.events[section.begin],
             }
             for section in sheet.sections.meeting(low, high)

@@ -47,5 +47,6 @@ export function show(win, position) {
 function saying(row) {
   if (row.rf === -1) return "reads the initial value";
   if (row.rf !== undefined) return `reads the write at ${row.rf}`;
-  return row.rd?.length ? `is read at ${row.rd.join(", ")}` : null;
+  const others = row.others ? " and other positions" : "";
+  return row.rd?.length ? `is read at ${row.rd.join(", ")}${others}` : null;
 }

@@ -75,7 +75,7 @@ export function rails() {
 }
 
 function bar(held, slot) {
-  const made = el("div", `lock${held.open ? " open" : ""}${held.above ? " above" : ""} k${held.lock % 4}`);
+  const made = el("div", `lock${held.open ? " open" : ""} k${held.lock % 4}`);
   made.style.left = `${left(held.t) + 1 + Math.min(slot, 2) * 4}px`;
   made.style.top = `${held.from * HEIGHT + HEIGHT / 2}px`;
   const beyond = held.open ? HEIGHT / 2 : 0; // one that is held still ends with the last row

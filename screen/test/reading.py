@@ -280,15 +280,36 @@ def test_windows_are_parts_of_the_whole(program):
         same((row["p"], layout.row_of(at)), (at, number))
         at += row.get("b", 1)
     same(at, 2900)
+    row_of = [number for number, row in enumerate(whole) for _ in range(row.get("b", 1))]
     for number in range(0, layout.total, 11):  # locks of a window are those that a look over all events finds
-        window = layout.window(number, 11)
-        low, high = window["rows"][0]["p"], window["rows"][-1]["p"] + window["rows"][-1].get("b", 1) - 1
+        last = min(layout.total, number + 11)
+        low, high = row_of.index(number), 2899 - row_of[::-1].index(last - 1)
         held = {
-            (section.lock, section.begin)
+            (
+                section.lock,
+                section.begin,
+                row_of[section.begin] if section.begin >= low else number - 1,  # else right above the window
+                row_of[section.end] if section.end is not None and section.end <= high else last,
+                section.end is None,
+            )
             for section in sheet.sections.all
             if section.begin <= high and (section.end is None or section.end >= low)
         }
-        same({(lock["lock"], sheet.position[lock["e"]]) for lock in window["locks"]}, held)
+        told = {
+            (lock["lock"], sheet.position[lock["e"]], lock["from"], lock["to"], lock["open"])
+            for lock in layout.window(number, 11)["locks"]
+        }
+        same(told, held)
+
+
+def test_the_reads_of_a_write_that_are_named(program):
+    """So many as a line has room for; the page is told whether there are others."""
+    traces.write("reads", "T0|w(x)|a:0\n" + "".join(f"T{at}|r(x)|b:{at}\n" for at in range(1, 27)))
+    for reads, others in ((0, False), (1, False), (24, False), (25, True), (26, True)):
+        sheet = Sheet(Trace("reads").read_at_once())
+        sheet.become(array("I", range(reads + 1)))
+        (write, *_) = Layout(sheet).window(0, 100)["rows"]
+        same((write["rd"], "others" in write), ([*range(1, min(reads, 24) + 1)], others))
 
 
 def test_names_are_made_harmless(program):

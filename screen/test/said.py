@@ -147,6 +147,20 @@ async def test_who_reads_whom(program):
         is_clean(page, screen)
 
 
+async def test_a_write_of_many_reads(program):
+    """Not all of them are named, and the page says so."""
+    traces.write("trace", "T0|w(x)|a:0\n" + "".join(f"T{at}|r(x)|b:{at}\n" for at in range(1, 26)))
+    await session(program, 1, "new A\n" + "".join(f"add A {event}\n" for event in range(26)))
+    async with Screen(program, "trace", "log") as screen, Browser() as browser:
+        page = await browser.page(screen.link)
+        await page.until(f"{LENGTH} === '26 events' && {NEXT} === 0")
+        await focus(page, "stage")
+        await page.key("Home")
+        await page.until(f"{READS} === 'is read at {', '.join(map(str, range(1, 25)))} and other positions'")
+        same(await page.run("document.querySelectorAll('#edges path').length"), 24)
+        is_clean(page, screen)
+
+
 BARS = "[...document.querySelectorAll('.lock')].map((l) => [l.title, l.classList.contains('open'), l.offsetLeft])"
 
 
@@ -171,6 +185,32 @@ async def test_locks_that_are_held_at_once(program):
         tall = "[...document.querySelectorAll('.lock')].map((l) => l.offsetHeight).sort((a, b) => a - b)"
         low, middle, high = await page.run(tall)
         assert low == middle == 44 and high > 140, (low, middle, high)
+        is_clean(page, screen)
+
+
+# How far the bar of a lock reaches above the first row that is drawn, and below the last one, in rows.
+BEYOND = """(() => {
+  const box = (selector) => [...document.querySelectorAll(selector)].map((one) => one.getBoundingClientRect());
+  const [[bar], rows] = [box(".lock"), box("#space .row")];
+  const first = Math.min(...rows.map((row) => row.top));
+  const last = Math.max(...rows.map((row) => row.bottom));
+  return [first - bar.top, bar.bottom - last].map((pixels) => pixels / 22).join();
+})()"""
+
+
+async def test_a_lock_that_is_held_beyond_what_is_drawn(program):
+    """Its bar goes from above the first row that is drawn to below the last one."""
+    lines = [f"T{at % 2}|w(a{at % 2})|a:{at}\n" for at in range(300)]
+    traces.write("trace", "".join(["T0|acq(l)|a:0\n", *lines, "T0|rel(l)|a:1\n"]))
+    await session(program, 1, "new A\n" + "".join(f"add A {event}\n" for event in range(302)))
+    async with Screen(program, "trace", "log") as screen, Browser() as browser:
+        page = await browser.page(screen.link)
+        await page.until(f"{LENGTH} === '302 events' && {BEYOND} === '0.5,-0.5'")  # from above to its release
+        await page.run("document.getElementById('stage').scrollTop = 130 * 22")
+        await page.until("!!document.querySelector('.row[data-p=\"120\"]')")
+        await page.until(f"{BEYOND} === '0.5,0.5'")
+        await page.run("document.getElementById('stage').scrollTop = 0")
+        await page.until(f"{BEYOND} === '-0.5,0.5'")  # from its acquisition
         is_clean(page, screen)
 
 
