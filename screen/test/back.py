@@ -105,6 +105,31 @@ async def explained(page):
     await page.until(EXPLAINED)
 
 
+# A key in the list of races and the browser's back button in one moment: which race is chosen then.
+MOVES_ON = f"""(async () => {{
+  const key = new KeyboardEvent("keydown", {{ key: "ArrowUp", bubbles: true }});
+  document.getElementById("race-list").dispatchEvent(key);
+  for (let turn = 0; turn < 20; turn++) await null;
+  dispatchEvent(new PopStateEvent("popstate", {{ state: {{ pair: [4, 6] }} }}));
+  for (let turn = 0; turn < 20; turn++) await null;
+  return {CHOSEN};
+}})()"""
+
+
+async def test_a_cursor_that_moves_on_is_not_put_back(program):
+    """What is opened while a key moves it is not what it is on. It is looked at soon after."""
+    traces.write("trace", SEVERAL)
+    async with Screen(program, "trace", "log") as screen, Browser() as browser:
+        page = await browser.page(screen.link)
+        await page.until(f"{RACES} === 2")
+        await page.click(".race", 1)
+        await page.until(f"{OPEN} === 'Witness' && {AIM} === '4,6' && {CHOSEN} === 'race-4-6'")
+        await focus(page, "race-list")
+        same(await page.run(MOVES_ON), "race-0-5")
+        await page.until(f"{OPEN} === 'Witness' && {AIM} === '0,5' && {CHOSEN} === 'race-0-5'")
+        is_clean(page, screen)
+
+
 OPEN_ONES = "[...document.querySelectorAll('.sched.on .sched-name')].map((e) => e.textContent).join()"
 ACTIVE = "document.getElementById('row-list').getAttribute('aria-activedescendant')"
 
@@ -282,6 +307,7 @@ async def test_a_witness_without_its_aim(program):
 
 
 FEED = "[...document.querySelectorAll('#feed .entry .at')].map((e) => e.textContent).join()"
+NEWEST = "[...document.querySelectorAll('#feed button')].find((b) => b.textContent === 'newest')"
 OLDER = "[...document.querySelectorAll('#feed button')].find((b) => b.textContent === 'older')"
 
 
@@ -305,6 +331,28 @@ async def test_older_entries_stay_if_the_connection_comes_back(program):
         await session(program, 2, "new C\n")
         await page.until("document.getElementById('feed-count').textContent === '1,002'")
         same(await page.run(FEED), shown)
+        is_clean(page, screen)
+
+
+async def test_the_newest_entries_again(program):
+    """After older ones `newest` shows as many as at first, and what came meanwhile. There `older` goes on."""
+    traces.write("trace", SEVERAL)
+    await session(program, 2, "new A\n" + "new B\ndrop B\n" * 500)
+    async with Screen(program, "trace", "log") as screen, Browser() as browser:
+        page = await browser.page(screen.link)
+        await page.until(f"{FEED}.split(',').length === 120 && {FEED}.startsWith('1000,')")
+        same(await page.run(NEWEST), None)
+        for first, last in ((1000, 681), (1000, 481), (800, 281)):
+            await page.run(f"{OLDER}.click()")
+            await page.until(f"{FEED}.startsWith('{first},') && {FEED}.endsWith(',{last}')")
+        await session(program, 2, "new C\n")
+        await page.until("document.getElementById('feed-count').textContent === '1,002'")
+        same((await page.run(FEED)).split(",")[0], "800")
+        await page.run(f"{NEWEST}.click()")
+        await page.until(f"{FEED}.startsWith('1001,') && {FEED}.endsWith(',882')")
+        same(await page.run(NEWEST), None)
+        await page.run(f"{OLDER}.click()")
+        await page.until(f"{FEED}.startsWith('1001,') && {FEED}.endsWith(',682')")
         is_clean(page, screen)
 
 

@@ -490,6 +490,31 @@ async def test_proposals_of_a_long_log(program):
         is_clean(page, screen)
 
 
+# What the server tells of a log that grows to so many entries while it is looked at.
+GROWS = """import("/feed.js").then((feed) => {
+  for (let n = 300; n <= 9000; n += 300) {
+    const entry = (at) => ({ i: n - 300 + at, c: 2, k: "new", name: "B", w: "new B" });
+    feed.take({ n, entries: Array.from({ length: 300 }, (_, at) => entry(at)).filter(({ i }) => i > 1), rows: {} });
+  }
+  feed.render();
+})"""
+KNOWN = "import('/words.js').then(({ state: { entries: all } }) => [all.size, all.has(2), all.has(8999)].join())"
+
+
+async def test_proposals_that_are_not_left(program):
+    """If the log grows for long the page leaves what nobody looks at, but no proposals."""
+    traces.write("trace", traces.COUNT)
+    await session(program, 2, "new A\npropose 7 12 0 2 3 4 5 6 1 8 9 10 11\n")
+    async with Screen(program, "trace", "log") as screen, Browser() as browser:
+        page = await browser.page(screen.link)
+        await page.until(f"{PROPOSALS} === 'p0'")
+        await page.run(GROWS)
+        await page.until("document.getElementById('feed-count').textContent === '9,000'")
+        same(await page.run(KNOWN), "8000,false,true")
+        same(await page.run(PROPOSALS), "p0")
+        is_clean(page, screen)
+
+
 async def test_an_event_that_is_moved_into_a_block(program):
     """The cursor goes with it, and the next key says what it is on."""
     lines = [f"T0|w(a)|a:{at}\n" for at in range(10)] + ["T1|w(b)|b:1\n", "T0|w(a)|a:10\n"]

@@ -292,6 +292,8 @@ async def test_a_screen_that_is_killed(program):
             same(await page.run(f"[{ROWS}, {NEXT}, {LENGTH}]"), [rows, 2, "300 events"])
         async with Screen(program, "trace", "log", "--port", str(screen.port)) as screen:
             await page.until("document.getElementById('live').textContent.includes('no longer good')")
+            await page.call("Page.reload")  # the key that was refused is not tried again
+            await page.until("document.getElementById('live').textContent.includes('used already')")
             await page.run("window.isOld = true")
             await page.open(screen.link)
             await page.until(f"!window.isOld && {LENGTH} === '300 events' && {NEXT} === 2")
