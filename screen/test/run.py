@@ -27,7 +27,7 @@ def modules():
     if importlib.util.find_spec("aiohttp") is None:
         print("aiohttp is not here: nothing but the reading is tested (apt-get install python3-aiohttp)")
         return
-    yield from ("security", "failing", "limits", "long")
+    yield from ("security", "failing", "limits", "long", "alone")
     if not any(map(os.path.exists, CHROMIUM)):
         print("chromium is not here: what needs a browser is not tested (apt-get install chromium)")
         return

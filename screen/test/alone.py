@@ -1,0 +1,227 @@
+"""Steps by position and their answers, without a page: which entry of another is in the way, and what stays."""
+
+import os
+import sys
+
+sys.path.insert(0, os.path.dirname(os.path.dirname(os.path.abspath(__file__))))
+from judged import same  # noqa: E402
+from live import session  # noqa: E402
+from long import bench_of  # noqa: E402
+from meanwhile import FREE, between  # noqa: E402
+from screen_app import row, steps  # noqa: E402
+from screen_app.shown import NOT_SENT, Shown  # noqa: E402
+from stage import logged  # noqa: E402
+
+# A schedule of four events, after five entries.
+FOUR = ("new A", "add A 0", "add A 1", "add A 2", "add A 3")
+
+
+class Alone:
+    """What a screen has of schedule A, whose page saw the log when it had five entries."""
+
+    def __init__(self, program, calls=FOUR, text=FREE):
+        self.program, self.calls, self.text = program, calls, text
+
+    async def __aenter__(self):
+        self.bench = await bench_of(self.program, self.text)
+        self.bench.mirror.is_followed = True
+        await self.bench.say(*self.calls)
+        return self
+
+    async def __aexit__(self, *_):
+        """The next one begins with no log, and what others do just before a line is done again."""
+        await self.bench.session.stop()
+        for name in filter(lambda one: one == "log" or one.startswith("done-"), os.listdir(".")):
+            os.remove(name)
+
+    async def other(self, *calls):
+        await session(self.program, 2, "".join(f"{call}\n" for call in calls))
+
+    def shown(self, own=(), n=5, name="A"):
+        return Shown(self.bench, name, {"n": n, "own": list(own)})
+
+    def events(self):
+        self.bench.mirror.sync()
+        return list(self.bench.row("A").events)
+
+
+def changed(entry, **more):
+    return {"changed": {"entry": entry, "client": 2, "name": "A", **more}}
+
+
+# What another does, the page's step, and the first entry that changed what the step is about.
+IN_THE_WAY = (
+    (["add A 4"], "back", 5),
+    (["swap A 0", "add A 4"], "back", 6),  # the first is about other events
+    (["back A", "add A 4"], "back", 5),
+    (["swap A 2"], "back", 5),
+    (["swap A 0", "swap A 2"], (2, 1), 6),
+    (["swap A 2", "swap A 0"], (0, 1), 6),
+    (["swap A 2", "swap A 0"], (1, -1), 6),
+    (["swap A 2"], (1, 1), 5),  # the neighbour is another
+    (["swap A 0"], (2, -1), 5),
+    (["drop A", "new A", "add A 0", "add A 1", "add A 2", "add A 3"], "back", 10),
+    (["drop A", "new A", "add A 0"], (2, 1), 6),  # none of them put an event there
+)
+
+
+async def step(shown, what):
+    return await (steps.back(shown) if what == "back" else steps.move(shown, *what))
+
+
+async def test_the_entry_that_is_in_the_way(program):
+    """The step is not made, and the first entry of another that changed its events is named."""
+    for calls, what, entry in IN_THE_WAY:
+        async with Alone(program) as alone:
+            shown = alone.shown()
+            await alone.other(*calls)
+            told = await step(shown, what)
+            moved = {} if what == "back" else {"moved": 0}
+            same((calls, told), (calls, {"answer": NOT_SENT, "made": [], **moved, **changed(entry)}))
+            same(len(logged()), 5 + len(calls))
+
+
+# What another does that is not about the events of the page's step, and what the schedule has after both.
+ELSEWHERE = (
+    (["swap A 0"], "back", [1, 0, 2]),
+    (["add A 4", "back A"], "back", [0, 1, 2]),
+    (["swap A 2", "swap A 2"], "back", [0, 1, 2]),
+    (["swap A 0"], (2, 1), [1, 0, 3, 2]),
+    (["swap A 2"], (0, 1), [1, 0, 3, 2]),
+    (["add A 4"], (3, -1), [0, 1, 3, 2, 4]),
+    (["new B", "add B 4"], "back", [0, 1, 2]),
+)
+
+
+async def test_what_another_does_elsewhere(program):
+    """The step is made, whether the other one comes before the screen's look at the log or after it."""
+    for calls, what, events in ELSEWHERE:
+        line = "back_A" if what == "back" else f"swap_A_{what[0] + min(what[1], 0)}"
+        for path in (program, between(program, **{line: "\n".join(calls)})):
+            async with Alone(path) as alone:
+                alone.program = program
+                shown = alone.shown()
+                if path == program:
+                    await alone.other(*calls)
+                told = await step(shown, what)
+                at = 5 + len(calls)
+                moved = {} if what == "back" else {"moved": 1}
+                same((calls, told), (calls, {"answer": f"{at}: done", "made": [at], **moved}))
+                same(alone.events(), events)
+
+
+async def test_own_steps_are_no_others(program):
+    """What the page did since then is as it was meant, among what others did elsewhere."""
+    async with Alone(program) as alone:
+        await alone.bench.say("add A 4", "swap A 0")
+        told = await steps.back(alone.shown([6]))  # it does not say that the first of them is its own
+        same(told["changed"], {"entry": 5, "client": 1, "name": "A"})
+        await alone.other("swap A 1")
+        told = await steps.back(alone.shown([5, 6]))
+        same((told, alone.events()), ({"answer": "8: done", "made": [8]}, [1, 2, 0, 3]))
+        await alone.bench.say("swap A 2")
+        await alone.other("swap A 2")
+        told = await steps.move(alone.shown([9], n=9), 2, 1)
+        same(told, {"answer": NOT_SENT, "made": [], "moved": 0, **changed(10)})
+
+
+async def test_a_step_that_does_not_say_what_it_saw(program):
+    """It is for the schedule as it is when the step is asked for."""
+    async with Alone(program) as alone:
+        await alone.other("add A 4")
+        same(await steps.back(Shown(alone.bench, "A", None)), {"answer": "6: done", "made": [6]})
+        shown = Shown(alone.bench, "A", None)
+        await alone.other("add A 5")
+        same(await steps.back(shown), {"answer": NOT_SENT, "made": [], **changed(7)})
+        same(await steps.back(alone.shown(name="B")), {"answer": "refused 42 no such schedule", "made": []})
+
+
+async def test_a_step_after_more_changes_than_are_kept(program):
+    """It cannot be said what the events were, so the step is not made."""
+    kept, row.CHANGES = row.CHANGES, 3
+    try:
+        async with Alone(program) as alone:
+            shown = alone.shown()
+            await alone.other("swap A 0", "swap A 0")
+            same((await steps.back(shown))["made"], [7])
+            shown = alone.shown(n=8)
+            await alone.other("swap A 0", "swap A 0", "swap A 0")
+            same(await steps.back(shown), {"answer": NOT_SENT, "made": [], **changed(8)})
+    finally:
+        row.CHANGES = kept
+
+
+async def test_a_step_that_is_taken_back(program):
+    """Its entry and that of the undo are told, and whether it stays."""
+    for does, more, made in (({}, {"made": 6}, [6, 7]), ({"undo_6": "add A 5"}, {"made": 6, "stays": True}, [6])):
+        async with Alone(between(program, back_A="add A 4", **does)) as alone:
+            told = await steps.back(alone.shown())
+            same({**told, "answer": ""}, {"answer": "", "made": made, **changed(5, **more)})
+
+
+# A trace in which T1 may not move over its own events, and T2 may.
+ORDERED = "T1|w(a)|a:0\nT1|w(a)|a:1\nT2|w(b)|b:0\nT2|w(c)|b:1\nT3|w(d)|c:0\n"
+
+
+async def test_how_far_a_move_goes(program):
+    """As far as the program lets it, and what stands in its way is told."""
+    calls = ("new A", *(f"add A {event}" for event in range(5)))
+    for what, moved, stop, events in (
+        ((4, -4), 4, None, [4, 0, 1, 2, 3]),
+        ((4, -1), 1, None, [0, 1, 2, 4, 3]),
+        ((1, -1), 0, (0, 0), [0, 1, 2, 3, 4]),
+        ((1, 3), 3, None, [0, 2, 3, 4, 1]),
+        ((3, -3), 0, (2, 2), [0, 1, 2, 3, 4]),
+        ((0, 3), 0, (0, 1), [0, 1, 2, 3, 4]),
+        ((2, 2), 0, (2, 3), [0, 1, 2, 3, 4]),
+        ((2, -2), 2, None, [2, 0, 1, 3, 4]),
+    ):
+        async with Alone(program, calls, ORDERED) as alone:
+            told = await steps.move(alone.shown(n=6), *what)
+            found = told.get("stop") and (told["stop"]["p"], told["stop"]["with"]["e"])
+            same((what, told["moved"], found, alone.events()), (what, moved, stop, events))
+            same(told["made"], [6] if moved else [])
+    async with Alone(program, (*calls, "swap A 3"), ORDERED) as alone:  # T3 stands between the two of T2
+        told = await steps.move(alone.shown(n=7), 4, -3)
+        same((told["moved"], told["made"], told["stop"]["p"], alone.events()), (1, [7], 2, [0, 1, 2, 3, 4]))
+        told = await steps.move(alone.shown([7], n=7), 2, 2)
+        same((told["moved"], told["stop"]["with"]["e"]), (0, 3))
+        same(await steps.move(alone.shown(n=8), 0, -1), {"moved": 0, "answer": "nothing to move"})
+        same(await steps.move(alone.shown(n=8), 3, 0), {"moved": 0, "answer": "nothing to move"})
+        told = await steps.move(alone.shown(n=8), 4, 1)  # there is no neighbour
+        same((told["moved"], told["made"], "stop" in told), (0, [], False))
+
+
+async def test_how_far_a_run_goes(program):
+    """Up to the first event that may not come, which is told; and what several undos take back."""
+    text = "T1|w(a)|a:0\nT2|w(b)|b:0\nT2|r(a)|b:1\nT2|w(b)|b:2\n"
+    async with Alone(program, ("new A",), text) as alone:
+        told = await steps.Run(alone.bench, "A").to(1, None)
+        same((told["added"], told["entries"], told["stop"]["e"], told["stop"]["code"]), (1, [1], 2, "24"))
+        told = await steps.Run(alone.bench, "A").to(1, None)
+        same((told["added"], told["entries"], told["stop"]["e"]), (0, [], 2))
+        told = await steps.add(alone.bench, "A", 2)
+        same((told["answer"].startswith("refused 46 24 "), told["why"]["code"]), (True, "24"))
+        same(await steps.add(alone.bench, "A", 0), {"answer": "2: done"})
+        told = await steps.Run(alone.bench, "A").to(1, 2)
+        same(told, {"added": 1, "entries": [3], "answer": "3: done"})
+        await alone.other("new B")
+        told = await steps.undo(alone.bench, [3, 4])
+        same((told["undone"], told["made"], "rests" in told), (1, [5], False))
+        same(told["answer"].startswith("refused 58 "), True)
+        told = await steps.undo(alone.bench, [1])
+        same((told["undone"], told["made"], told["rests"]["entry"]["i"], told["rests"]["name"]), (0, [], 2, "A"))
+        told = await steps.undo(alone.bench, [])
+        same((told["answer"], told["undone"], told["made"]), ("6: undone 2", 1, [6]))
+
+
+async def test_a_witness_that_is_entered(program):
+    """It is proposed and adopted in one batch, or the refusal is told."""
+    async with Alone(program, ("new A",), "T1|w(x)|a:0\nT2|w(x)|b:0\n") as alone:
+        events = alone.bench.trace.events_of[0][:0]
+        same(await steps.enter(alone.bench, "B", events, (0, 1)), {"answer": "2: done"})
+        same(logged()[1:], ["1 propose 0 1", "1 batch new B ; adopt B 0"])
+        told = await steps.enter(alone.bench, "C", alone.bench.trace.events_of[0], (0, 1))
+        same((told["answer"].startswith("refused "), len(logged())), (True, 3))
+        told = await steps.enter(alone.bench, "D", alone.bench.trace.events_of[0], None)
+        same(told, {"answer": "4: done", "entries": [3, 4]})
