@@ -113,12 +113,12 @@ async def test_what_another_does_elsewhere(program):
 async def test_own_steps_are_no_others(program):
     """What the page did since then is as it was meant, among what others did elsewhere."""
     async with Alone(program) as alone:
-        await alone.bench.say("add A 4", "swap A 0")
-        told = await steps.back(alone.shown([6]))  # it does not say that the first of them is its own
-        same(told["changed"], {"entry": 5, "client": 1, "name": "A"})
+        await alone.bench.say("swap A 2", "add A 4")
+        told = await steps.back(alone.shown([5]))  # it does not say that the second of them is its own
+        same(told["changed"], {"entry": 6, "client": 1, "name": "A"})
         await alone.other("swap A 1")
         told = await steps.back(alone.shown([5, 6]))
-        same((told, alone.events()), ({"answer": "8: done", "made": [8]}, [1, 2, 0, 3]))
+        same((told, alone.events()), ({"answer": "8: done", "made": [8]}, [0, 3, 1, 2]))
         await alone.bench.say("swap A 2")
         await alone.other("swap A 2")
         told = await steps.move(alone.shown([9], n=9), 2, 1)
@@ -157,6 +157,15 @@ async def test_a_step_that_is_taken_back(program):
         async with Alone(between(program, back_A="add A 4", **does)) as alone:
             told = await steps.back(alone.shown())
             same({**told, "answer": ""}, {"answer": "", "made": made, **changed(5, **more)})
+
+
+async def test_a_refusal_that_is_about_other_events(program):
+    """Another is faster, so the refusal is no answer to what was asked."""
+    text = "T0|w(a)|a:0\nT1|w(b)|a:1\nT1|w(b)|a:2\nT2|w(c)|a:3\n"
+    calls = ("new A", "add A 0", "add A 1", "add A 3", "add A 2")
+    async with Alone(between(program, swap_A_1="swap A 2"), calls, text) as alone:
+        told = await steps.move(alone.shown(), 1, 1)
+        same(told, {"answer": NOT_SENT, "made": [], "moved": 0, **changed(5)})
 
 
 # A trace in which T1 may not move over its own events, and T2 may.
