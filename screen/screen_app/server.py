@@ -234,7 +234,7 @@ class Server:
         for digest in self.bench.trace.digests():
             await self._give_way()
         if digest != self.bench.mirror.digest:
-            self._say_fault("this screen reads the trace otherwise than the program")
+            self._say_fault("this screen reads the trace differently from the program")
 
     async def _give_way(self) -> None:
         """Ends a portion of work that nobody waits for: while the page asks for something, portions are seldom."""

@@ -225,7 +225,7 @@ export function render() {
   }
   if (end !== null && end < state.n) made.unshift(part("newest", "", () => button("newest", "", newest, "plain")));
   if (list.length && list[0].i > 0) made.push(part("older", "", () => button("older", "", older, "plain")));
-  fill($("feed"), made.length ? made : el("p", "empty", "Nothing was done yet."));
+  fill($("feed"), made.length ? made : el("p", "empty", "Nothing has been done yet."));
 }
 
 // Fetches the entries from one to another that are not known.

@@ -89,7 +89,7 @@ function render() {
   const longest = Math.max(0, ...told.next.map((one) => threadName(one.t).length));
   list.style.setProperty("--thread", `${Math.max(4, Math.min(16, longest)) + 1}ch`);
   list.dataset.length = told.length;
-  const empty = told.next.length ? "Nothing matches." : "All events of the trace stand in this schedule.";
+  const empty = told.next.length ? "Nothing matches." : "This schedule has all events of the trace.";
   const lines = sorted().map((one) => line(one, lit));
   const hasFocus = list.contains(document.activeElement);
   fill(list, lines.length ? lines : el("p", "empty", empty));
@@ -183,7 +183,7 @@ function untilField(one, left) {
     key.stopPropagation();
     const until = Number(field.value.replaceAll(",", ""));
     if (field.value.trim() && Number.isInteger(until)) later(() => step("run", { until, thread: one.t }));
-    else events.say("write the number of an event, as the list has it");
+    else events.say("type the number of an event, as in the list");
   });
   return field;
 }

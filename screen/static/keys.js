@@ -20,13 +20,13 @@ const last = () => Math.max(0, (sheet.current()?.length ?? 0) - 1);
 function swap(shown, by) {
   const row = sheet.cursorRow();
   if (!row) return say("choose an event first: ↑ and ↓ move the cursor");
-  return row.b ? say("a block moves no further: Enter opens it") : sheet.swap(shown, row.p, by);
+  return row.b ? say("a block cannot be moved: Enter opens it") : sheet.swap(shown, row.p, by);
 }
 
 function propose() {
   const told = frontier.current();
   if (told?.pairs.length) return act("propose", { view: state.view, pair: best(told) });
-  return say("no pair stands side by side in this schedule");
+  return say("no pair is side by side in this schedule");
 }
 
 // Works on the witness that is looked at, or looks at that of the chosen race.
@@ -41,7 +41,7 @@ const ofAim = (step) => () => (state.aim ? step() : say("open a race first: it i
 const ofSchedule = (step) => () => {
   if (state.rows.has(schedule())) return step();
   if (schedule()) return say(`${schedule()} was dropped: n makes a schedule`);
-  return say(state.view ? "a witness is looked at: w works on it, e starts empty" : "no schedule is open: n makes one");
+  return say(state.view ? "this is a witness: w works on it, e starts empty" : "no schedule is open: n makes one");
 };
 
 // Each waits for the one before it; the race on which the cursor rests is opened first.

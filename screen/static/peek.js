@@ -28,7 +28,7 @@ async function show(node, beside) {
   const told = await ask("source", { place, around: AROUND });
   if (!told.lines) {
     hidePeek();
-    say(told.mistake ?? `below the folder of the source is no line for ${place}`);
+    say(told.mistake ?? `the source folder has no line for ${place}`);
     return;
   }
   fill(peek, el("div", "peek-head", `${told.file}:${told.line}`), told.lines.map((one) => line(told, one)));

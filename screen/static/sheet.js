@@ -12,7 +12,7 @@ import { later } from "./queue.js";
 const AHEAD = 24;
 // The words that stand where there is no event, and their height.
 const NONE_YET = "No events yet. Choose one below.";
-const NONE_NEEDED = "No event is needed before the two.";
+const NONE_NEEDED = "No events are needed before these two.";
 const NOTHING = 36;
 // The farthest that an event is moved at once.
 const FARTHEST = 64;
@@ -246,7 +246,8 @@ export async function enter() {
   const row = cursorRow();
   if (row?.b || (row?.x && !(row.rf >= 0))) await toggle(row.p);
   else if (row?.rf >= 0) await jump(row.rf);
-  else if (row) events.say(row.rf === -1 ? "it reads the initial value" : "it is no block and no read of a write");
+  else if (row?.rf === -1) events.say("it reads the initial value");
+  else if (row) events.say("it is neither a block nor a read of a write");
   else events.say("choose an event first: ↑ and ↓ move the cursor");
 }
 

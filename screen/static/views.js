@@ -106,7 +106,7 @@ export function close() {
 async function check(name) {
   const told = await ask("check", { name });
   if (told.same !== false || state.view?.schedule !== name) return;
-  const why = bad("The program shows this schedule otherwise than it is drawn here. " +
+  const why = bad("The program shows this schedule differently from how it is drawn here. " +
     "Do not go by the drawing; reload the page, and report this.");
   why.setAttribute("role", "alert");
   say(why);
@@ -195,7 +195,7 @@ function titled() {
   }
   if (state.aim && sought) return [heading("Looking for the witness …")];
   if (state.aim && none) return withoutWitness();
-  return [heading("No schedule"), el("span", "dim", "open a race at the left, or make an empty schedule")];
+  return [heading("No schedule"), el("span", "dim", "open a race on the left, or make an empty schedule")];
 }
 
 // What the program said of a pair: a proof that no schedule shows it, or that none is known, or a fault.
@@ -295,7 +295,7 @@ export async function branch(shown = sheet.meant(null)) {
   const length = at ? at.p + (at.b ?? 1) : row.length;
   const last = at?.b ? at.last.e : at?.e;
   const to = await asked(`Branch ${name} after its first ${many(length, "event")}`, freeName(name, ".b"),
-    at ? `up to and with event ${last}, where the cursor is` : "all of it; move the cursor to branch earlier");
+    at ? `up to and including event ${last}, where the cursor is` : "all of it; move the cursor to branch earlier");
   if (to) later(() => make("branch", { name, length, to }, shown));
 }
 

@@ -41,7 +41,7 @@ async def test_a_trace_that_is_read_otherwise(program):
     traces.write("other", traces.COUNT.replace("count.c:5", "count.c:4"))
     async with Screen(script("odd", OTHER.format(program)), "trace", "log") as screen, Browser() as browser:
         page = await browser.page(screen.link)
-        told = "Do not go by what is drawn here: this screen reads the trace otherwise than the program."
+        told = "Do not go by what is drawn here: this screen reads the trace differently from the program."
         await page.until(f"{LIVE} === '{told}'")
         is_clean(page, screen)
 
@@ -63,7 +63,7 @@ async def test_a_digest_that_is_the_same(program):
         finally:
             server.FIRST_PAGE = first
         said = [one["why"] for one in outlet.told if one["push"] == "fault"]
-        same(said, ["this screen reads the trace otherwise than the program"] if is_said else [])
+        same(said, ["this screen reads the trace differently from the program"] if is_said else [])
         same(screen.requests.fault, said[0] if said else None)
 
 
@@ -78,7 +78,7 @@ async def test_a_schedule_that_is_shown_otherwise(program):
         await page.click(".sched")
         await page.until(f"{ROWS} === 2 && !{NOTE}.hidden")
         said = await page.run(f"{NOTE}.textContent")
-        assert said.startswith("The program shows this schedule otherwise than it is drawn here."), said
+        assert said.startswith("The program shows this schedule differently from how it is drawn here."), said
         same(await page.run(f"{NOTE}.querySelector('[role=alert]')?.textContent"), said)  # a screen reader says it
         await page.click(".sched", 1)
         await page.until(f"{ROWS} === 1 && {NOTE}.hidden")

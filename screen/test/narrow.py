@@ -115,10 +115,10 @@ async def test_keys_with_nothing_to_do_say_so(program):
         await page.run("document.activeElement.blur()")
         for key in ("r", "t", "f", "p", "b", "Enter", "Backspace"):
             await press(page, key)
-            same(await page.run(SAID), "a witness is looked at: w works on it, e starts empty")
+            same(await page.run(SAID), "this is a witness: w works on it, e starts empty")
         await new(page, 3)
         await press(page, "p")
-        same(await page.run(SAID), "no pair stands side by side in this schedule")
+        same(await page.run(SAID), "no pair is side by side in this schedule")
         await page.key("R", CAPS)  # the caps lock is on
         await page.until(f"{ROWS} === 2")
         same(logged(), ["1 new A", "1 batch add A 0 ; add A 1"])
@@ -169,7 +169,7 @@ async def test_keys_say_why_they_do_nothing(program):
         await page.key("Home")
         await page.until("document.querySelector('.row.on')?.dataset.p === '0'")
         await press(page, "Enter")
-        same(await page.run(SAID), "it is no block and no read of a write")
+        same(await page.run(SAID), "it is neither a block nor a read of a write")
         is_clean(page, screen)
 
 
@@ -240,7 +240,7 @@ async def test_a_place_without_a_source(program):
         await new(page, 2)
         for at, place in enumerate(("main.c:3", "<b>.c:3")):
             await page.click("#next-list .code .place", at)
-            await page.until(f"{SAID} === 'below the folder of the source is no line for {place}'")
+            await page.until(f"{SAID} === 'the source folder has no line for {place}'")
         same(logged(), ["1 new A"])
         is_clean(page, screen)
 
@@ -315,7 +315,7 @@ async def test_a_witness_of_no_events(program):
         await page.until("document.querySelectorAll('.race').length === 1")
         await page.click(".race")
         empty = "document.querySelector('#space .empty')?.textContent"
-        await page.until(f"{empty} === 'No event is needed before the two.'")
+        await page.until(f"{empty} === 'No events are needed before these two.'")
         await page.key("x")
         await page.until(f"!{note}.hidden && {note}.textContent.includes('ppp')")
         for width in (1440, 320):

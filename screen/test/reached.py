@@ -43,7 +43,7 @@ async def test_the_field_that_runs_to_an_event(program):
         await new(page, 2)
         await page.key("ArrowRight")
         await page.until(f"{field}?.placeholder === 'event of T1, up to 60 more'")
-        said = "write the number of an event, as the list has it"
+        said = "type the number of an event, as in the list"
         for typed, told in (("x", said), ("7", "7 is an event of T2"), ("999", "no such number"), ("1.5", said)):
             await page.run(f"{field}.focus(); {field}.select()")
             await page.type(typed)

@@ -301,6 +301,8 @@ async def test_a_branch_at_the_cursor_and_who_did_what(program):
         await page.key("ArrowDown")
         await page.key("b")
         await page.until("document.getElementById('ask').open")
+        note = await page.run("document.getElementById('ask-note').textContent")
+        same(note, "up to and including event 1, where the cursor is")
         await page.key("Enter")
         await page.until("document.querySelector('#bar h2').textContent === 'A.b'")
         same(logged()[-1], "1 branch A 2 A.b")

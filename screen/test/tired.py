@@ -213,7 +213,7 @@ async def test_a_drop_that_is_taken_back(program):
         await press(page, "u")  # something else is looked at
         await page.until("document.querySelectorAll('.sched').length === 1")
         await press(page, "p")
-        same(await page.run(SAID), "a witness is looked at: w works on it, e starts empty")
+        same(await page.run(SAID), "this is a witness: w works on it, e starts empty")
         is_clean(page, screen)
 
 
