@@ -41,7 +41,15 @@ COMPILED = {
 # Those with OpenMP, of which the recorder knows the one of GCC.
 OPENMP = ("shared_tasks.cpp", "task_kinds.cpp", "doacross.c", "task_events.c")
 # Those that are judged with each compiler.
-EACH_COMPILER = ("sizes.c", "conversions.c", "cut_texts.c", "lists.cpp", "ostreams.cpp", "exceptions.cpp")
+EACH_COMPILER = (
+    "sizes.c",
+    "conversions.c",
+    "cut_texts.c",
+    "lists.cpp",
+    "ostreams.cpp",
+    "exceptions.cpp",
+    "own_parts.c",
+)
 CALLED = {"exits.c": ("exit", "quick", "under", "abort", "crash", "kill")}
 # Those whose locks are let go by the threads that took them.
 EVEN = ("more_waits.c", "clocks.c", "preferred.c", "shared_mutex.cpp", "timed_locks.cpp", "writers.c", "writes_twice.c")
