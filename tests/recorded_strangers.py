@@ -47,6 +47,7 @@ EACH_COMPILER = (
     "cut_texts.c",
     "lists.cpp",
     "ostreams.cpp",
+    "istreams.cpp",
     "exceptions.cpp",
     "own_parts.c",
 )

@@ -14,6 +14,7 @@
 #include "numbers.c"
 #include "containers.c"
 #include "ostreams.c"
+#include "istreams.c"
 #include "exits.c"
 #include "locks.c"
 #include "conditions.c"

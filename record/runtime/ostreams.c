@@ -2,13 +2,26 @@
  * next letter in the stream's buffer. The standard streams have no buffer of their own, and there nothing is told. By
  * the linker's --wrap. */
 
-/* Where the classes of the library have the buffer of a stream, and the place of the next letter in a buffer. */
+/* Where the classes of the library have the state and the buffer of a stream, and the place of the next letter in a
+ * buffer. */
+#define STATE_IN_STREAM 32
 #define BUFFER_IN_STREAM 232
 #define NEXT_IN_BUFFER 40
 
 /* The part that all streams share lies where the table of the stream's class says. */
+static char *shared_of_stream(void *stream) { return (char *)stream + (*(long **)stream)[-3]; }
+
+/* The table of the class of the standard streams' buffers, which begins behind two words. */
+extern char *of_standard[] __asm__("_ZTVN9__gnu_cxx18stdio_sync_filebufIcSt11char_traitsIcEEE") __attribute__((weak));
+
+/* The buffer of a stream; NULL for the standard streams. */
+static char *buffer_of_stream(void *stream) {
+    char *buffer = *(char **)(shared_of_stream(stream) + BUFFER_IN_STREAM);
+    return buffer && (!of_standard || *(char ***)buffer != of_standard + 2) ? buffer : NULL;
+}
+
 static void **next_of_stream(void *stream) {
-    char *shared = (char *)stream + (*(long **)stream)[-3], *buffer = *(char **)(shared + BUFFER_IN_STREAM);
+    char *buffer = buffer_of_stream(stream);
     return buffer ? (void **)(buffer + NEXT_IN_BUFFER) : NULL;
 }
 
@@ -18,7 +31,10 @@ static void **next_of_stream(void *stream) {
     void *__wrap_##name(void *stream given) { \
         reads; \
         void **next_one = IDLE ? NULL : next_of_stream(stream), *before = NULL; \
-        if (next_one && *next_one) access_(READ, next_one, sizeof *next_one, PC); \
+        if (next_one) { \
+            access_(READ, shared_of_stream(stream) + STATE_IN_STREAM, sizeof(int), PC); \
+            access_(READ, next_one, sizeof *next_one, PC); \
+        } \
         if (next_one) before = *next_one; \
         void *answer = IN_LIBRARY(__real_##name(stream passed_on)); \
         if (next_one) wrote(next_one, *next_one == before ? 0 : sizeof *next_one, PC); \
