@@ -1,6 +1,6 @@
 //! Builds the program and its commands for `clap`, from the table, one argument at a time.
 
-use crate::commands::{COMMANDS, words_of};
+use crate::commands::{COMMANDS, CommandName, words_of};
 use crate::program::{NAME, VERSION, program_words};
 use crate::task::Limits;
 use crate::words::{Kind, Word, Words};
@@ -131,4 +131,26 @@ pub(crate) fn words_taken<'a>(alloc: Global, limits: Limits) -> Result<Command<'
         taken = with_command(alloc, taken, &words_of(command), limits)?;
     }
     Ok(taken)
+}
+
+/// A command alone. Its usage begins with the program's name.
+fn lone<'a>(alloc: Global, words: &Words, limits: Limits) -> Result<Command<'a>, AllocError> {
+    let name = words.name;
+    let called = format!(in alloc; "{NAME} {name}")?;
+    match command(alloc, words, limits) {
+        Ok(command) => command.bin_name(called.as_str()),
+        Err(error) => Err(error),
+    }
+}
+
+/// This command alone; the program with its commands, if none is named.
+pub(crate) fn lone_or_all<'a>(
+    alloc: Global,
+    name: Option<CommandName>,
+    limits: Limits,
+) -> Result<Command<'a>, AllocError> {
+    match name {
+        Some(name) => lone(alloc, &words_of(name), limits),
+        None => words_taken(alloc, limits),
+    }
 }

@@ -294,18 +294,26 @@ const LOOSE: &str = "`--windows` takes its number after `=`, as in `--windows=10
 /// The text about arguments that `clap` does not accept.
 fn untaken(alloc: Global, words: &[String], limits: Limits, error: &Error) -> Told {
     if error.kind() == ErrorKind::UnknownArgument && has_loose_number(words) {
-        return refused(alloc, limits, LOOSE);
+        return refused(alloc, limits, Some(CommandName::Triage), LOOSE);
     }
     told_of(alloc, error)
 }
 
-/// The task that the arguments name, or the text to print instead. `clap` has accepted them.
+/// The command that the words name, if they name one.
+fn command_in(given: &ArgMatches<'_>) -> Option<CommandName> {
+    match given.subcommand() {
+        Some((name, _)) => command_of(name),
+        None => None,
+    }
+}
+
+/// What is asked for in the words that `clap` took, or what is said in its place.
 fn task_or_told<'a>(alloc: Global, given: &ArgMatches<'a>, limits: Limits) -> Result<Task<'a>, Told>
     ensures { IfOk result (IsWithin limits) }
 {
     match task_in(alloc, given, limits) {
         Ok(task) => Ok(task),
-        Err(Unread::Refused(reason)) => Err(refused(alloc, limits, reason)),
+        Err(Unread::Refused(reason)) => { Err(refused(alloc, limits, command_in(given), reason)) }
         Err(Unread::OutOfMemory) => Err(Told::OutOfMemory),
     }
 }

@@ -1,6 +1,7 @@
 //! The text to print if the arguments name no task: help, or why they are refused.
 
-use crate::building::words_taken;
+use crate::building::lone_or_all;
+use crate::commands::CommandName;
 use crate::task::Limits;
 use clap::error::{Error, ErrorKind};
 use std::alloc::{AllocError, Global};
@@ -33,17 +34,28 @@ pub(crate) fn told_of(alloc: Global, error: &Error) -> Told {
     }
 }
 
-/// A refusal that `clap` itself does not make, in the form of `clap`.
-fn refusal_of(alloc: Global, limits: Limits, text: &str) -> Result<Error, AllocError> {
-    match words_taken(alloc, limits) {
+/// A refusal that `clap` itself does not make, in its form: with the usage of this command, or of the program if no
+/// command is named.
+fn refusal_of(
+    alloc: Global,
+    limits: Limits,
+    command: Option<CommandName>,
+    text: &str,
+) -> Result<Error, AllocError> {
+    match lone_or_all(alloc, command, limits) {
         Ok(mut words) => words.error(ErrorKind::InvalidValue, text),
         Err(error) => Err(error),
     }
 }
 
-/// The refusal of arguments for this reason.
-pub(crate) fn refused(alloc: Global, limits: Limits, text: &str) -> Told {
-    match refusal_of(alloc, limits, text) {
+/// The refusal of words for this reason, which name this command, or none.
+pub(crate) fn refused(
+    alloc: Global,
+    limits: Limits,
+    command: Option<CommandName>,
+    text: &str,
+) -> Told {
+    match refusal_of(alloc, limits, command, text) {
         Ok(error) => told_of(alloc, &error),
         Err(_) => Told::OutOfMemory,
     }
@@ -51,5 +63,5 @@ pub(crate) fn refused(alloc: Global, limits: Limits, text: &str) -> Told {
 
 /// The refusal of arguments that are not text. They never reach `task_of`.
 pub fn no_text(alloc: Global, limits: Limits) -> Told {
-    refused(alloc, limits, "the words are no text")
+    refused(alloc, limits, None, "the words are no text")
 }
