@@ -1,4 +1,5 @@
--- The lines of a text as JSON values, and the first line that is none. All notions here are this project's own.
+-- Texts that are lines of JSON values, and the line at which another text stops. All notions here are this project's
+-- own.
 use Rattle.std.specs.Prelude.{◌≡◌, ◌≢◌, ◌≤◌, ◌<◌, ◌⊎◌, ℕ, List, [], ◌∷◌, ◌++◌, length, cond, nat_eq, Some, None, IsUtf8, slice_index, ⊤}
 use Rattle.serde_json.specs.Data.{Data}
 use Rattle.serde_json.specs.Read.{read}
