@@ -46,8 +46,8 @@ pub record AreSections (r : Recording) (i : ℕ) (s : Sections) : Type 0 where
 abbrev pub IsOwed : List Event → ℕ → (ℕ → ℕ) → ℕ × ℕ → Type 0
 IsOwed T e row o = EndsFirst T o.0 o.1 e × IsCounted T row o.0 × ¬ IsCounted T row o.1
 
--- the row counts the end of each section of the lock (of the lock and the thread) that has to end before e, if it
--- counts the beginning
+-- for each section of the lock (and of the thread) that has to end before e: if the row counts its beginning, it
+-- counts its end
 abbrev pub IsSettledOn : List Event → ℕ → (ℕ → ℕ) → ℕ → Type 0
 IsSettledOn T e row l = (p r : ℕ) (s : EndsFirst T p r e) → s.lock ≡ l → IsCounted T row p → IsCounted T row r
 

@@ -139,9 +139,8 @@ impl Must {
     }
 
     /// Why the first event is must-before the second, as chains. The first chain leads from the first event to the
-    /// second. Each other chain leads from the beginning of a section to an event that has to come after the
-    /// section's end, and justifies a step of an earlier chain. None if the first event is not must-before the
-    /// second.
+    /// second. Each other chain justifies a step of an earlier chain. It leads from the beginning of a section to an
+    /// event that has to come after the section's end. None if the first event is not must-before the second.
     pub fn reasons(
         &self,
         alloc: Global,

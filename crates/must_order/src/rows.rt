@@ -284,7 +284,7 @@ fn close_row(
     Ok(())
 }
 
-// The same as `Sections::owed` for a row that was just begun, where only what the event learns can be missing.
+// The same as `Sections::owed` for a row that was just begun. Only what the event learns can be missing there.
 fn first_owed(row: &[u32], indexed: &Indexed, event: u32, sections: &Sections) -> Option<(u32, u32)>
     requires rules { IsDisciplined indexed.now.events }
     requires event { event < length indexed.now.events }

@@ -14,9 +14,9 @@ use std::alloc::Global;
 /// The acquires whose thread did not hold the lock before.
 #[derive(Drop)]
 pub(crate) struct Sections {
-    // For each lock its acquires, in the order of the trace.
+    // For each lock these acquires, in the order of the trace.
     pub(crate) by_lock: Vec<Vec<u32>>,
-    // The acquires whose section is open.
+    // Those of them whose section is open.
     pub(crate) held: Vec<u32>,
 }
 

@@ -43,8 +43,7 @@ writers_of infos x = filter (λ c. is_writing (slice_get infos c)) (members_of i
 abbrev pub AreConflicting : List Class → ℕ → Op → List ℕ → Type 0
 AreConflicting infos x op cs = (cs ≡ members_of infos x) ⊎ ((is_writing_op op ≡ false) × (cs ≡ writers_of infos x))
 
--- the class exists, an event of it clashes with a later event of class j in another thread, their places are p and q,
--- and the pair is kept
+-- the class exists, its operation clashes with that of class j, their places are p and q, and their pairs are kept
 abbrev pub adds_to : (Class → Class → Bool) → ℕ → ℕ → Class → Option Class → Bool
 adds_to keeps p q j None = false
 adds_to keeps p q j (Some i) = is_clash_of_ops i.op j.op && keeps i j && is_between p q i.place j.place

@@ -121,7 +121,7 @@ pub(crate) fn add_classes(
     Ok(())
 }
 
-/// Flags with 1 the classes with so many events in the thread that it takes fewer steps to count them together.
+/// Flags with 1 each class that has so many events in the thread that counting them together takes fewer steps.
 pub(crate) fn heavies(alloc: Global, basis: Basis<'_>, thread: u32) -> Result<Vec<u32>, OutOfMemory>
     requires basis { IsBasis basis }
     requires thread { thread < length basis.indexed.now.threads }

@@ -139,8 +139,8 @@ pub(crate) fn read_line(raw: &[u8], marks: Marks) -> Line<'_>
     }
 }
 
-/// Reads a line without a blank. None if the marks do not show every byte at which to cut it, if the line is too
-/// long, or if it bounds an atomic block; `read_line` reads every line.
+/// Reads a line without a blank. None if the marks do not show every cut, or if the line is not a plain event;
+/// `read_line` reads every line.
 #[inline(always)]
 fn read_parts<'a>(line: &'a [u8], marks: Marks) -> Option<Line<'a>>
     requires marked { IsMarked marks line.now }

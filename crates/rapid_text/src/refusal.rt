@@ -18,7 +18,7 @@ pub enum TextCause {
     LineTooLong,
     /// 7: the line's event would be one more than the `MAX_EVENTS` that a trace may have.
     TooManyEvents,
-    /// 8: the line's event would need more than the `MAX_THREADS` that a trace may have.
+    /// 8: the line's event would need more threads than the `MAX_THREADS` that a trace may have.
     TooManyNames,
     /// 9: out of memory.
     OutOfMemory,

@@ -39,8 +39,8 @@ last_set T P q = find (sets T q) (reverse P)
 abbrev pub latest_by : Option ℕ → ℕ → ℕ → Option Latest
 latest_by last set freed = option_map (λ e. record { event = e; depth = set - freed }) last
 
--- the entry of q: none if no event set it; otherwise the last event that set it, and the sets minus the frees, which
--- for a lock is the number of holds of the thread that acquired it last
+-- The entry of q: none if no event set it. Otherwise the last event that set it, and the sets minus the frees. For a
+-- lock this is the number of holds of the thread that acquired it last.
 abbrev pub latest_of : List Event → List ℕ → Key → Option Latest
 latest_of T P q = latest_by (last_set T P q) (count_by (sets T q) P) (count_by (frees T q) P)
 
@@ -63,8 +63,8 @@ shadow_at T P e = shadow_by (last_set T P) (slice_get T e)
 abbrev pub shadow_of : List Event → List ℕ → ℕ → Option ℕ
 shadow_of T P i = shadow_at T (take i P) (slice_index P i)
 
--- The tables are those of the list: each thread's number of events in the list, the entry of each variable and lock,
--- and for each index the event that the event there shadows.
+-- The tables are those of the list: each thread's number of events, the entry of each variable and lock, and for each
+-- index the event that is shadowed there.
 pub record AreTables (T : List Event) (P : List ℕ) (s : Tables) : Type 0 where
   pub order : AreByThread s.counts.items
   pub counts : (t : ℕ) → count_in s.counts.items t ≡ count_by (is_of_thread T t) P

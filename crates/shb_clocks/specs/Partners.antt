@@ -35,8 +35,8 @@ pub record IsAccess (T : List Event) (x b : ℕ) : Type 0 where
 -- What the next write of a variable and its rivals say about the variable's accesses from `from` on.
 pub record AreRivals (T : List Event) (from x next : ℕ) (rivals : Rivals) : Type 0 where
   pub events : AreEvents T rivals
-  -- SHB keeps an event a before the bases of all accesses of the variable from the next write on, if it keeps a
-  -- before the base of that write and before the bases of the rivals
+  -- take an event a that SHB keeps before the bases of the next write and of the rivals; SHB keeps it before the
+  -- bases of all accesses of the variable from the next write on
   pub beyond : (b a : ℕ) → IsAccess T x b → next ≤ b → ¬ IsApart T a next → IsClear T rivals a → ¬ IsApart T a b
   -- likewise before the base of each earlier read of the variable that is apart from the write that it sees
   pub between :
@@ -52,8 +52,8 @@ pub record LieAhead (r : Recording) (from : ℕ) (next_writes : List ℕ) (rival
 abbrev pub AreAhead : Recording → ℕ → Ahead → Type 0
 AreAhead r from ahead = LieAhead r from ahead.next_writes.items ahead.rivals.items
 
--- What the new rivals say about each event a that is no later than e. If SHB keeps a before the bases of the new
--- rivals, it keeps a before the bases of the next write and of the old rivals.
+-- What the new rivals say about each event a that is no later than e. If SHB keeps a before their bases, it keeps a
+-- before the bases of the next write and of the old rivals.
 pub record LooksAhead (T : List Event) (e x : ℕ) (next_writes : List ℕ) (rivals : List Rivals) (new : Rivals) : Type 0 where
   pub events : AreEvents T new
   pub write :

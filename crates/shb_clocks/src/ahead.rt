@@ -12,7 +12,7 @@ use rapid_text::{Op, OutOfMemory};
 use std::alloc::Global;
 
 /// For each variable its first write from some event on, and its rivals. A rival is a later access that this write is
-/// apart from (`IsApart`), or a read before the write that is apart from the write that it sees.
+/// apart from (`IsApart`); or an earlier read that is apart from the write that it sees.
 #[derive(Drop)]
 pub(crate) struct Ahead {
     // If no write follows, the entry is the number of events.

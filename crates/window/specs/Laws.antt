@@ -93,8 +93,8 @@ PrologueIsApart =
     → (a < n) ⊎ (b < n)
     → ¬ Shows W P a b
 
--- the window never shows a pair exactly if no list of the trace shows it that begins as recorded up to k and ends
--- before m
+-- The window never shows a pair exactly if no such list of the trace shows it: one that begins as recorded up to k
+-- and has no event from m on.
 abbrev pub ApartInWindow : Type 0
 ApartInWindow =
     (T W : List Event) (k m n x lock c a b : ℕ)

@@ -53,8 +53,8 @@ StreamIsSound =
     (prologue_size r k m)
     text
 
--- If an event of the piece is the first to break a rule after the head, it is the first in all that was read, and
--- breaks the same rule.
+-- An event of the piece that is the first to break a rule after the head is the first in all that was read. It breaks
+-- the same rule there.
 abbrev pub StreamBreaks : Type 0
 StreamBreaks =
     (front head more : List ℕ) (r : Recording) (why : RuleRefusal)

@@ -146,8 +146,8 @@ pub record IsNext (past next : Past) (r : Recording) (more : List ℕ) : Type 0 
 
 -- The text reads as a complete trace: n events, and then the events K to M of the trace T. Take a pair of events,
 -- both after its first n. If a correct reordering of the text shows the pair, the trace shows it by its first K
--- events and that reordering. The pair is never shown exactly if no list of the trace shows it that begins with its
--- first K events and has none from M on.
+-- events and that reordering. The pair is never shown exactly if no such list of the trace shows it: one that begins
+-- with its first K events and has none from M on.
 pub record IsExactPart (T : List Event) (K M n : ℕ) (text : List ℕ) : Type 0 where
   pub inner : Recording
   pub reads : reading_of text ≡ Ok inner

@@ -64,7 +64,8 @@ pub enum FrontFault {
     /// The piece has too many threads. The limit counts its own, those that hold a lock before it, and at most two
     /// others.
     TooManyThreads,
-    /// The piece has more events than fit, or the number of events or lines read would be too large.
+    /// The piece has more events than fit. Or the number of events or lines read, or of locks held, would be too
+    /// large.
     TooLong,
     /// Out of memory.
     OutOfMemory,

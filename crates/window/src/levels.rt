@@ -139,9 +139,9 @@ fn note_found(
     Ok(())
 }
 
-// The number of levels that stay if a level of `names` names follows. The levels that do not stay are joined with it.
-// They are the last ones, back to the first that has more than twice as many names as all after it. So there are few
-// levels, and no name is copied often.
+// The number of levels that stay if a level of `names` names follows. From the last one back, each level with at most
+// twice as many names as all after it is joined with the new one. So there are few levels, and no name is copied
+// often.
 fn kept_levels(known: &Levels, names: usize) -> usize
     ensures { result ≤ length known.now.levels.items }
 {

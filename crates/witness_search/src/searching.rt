@@ -16,7 +16,7 @@ use rapid_text::OutOfMemory;
 use schedule::{ExtendRefusal, Schedule};
 use std::alloc::Global;
 
-// The pair that a search is to show. For each event of the trace, `wanted` tells whether the search wants it.
+// The pair that a search is to show, and for each event of the trace whether the search wants it.
 #[derive(Drop)]
 pub(crate) struct Aim {
     pub(crate) first: u32,

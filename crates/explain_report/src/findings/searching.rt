@@ -23,9 +23,9 @@ use witness_search::trace_order::{
 /// The most steps of the search for a schedule in another order than that of the trace.
 pub const BUDGET: u32 = 1_048_576;
 
-/// The finding on a conflicting pair, whose earlier event is `first`. A candidate has a schedule. For a pair that is
-/// neither forced nor guarded, the call tries the least list in the order of the trace, and then a search of at most
-/// `BUDGET` steps. Fails if memory runs out.
+/// The finding on a conflicting pair, whose earlier event is `first`. A candidate has a schedule. For an open pair,
+/// the call tries the least list in the order of the trace, and then a search of at most `BUDGET` steps. Fails if
+/// memory runs out.
 pub fn find(
     alloc: Global,
     analysis: &Analysis<'_>,

@@ -205,8 +205,8 @@ fn draw_waiter(
     )
 }
 
-/// Draws one box for the runs that are not drawn one by one, with the number of these runs, of their threads and of
-/// their events.
+/// Draws one box for the runs that are not drawn one by one: the number of these runs, of their threads and of their
+/// events.
 pub(crate) fn draw_earlier(
     canvas: &mut Canvas,
     indexed: &Indexed,

@@ -1,5 +1,5 @@
 -- What holds while the variables are visited. No public clause cites this module. `r` is a recording; `place` has the
--- place of each event, `rows` are the rows of all pairs of places, and `most` is the most open pairs that are kept.
+-- place of each event. `rows` are the rows of all pairs of places, and `most` is the most open pairs that are kept.
 use Rattle.std.specs.Prelude.{◌≡◌, ◌≢◌, ◌⊎◌, ℕ, ◌+◌, ◌%◌, ◌<◌, ◌≤◌, ◌||◌, true, false, Bool, List, length, All, Some, slice_get, slice_index, Vec}
 use Rattle.std.specs.declared.alloc.Global.{Global}
 use Rattle.rapid_text.specs.Recording.{Recording, IsWellFormed}

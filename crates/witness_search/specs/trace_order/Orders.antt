@@ -8,8 +8,8 @@ use Rattle.witness_search.specs.Greedy.{IsGreedyAnswer}
 use Rattle.witness_search.specs.trace_order.InOrder.{AreNeeded}
 use Rattle.witness_search.specs.trace_order.Laws.{IsBaseOf}
 
--- S is the least list in the order of the trace after which b is ready, and `found` is the result of the greedy
--- search from S on
+-- S is the least list in the order of the trace after which b is ready; `found` is the result of the greedy search
+-- from S
 pub record IsSearchedFrom (T : List Event) (a b budget : ℕ) (found : Option (List ℕ)) (S : List ℕ) : Type 0 where
   pub start : AreNeeded T (IsBaseOf T b) S
   pub ready : IsReady T S b

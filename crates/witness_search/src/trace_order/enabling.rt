@@ -27,8 +27,8 @@ pub(crate) struct Aim {
     pub(crate) wanted: Vec<u32>,
 }
 
-/// The state of a search: for each thread the number of its events so far, and the last write of each variable that
-/// was looked up or written since the start.
+/// The state of a search: the number of events of each thread so far, and the last writes of the variables that were
+/// looked up or written since the start.
 #[derive(Drop)]
 pub(crate) struct Reached {
     pub(crate) row: Vec<u32>,

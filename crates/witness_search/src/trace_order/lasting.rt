@@ -83,8 +83,8 @@ fn later(
     }
 }
 
-// The end of the section of the lane's last counted acquire, if the row has to count it because of the latest acquire
-// and does not.
+// The end of the section of the lane's last counted acquire, if the latest acquire requires it and the row does not
+// count it.
 fn due_by(lane: &Lane, indexed: &Indexed, row: &[u32], lock: u32, latest: Latest) -> Option<u32>
     requires lane { IsLane indexed.now lock lane.now }
     requires len { length row.now ≡ length indexed.now.threads }

@@ -11,8 +11,8 @@ use event_index::Indexed;
 use rapid_text::{Op, OutOfMemory};
 use std::collections::HashMap;
 
-/// Notes the last writes of the variables that the next events of the threads read, so that a search goes over the
-/// writes of a variable once.
+/// Notes the last writes of the variables that the threads' next events read. So a search goes over the writes of a
+/// variable only once.
 pub(crate) fn note_reads(
     last: &mut HashMap<u32, Option<u32>>,
     indexed: &Indexed,
