@@ -9,6 +9,6 @@ pub enum Kind {
     Forced,
     /// Both threads hold one lock before their events. No correct reordering shows the pair.
     Guarded,
-    /// None of the above.
+    /// None of the above: SHB keeps the two in order only by the order of critical sections.
     Open,
 }

@@ -48,8 +48,8 @@ impl Model for Must {
 }
 
 impl Must {
-    /// Makes the rows in one pass over the events. They keep their trace for proofs alone, so the index may be
-    /// dropped.
+    /// Makes the rows in one pass over the events. They keep their trace for proofs alone, and do not borrow the
+    /// index.
     pub fn new(alloc: Global, indexed: &Indexed) -> Result<Must, OutOfMemory>
         ensures ok { IfOk result (λ must. must ≡ indexed.now) }
     {

@@ -31,7 +31,7 @@ impl Model for Answer {
 }
 
 impl Answer {
-    /// The answer that `outcome` is the outcome of the request on the trace.
+    /// An answer with the outcome of the request on the trace.
     pub(crate) fn new(indexed: &Indexed, posed: Posed, outcome: Outcome) -> Answer
         requires { IsOutcomeOf indexed.now.events posed.request outcome }
         ensures trace { result.trace ≡ indexed.now }

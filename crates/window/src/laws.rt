@@ -19,7 +19,8 @@ pub fn window_is_made()
     ensures { WindowIsMade }
 {}
 
-/// If the trace shows a pair by a list that begins as recorded up to the window, the window shows it.
+/// Take a list that begins as recorded up to the window and has no event after it. If it shows a pair in the trace,
+/// the window shows the pair.
 pub fn window_is_complete()
     ensures { WindowIsComplete }
 {}
@@ -29,7 +30,8 @@ pub fn window_of_is_window()
     ensures { WindowOfIsWindow }
 {}
 
-/// If the window never shows a pair, no list of the trace shows it that begins as recorded up to the window.
+/// The window never shows a pair exactly if no such list of the trace shows it: one that begins as recorded up to the
+/// window and has no event after it.
 pub fn apart_in_window()
     ensures { ApartInWindow }
 {}
@@ -100,8 +102,8 @@ pub fn stream_refuses()
     ensures { StreamRefuses }
 {}
 
-/// A window after such a text is a part of the whole trace. A race of it is a race of the trace. What it never shows,
-/// no list of the trace shows that begins as recorded.
+/// A window after such a text is a part of the whole trace. A race of it is a race of the trace. A pair that it never
+/// shows, no such list shows: one that begins as recorded up to the window and has no event after it.
 pub fn stream_is_sound()
     ensures { StreamIsSound }
 {}

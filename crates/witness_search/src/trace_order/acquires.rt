@@ -50,8 +50,8 @@ impl Model for Acquires {
 }
 
 impl Acquires {
-    /// Makes the tables in one pass over the events. They keep their trace for proofs alone, so the index may be
-    /// dropped.
+    /// Makes the tables in one pass over the events. They keep their trace for proofs alone, and do not borrow the
+    /// index.
     pub fn new(alloc: Global, indexed: &Indexed) -> Result<Acquires, OutOfMemory>
         ensures ok { IfOk result (λ acquires. acquires ≡ indexed.now) }
     {

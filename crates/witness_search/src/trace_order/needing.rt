@@ -162,7 +162,7 @@ impl Latest {
 /// For each position of the list, the positions that its event waits for; the first one is last. An event waits for
 /// the fork of its thread. A read waits for its writer; a write for the write before it and the reads since then. An
 /// acquire waits for the last release of the lock. A join waits for the last event of the thread, or its fork.
-/// `explain` prints from it, and nothing is proved about it.
+/// Printed schedules use it, and nothing is proved about it.
 pub fn needs_of(
     alloc: Global,
     indexed: &Indexed,
