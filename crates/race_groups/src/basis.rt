@@ -21,8 +21,8 @@ pub(crate) struct Basis<'a> {
     pub(crate) conflicts: &'a Conflicts,
     /// The number of workers that share the counting.
     pub(crate) every: usize,
-    /// The number of this worker. It counts the threads and classes whose numbers leave this remainder, divided by
-    /// `every`.
+    /// The number of this worker. It counts the threads and classes whose numbers, divided by `every`, leave it as
+    /// the remainder.
     pub(crate) from: usize,
 }
 

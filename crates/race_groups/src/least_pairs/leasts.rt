@@ -82,7 +82,8 @@ pub(crate) struct Search<'a> {
     pub(crate) has_open: bool,
     // The number of workers that share the variables.
     pub(crate) every: usize,
-    // The number of this worker. It visits the variables whose numbers leave this remainder, divided by `every`.
+    // The number of this worker. It visits the variables whose numbers, divided by `every`, leave it as the
+    // remainder.
     pub(crate) from: usize,
 }
 
