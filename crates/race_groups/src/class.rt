@@ -1,5 +1,10 @@
 //! The properties that events of one class share.
-use rapid_text::Op;
+use indexmap::IndexSet;
+use rapid_text::{Op, TextKeyed};
+
+/// The lists of locks under which a trace accesses variables. A stranger chooses them, so the key of their hash is made
+/// of the trace's names and locations.
+pub type LockLists = IndexSet<Vec<u32>, TextKeyed>;
 
 /// A place, an operation, and the locks held.
 #[derive(Clone, Copy, PartialEq, Eq, Debug)]

@@ -4,7 +4,7 @@ ghost use Rattle.std.specs.Prelude.{◌≡◌, ◌++◌, ◌∷◌, ◌⊎◌, [
 use crate::class::Class;
 use crate::classes::is_at;
 use indexmap::IndexSet;
-use rapid_text::{Op, OutOfMemory};
+use rapid_text::{Op, OutOfMemory, TextKeyed};
 use std::alloc::Global;
 
 // The most guesses, a megabyte.
@@ -17,18 +17,22 @@ type Key = ((u32, u32), (u32, u32));
 /// is asked for, so a wrong guess costs a look-up and nothing else.
 #[derive(Drop)]
 pub(crate) struct ClassKeys {
-    keys: IndexSet<Key>,
+    keys: IndexSet<Key, TextKeyed>,
     guesses: Vec<u32>,
     // The number of places.
     width: usize,
 }
 
 impl ClassKeys {
-    /// No class is known yet. `places` has the number of each event's place.
-    pub(crate) fn new(alloc: Global, places: &[u32]) -> Result<ClassKeys, OutOfMemory> {
+    /// No class is known yet. `places` has the number of each event's place, and `keyed` has the key of the trace.
+    pub(crate) fn new(
+        alloc: Global,
+        places: &[u32],
+        keyed: TextKeyed,
+    ) -> Result<ClassKeys, OutOfMemory> {
         let size = places.len().min(MOST);
         Ok(ClassKeys {
-            keys: IndexSet::new(alloc),
+            keys: IndexSet::with_hasher(alloc, keyed),
             guesses: vec![in alloc; 0u32; size]?,
             width: width_of(places),
         })
@@ -97,7 +101,7 @@ pub(crate) fn class_number(
 
 // The same by the table, without a guess.
 fn looked_up(
-    keys: &mut IndexSet<Key>,
+    keys: &mut IndexSet<Key, TextKeyed>,
     infos: &mut Vec<Class>,
     class: Class,
 ) -> Result<u32, OutOfMemory>

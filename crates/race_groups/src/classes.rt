@@ -6,7 +6,7 @@ ghost use Rattle.race_groups.specs.Classes.{AreClasses, AreLocks, AreMembers};
 ghost use Rattle.race_groups.specs.Holding.{AreHeld, AreKnown};
 ghost use Rattle.race_groups.specs.Takers.{AreTakers};
 
-use crate::class::Class;
+use crate::class::{Class, LockLists};
 use crate::class_keys::{ClassKeys, class_number};
 use crate::grouping::{Regrouped, grouped};
 use crate::holding::{begin, note};
@@ -27,7 +27,7 @@ pub struct Classes {
     /// For each variable, the classes that access it.
     pub members: Vec<Vec<u32>>,
     /// The lists of locks to which the classes refer.
-    pub lists: IndexSet<Vec<u32>>,
+    pub lists: LockLists,
 }
 
 impl Classes {
@@ -77,7 +77,7 @@ impl Regrouped {
         alloc: Global,
         indexed: &Indexed,
         _places: &[u32],
-        lists: IndexSet<Vec<u32>>,
+        lists: LockLists,
     ) -> Result<Classes, OutOfMemory>
         requires numbered { AreNumbered indexed.now.events (slice_index _places.now) (length indexed.now.events)
             self.numbers.items self.infos.items lists.keys }
@@ -105,7 +105,7 @@ struct Numbering {
     keys: ClassKeys,
     numbers: Vec<u32>,
     infos: Vec<Class>,
-    lists: IndexSet<Vec<u32>>,
+    lists: LockLists,
     listing: Listing,
 }
 
@@ -143,13 +143,14 @@ impl Numbering {
         ensures numbered { IfOk result (λ made. AreNumbered indexed.now.events (slice_index places.now) 0
             made.numbers.items made.infos.items made.lists.keys) }
     {
-        let keys = ClassKeys::new(alloc, places)?;
+        let keyed = indexed.trace().raw().keyed();
+        let keys = ClassKeys::new(alloc, places, keyed)?;
         let listing = Listing::new(alloc, indexed)?;
         Ok(Numbering {
             keys,
             numbers: Vec::with_capacity(alloc, indexed.len() as usize)?,
             infos: Vec::new(alloc),
-            lists: IndexSet::new(alloc),
+            lists: IndexSet::with_hasher(alloc, keyed),
             listing,
         })
     }

@@ -221,7 +221,7 @@ pub(crate) fn count_in_turn(
     requires classes { AreClasses basis.indexed.now.events (slice_index _places.now) basis.classes.now.numbers.items basis.classes.now.infos.items }
     ensures { IsPart basis.entry (slice_index _places.now) limit basis.entry.from result }
 {
-    let mut rows = GrowingRows::new(alloc, basis.classes.infos.as_slice())?;
+    let mut rows = GrowingRows::new(alloc, basis.classes)?;
     match add_pairs(alloc, &mut rows, basis, limit) {
         Ok(()) => Ok(rows.into_rows()),
         Err(refusal) => Err(refusal),

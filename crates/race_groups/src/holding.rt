@@ -5,8 +5,8 @@ ghost use Rattle.rapid_text.specs.declared.event.Op.TheVariants.{Acquire, Releas
 ghost use Rattle.race_groups.specs.Building.{IsGrown, text_at};
 ghost use Rattle.race_groups.specs.Holding.{AreHeld, times};
 
+use crate::class::LockLists;
 use event_index::Indexed;
-use indexmap::IndexSet;
 use rapid_text::{Event, Op, OutOfMemory};
 use std::alloc::Global;
 
@@ -126,7 +126,7 @@ fn let_go(locks: &mut Vec<u32>, lock: u32)
 
 /// The number of the list. If it is new, the function appends it.
 pub(crate) fn number_of(
-    lists: &mut IndexSet<Vec<u32>>,
+    lists: &mut LockLists,
     alloc: Global,
     list: &[u32],
 ) -> Result<u32, OutOfMemory>

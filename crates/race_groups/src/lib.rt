@@ -37,7 +37,7 @@ mod workers;
 mod writers;
 
 pub use apart::is_apart;
-pub use class::Class;
+pub use class::{Class, LockLists};
 pub use classes::Classes;
 pub use kinds::{Counts, Groups, Row, groups_by_workers, groups_of};
 pub use rows::RowsRefusal;

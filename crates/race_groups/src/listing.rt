@@ -10,11 +10,11 @@ ghost use Rattle.race_groups.specs.Building.{IsGrown, text_at};
 ghost use Rattle.race_groups.specs.Holding.{AreHeld, AreKnown, AreLocksOf, AreLocksOfThread, AreUnknown};
 ghost use Rattle.race_groups.specs.Takers.{AreTakers, is_lent};
 
+use crate::class::LockLists;
 use crate::classes::variable_of;
 use crate::holding::number_of;
 use crate::takers::keep_lent;
 use event_index::Indexed;
-use indexmap::IndexSet;
 use rapid_text::OutOfMemory;
 use std::alloc::Global;
 
@@ -68,7 +68,7 @@ impl Listing {
     /// take at most half a gigabyte; beyond that the call fails as if memory ran out.
     pub(crate) fn number(
         &mut self,
-        lists: &mut IndexSet<Vec<u32>>,
+        lists: &mut LockLists,
         holds: Holds<'_>,
         event: u32,
     ) -> Result<u32, OutOfMemory>
@@ -98,7 +98,7 @@ impl Listing {
     // The number of the thread's list before the event.
     fn list_of(
         &mut self,
-        lists: &mut IndexSet<Vec<u32>>,
+        lists: &mut LockLists,
         holds: Holds<'_>,
         _event: u32,
         thread: u32,
@@ -142,7 +142,7 @@ impl Listing {
     }
 
     // The number of the list that was made.
-    fn numbered(&mut self, lists: &mut IndexSet<Vec<u32>>) -> Result<u32, OutOfMemory>
+    fn numbered(&mut self, lists: &mut LockLists) -> Result<u32, OutOfMemory>
         requires few { length lists.old.keys < 1048576 }
         ensures at { IfOk result (λ n. text_at lists.new.keys n ≡ Some self.old.lent.items) }
         ensures grown { OnOk result (IsGrown lists.old.keys lists.new.keys) }

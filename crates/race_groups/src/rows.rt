@@ -5,11 +5,11 @@ ghost use Rattle.race_groups.specs.Groups.{is_between};
 ghost use Rattle.race_groups.specs.Rows.{Part, part, same_places, count_at, AreRows};
 ghost use Rattle.race_groups.specs.Waiting.{AreWaiting, rows_with, waiting_at, with_more};
 
-use crate::class::Class;
+use crate::classes::Classes;
 use crate::guesses::Guesses;
 use crate::waiting::Waiting;
 use indexmap::IndexMap;
-use rapid_text::OutOfMemory;
+use rapid_text::{OutOfMemory, TextKeyed};
 use std::alloc::{AllocError, AllocFailed, Global};
 use std::marker::Model;
 
@@ -27,7 +27,7 @@ pub(crate) struct Sums {
 }
 
 /// For each pair of places, the lesser place first, its counts.
-pub(crate) type Rows = IndexMap<(u32, u32), Sums>;
+pub(crate) type Rows = IndexMap<(u32, u32), Sums, TextKeyed>;
 
 /// Rows to which counts are added, with guesses of their indices. A contract sees the rows with all that waits for
 /// them.
@@ -40,20 +40,18 @@ pub(crate) struct GrowingRows {
 
 impl Model for GrowingRows {
     ghost use Rattle.std.specs.Prelude.{ℕ};
-    ghost use Rattle.std.specs.declared.hash.BuildHasherDefault.{BuildHasherDefault};
-    ghost use Rattle.std.specs.declared.hash.FoldHasher.{FoldHasher};
+    ghost use Rattle.rapid_text.specs.declared.names.TextKeyed.{TextKeyed};
     ghost use Rattle.std.specs.Coded.{coded×, coded_ℕ};
-    ghost use Rattle.std.specs.contracts.hash.BuildHasherDefault as made;
-    ghost use Rattle.std.specs.contracts.hash.FoldHasher as fold;
+    ghost use Rattle.rapid_text.specs.contracts.names.TextKeyed as keyed;
     ghost use Rattle.indexmap.specs.IndexMap.{IndexMap as Entries};
     ghost use Rattle.indexmap.specs.Layout.{hash_map_code};
     ghost use Rattle.race_groups.specs.contracts.rows.Sums as sums;
     ghost use Rattle.race_groups.specs.declared.rows.Sums.{Sums};
     ghost use Rattle.race_groups.specs.Waiting.{AreWaiting, rows_with};
 
-    ghost Value = { Entries (ℕ × ℕ) Sums (BuildHasherDefault FoldHasher) };
+    ghost Value = { Entries (ℕ × ℕ) Sums TextKeyed };
 
-    ghost coded = { hash_map_code (coded× coded_ℕ coded_ℕ) sums.the_row.coded (made.the_row fold.the_row).coded };
+    ghost coded = { hash_map_code (coded× coded_ℕ coded_ℕ) sums.the_row.coded keyed.the_row.coded };
 
     ghost view = { λ r. rows_with r.waiting.cells.items r.rows };
 
@@ -62,15 +60,16 @@ impl Model for GrowingRows {
 
 impl GrowingRows {
     /// No rows, with guesses for the places of these classes. Fails if memory runs out.
-    pub(crate) fn new(alloc: Global, infos: &[Class]) -> Result<GrowingRows, OutOfMemory>
+    pub(crate) fn new(alloc: Global, classes: &Classes) -> Result<GrowingRows, OutOfMemory>
         ensures empty { IfOk result IsEmpty }
         ensures len { IfOk result (λ rows. index_map_len rows ≡ 0) }
         ensures unique { IfOk result (IsUnique same_places) }
     {
+        let infos = classes.infos.as_slice();
         let guesses = Guesses::new(alloc, infos)?;
         let waiting = Waiting::new(alloc, infos)?;
         Ok(GrowingRows {
-            rows: IndexMap::new(alloc),
+            rows: IndexMap::with_hasher(alloc, *classes.lists.hasher()),
             guesses,
             waiting,
         })

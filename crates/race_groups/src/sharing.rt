@@ -3,13 +3,13 @@ ghost use Rattle.std.specs.Prelude.{◌≡◌, ◌<◌, ◌≤◌, ℕ, length, 
 ghost use Rattle.std.specs.List.Sorted.{IsNonDecreasing};
 ghost use Rattle.race_groups.specs.Shared.{is_meeting, is_sharing};
 
-use indexmap::IndexSet;
+use crate::class::LockLists;
 
 // Lists of at most this many locks are compared each with each.
 const FEW: usize = 8;
 
 /// Whether the lists of locks with these numbers have a common lock.
-pub fn are_sharing(lists: &IndexSet<Vec<u32>>, first: u32, second: u32) -> bool
+pub fn are_sharing(lists: &LockLists, first: u32, second: u32) -> bool
     ensures { result ≡ is_sharing lists.now.keys first second }
 {
     let Some(mine) = lists.get_index(first as usize) else {

@@ -7,18 +7,17 @@ ghost use Rattle.race_groups.specs.Counts.{is_counted, keeps};
 ghost use Rattle.race_groups.specs.Owners.{AreRuns};
 ghost use Rattle.race_groups.specs.Rows.{Part, part, amount, count_at, AreRows};
 
-use crate::class::Class;
+use crate::class::{Class, LockLists};
 use crate::classes::Classes;
 use crate::owners::owner_of;
 use crate::rows::{GrowingRows, Sums};
 use crate::shares::{Share, Shares};
 use crate::sharing::are_sharing;
 use crate::writers::Walk;
-use indexmap::IndexSet;
 use rapid_text::{Op, OutOfMemory};
 
 // The sums of pairs of two classes. A common lock of these matters only if SHB orders some of the pairs.
-fn sums_of(lists: &IndexSet<Vec<u32>>, earlier: Class, later: Class, share: Share) -> Sums
+fn sums_of(lists: &LockLists, earlier: Class, later: Class, share: Share) -> Sums
     ensures { (k : Part) → part k result ≡ (if keeps lists.now.keys k earlier later then amount k share else 0) }
 {
     if share.ordered == 0 {
@@ -32,7 +31,7 @@ fn sums_of(lists: &IndexSet<Vec<u32>>, earlier: Class, later: Class, share: Shar
 #[inline(never)]
 fn add_pairs(
     rows: &mut GrowingRows,
-    lists: &IndexSet<Vec<u32>>,
+    lists: &LockLists,
     earlier: Class,
     later: Class,
     share: Share,

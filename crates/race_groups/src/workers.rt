@@ -120,7 +120,7 @@ fn joined(
     ensures kept { IfOk result (λ rows. index_map_len rows ≤ limit) }
     ensures too_many { result ≡ Err RowsRefusal.TooMany → AreTooMany basis.entry.indexed.now.events (slice_index places.now) limit }
 {
-    let mut all = GrowingRows::new(alloc, basis.classes.infos.as_slice())?;
+    let mut all = GrowingRows::new(alloc, basis.classes)?;
     match add_parts(&mut all, places, basis, limit, parts) {
         Ok(()) => Ok(all.into_rows()),
         Err(refusal) => Err(refusal),

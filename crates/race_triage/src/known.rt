@@ -11,11 +11,11 @@ ghost use Rattle.race_triage.specs.Places.{AreNumbered};
 use crate::places::Places;
 use indexmap::IndexSet;
 use memchr::memchr;
-use rapid_text::{OutOfMemory, trim};
+use rapid_text::{OutOfMemory, TextKeyed, trim};
 use std::alloc::Global;
 
 /// Pairs of locations whose races are known, as numbers, the lesser first.
-pub type Known = IndexSet<(u32, u32)>;
+pub type Known = IndexSet<(u32, u32), TextKeyed>;
 
 /// Reads a text that `triage` printed, or a part of one. Returns the pairs of locations of its `race` blocks, as far
 /// as the trace has these locations. Ignores everything else in the text.
@@ -29,7 +29,7 @@ pub fn known_of(alloc: Global, places: &Places, text: &[u8]) -> Result<Known, Ou
     ensures all_named { IfOk result (λ known. (r : Recording) → AreNumbered r (length r.events) places.now.locations.keys places.now.numbers.items
         → AllNamed r places.now.numbers.items text.now known.keys) }
 {
-    let mut known = IndexSet::new(alloc);
+    let mut known = IndexSet::with_hasher(alloc, TextKeyed::of(text));
     let mut block = Block::Nothing;
     let mut left = Some(text);
     while let Some(lines) = left {

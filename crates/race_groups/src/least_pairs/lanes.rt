@@ -10,7 +10,7 @@ use crate::least_pairs::reach::reach;
 use crate::least_pairs::uses::is_writing;
 use event_index::Indexed;
 use indexmap::IndexMap;
-use rapid_text::{Op, OutOfMemory};
+use rapid_text::{Op, OutOfMemory, TextKeyed};
 use std::alloc::Global;
 
 /// The events of one lane that are of one class, in the order of the trace.
@@ -65,7 +65,7 @@ pub(crate) struct Lanes {
     bunches: Index,
 }
 
-type Index = IndexMap<(usize, u32), usize>;
+type Index = IndexMap<(usize, u32), usize, TextKeyed>;
 
 /// For each variable its accesses, in the order of the trace.
 pub(crate) fn accesses_of(alloc: Global, indexed: &Indexed) -> Result<Vec<Vec<u32>>, OutOfMemory>
@@ -116,13 +116,13 @@ pub(crate) fn access_of(op: Op) -> Option<(u32, bool)>
 
 impl Lanes {
     /// No accesses.
-    pub(crate) fn new(alloc: Global) -> Lanes
+    pub(crate) fn new(alloc: Global, classes: &Classes) -> Lanes
         ensures { result.list.items ≡ [] }
     {
         Lanes {
             list: Vec::new(alloc),
             index: IndexMap::new(alloc),
-            bunches: IndexMap::new(alloc),
+            bunches: IndexMap::with_hasher(alloc, *classes.lists.hasher()),
         }
     }
 

@@ -201,7 +201,7 @@ impl Search<'_> {
         ensures taken { OnOk result (AreAllTaken self.now.indexed.now (slice_index self.now.places.now) self.now.groups.now.rows.items self.now.most
             variable leasts.new) }
     {
-        let mut lanes = Lanes::new(alloc);
+        let mut lanes = Lanes::new(alloc, self.classes);
         for event in accesses {
             let later = lanes.note(alloc, self.indexed, self.classes, variable, *event)?;
             self.access(leasts, noted, lanes.list.as_slice(), later)?;
