@@ -15,10 +15,11 @@ use crate::parts::{Part, Parts};
 use crate::presorting::presorted;
 use crate::scan::Known;
 use crate::sharing::{Shares, no_shares, places_in, share_both};
-use rapid_text::OutOfMemory;
+use rapid_text::{OutOfMemory, TextKeyed};
 use serde_json::Value;
 use std::alloc::Global;
 use std::cmp::Ordering;
+use std::hash::{DefaultHasher, Hasher};
 
 /// A row of a part.
 #[derive(Drop)]
@@ -264,11 +265,22 @@ fn unsorted<'b>(
     Ok(cells)
 }
 
+/// The hashers that are keyed by the locations of all rows.
+fn keyed_by(rows: &[Row<'_>]) -> TextKeyed {
+    let mut whole = DefaultHasher::new();
+    for row in rows {
+        let known = known_in_row(row);
+        whole.write(known.one);
+        whole.write(known.other);
+    }
+    TextKeyed::of(&whole.finish().to_le_bytes())
+}
+
 /// Returns the cells of the rows, sorted by location pair, rank, schedule size, part and events.
 pub fn cells_of<'b>(alloc: Global, rows: &'b [Row<'_>]) -> Result<Vec<Cell<'b>>, OutOfMemory>
     ensures { IfOk result (λ cells. AreSorted (map row_said rows.now) cells.items) }
 {
-    let mut shares = no_shares(alloc, rows.len())?;
+    let mut shares = no_shares(alloc, rows.len(), keyed_by(rows))?;
     let made = unsorted(alloc, &mut shares, rows)?;
     let places = places_in(alloc, shares)?;
     let mut cells = presorted(alloc, made, &places)?;

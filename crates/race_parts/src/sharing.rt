@@ -2,13 +2,13 @@
 ghost use Rattle.std.specs.Prelude.{◌≡◌, IfOk, IfSome};
 
 use indexmap::IndexSet;
-use rapid_text::OutOfMemory;
+use rapid_text::{OutOfMemory, TextKeyed};
 use std::alloc::Global;
-use std::hash::{BuildHasherDefault, DefaultHasher, FoldHasher, Hasher};
+use std::hash::{FoldHasher, Hasher};
 
-/// The different locations. The hash is SipHash-1-3 with a fixed key. So names that were searched for can collide, and
-/// make look-ups slow.
-type Locations<'a> = IndexSet<&'a [u8], BuildHasherDefault<DefaultHasher>>;
+/// The different locations. The key of their hash is made of the locations of all rows. So names that were chosen ahead
+/// do not collide.
+type Locations<'a> = IndexSet<&'a [u8], TextKeyed>;
 
 /// How many guesses there are: a power of two.
 const GUESSES: usize = 16_384;
@@ -34,11 +34,15 @@ pub(crate) struct Shares<'a> {
     pairs: Vec<(usize, usize)>,
 }
 
-/// Shares for no rows yet, with room for this many.
-pub(crate) fn no_shares<'a>(alloc: Global, rows: usize) -> Result<Shares<'a>, OutOfMemory> {
+/// Shares for no rows yet, with room for this many. `keyed` has the key of their locations.
+pub(crate) fn no_shares<'a>(
+    alloc: Global,
+    rows: usize,
+    keyed: TextKeyed,
+) -> Result<Shares<'a>, OutOfMemory> {
     let guesses = vec![in alloc; Guess { mix: 0, number: 0 }; GUESSES]?;
     Ok(Shares {
-        locations: IndexSet::with_hasher(alloc, BuildHasherDefault::new()),
+        locations: IndexSet::with_hasher(alloc, keyed),
         guesses,
         pairs: Vec::with_capacity(alloc, rows)?,
     })
