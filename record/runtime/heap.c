@@ -139,7 +139,14 @@ void *__wrap_mmap64(void *at, size_t n, int way, int how, int f, off_t from) {
     return mapped(__real_mmap(at, n, way, how, f, from), n, PC);
 }
 
-/* Memory that stays where it is keeps its name. */
+/* Memory that is given back is written, as by a free. */
+extern int __real_munmap(void *, size_t);
+int __wrap_munmap(void *at, size_t n) {
+    access_(WRITE, at, n, PC);
+    return __real_munmap(at, n);
+}
+
+/* Memory that stays where it is keeps its name. What was where it is no more is given back. */
 void *__wrap_mremap(void *at, size_t before, size_t n, int how, ...) {
     va_list words;
     va_start(words, how);
@@ -147,6 +154,8 @@ void *__wrap_mremap(void *at, size_t before, size_t n, int how, ...) {
     va_end(words);
     if (!IDLE) keep_turn();
     void *p = __real_mremap(at, before, n, how, wanted);
+    size_t kept = p == MAP_FAILED ? before : p != at ? 0 : n;
+    wrote((char *)at + kept, kept < before ? before - kept : 0, PC);
     if (p != at) return mapped(p, n, PC);
     put(RESIZED, (u64)p, n, PC);
     return p;
