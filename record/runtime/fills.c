@@ -1,9 +1,11 @@
 /* Calls that fill memory of the program. What they wrote is known afterwards. By the linker's --wrap. */
 #include <arpa/inet.h>
+#include <sys/resource.h>
+#include <sys/utsname.h>
 
 /* `size` is how many bytes the call wrote at `at`; `answer` is what it gave back. */
 #define FILLS(type, name, given, passed_on, before, at, size) \
-    extern type __real_##name given; \
+    WEAKLY type __real_##name given; \
     type __wrap_##name given { \
         before; \
         comes_to_call(); \
@@ -25,6 +27,22 @@ FILLS(const char *, inet_ntop, (int f, const void *a, char *to, socklen_t n), (f
 FILLS(int, inet_pton, (int f, const char *s, void *to), (f, s, to), READS(s, TEXT_AT(s)), to,
       answer == 1 ? address_size(f) : 0)
 FILLS(int, sem_getvalue, (sem_t * s, int *to), (s, to), , to, answer ? 0 : sizeof *to)
+
+/* Of a path the letters are read, and what the system knows of the file is filled in. */
+#define FILLS_STAT(name, type) \
+    FILLS(int, name, (const char *p, struct type *to), (p, to), READS(p, TEXT_AT(p)), to, answer ? 0 : sizeof *to)
+FILLS_STAT(stat, stat)
+FILLS_STAT(lstat, stat)
+FILLS_STAT(stat64, stat64)
+FILLS_STAT(lstat64, stat64)
+FILLS(int, fstat, (int f, struct stat *to), (f, to), , to, answer ? 0 : sizeof *to)
+FILLS(int, fstat64, (int f, struct stat64 *to), (f, to), , to, answer ? 0 : sizeof *to)
+FILLS(int, uname, (struct utsname * to), (to), , to, answer ? 0 : sizeof *to)
+FILLS(int, getrusage, (int whose, struct rusage *to), (whose, to), , to, answer ? 0 : sizeof *to)
+FILLS(double, frexp, (double v, int *to), (v, to), , to, sizeof *to)
+FILLS(float, frexpf, (float v, int *to), (v, to), , to, sizeof *to)
+FILLS(double, modf, (double v, double *to), (v, to), , to, sizeof *to)
+FILLS(float, modff, (float v, float *to), (v, to), , to, sizeof *to)
 
 /* ---- numbers of chance whose state is the caller's ---- */
 

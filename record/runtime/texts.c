@@ -135,6 +135,13 @@ void __wrap_qsort(void *first, size_t count, size_t size, int (*compare)(const v
     IN_LIBRARY(__real_qsort(first, count, size, compare));
 }
 
+typedef int compares_with(const void *, const void *, void *);
+extern void __real_qsort_r(void *, size_t, size_t, compares_with *, void *);
+void __wrap_qsort_r(void *first, size_t count, size_t size, compares_with *compare, void *with) {
+    READS(first, count * size), WRITES(first, count * size);
+    IN_LIBRARY(__real_qsort_r(first, count, size, compare, with));
+}
+
 /* ---- what is printed: a format reads its texts, and what is printed into memory writes there ---- */
 
 extern int __real_vprintf(const char *, va_list), __real_vfprintf(FILE *, const char *, va_list);

@@ -86,3 +86,39 @@ wchar_t *__wrap_wmemset(wchar_t *to, wchar_t c, size_t n) {
     WRITES(to, LETTERS_OF(n));
     return __real_wmemset(to, c, n);
 }
+
+/* Texts of the one kind that become texts of the other. An answer of -1 is no count: what was written is not known. */
+extern size_t __real_mbstowcs(wchar_t *, const char *, size_t), __real_wcstombs(char *, const wchar_t *, size_t);
+static size_t with_end(size_t count, size_t most) { return count == ~0ul ? 0 : count < most ? count + 1 : most; }
+
+size_t __wrap_mbstowcs(wchar_t *to, const char *from, size_t n) {
+    READS(from, __real_strlen(from) + 1);
+    size_t count = __real_mbstowcs(to, from, n);
+    wrote(to, to ? LETTERS_OF(with_end(count, n)) : 0, PC);
+    return count;
+}
+
+size_t __wrap_wcstombs(char *to, const wchar_t *from, size_t n) {
+    READS_WIDE(from);
+    size_t count = __real_wcstombs(to, from, n);
+    wrote(to, to ? with_end(count, n) : 0, PC);
+    return count;
+}
+
+extern int __real_vswprintf(wchar_t *, size_t, const wchar_t *, va_list);
+static int printed_wide(wchar_t *to, size_t n, const wchar_t *format, va_list words, u64 pc) {
+    comes_to_call();
+    int count = __real_vswprintf(to, n, format, words);
+    wrote(to, count < 0 ? 0 : LETTERS_OF((size_t)count + 1), pc);
+    return count;
+}
+int __wrap_vswprintf(wchar_t *to, size_t n, const wchar_t *format, va_list words) {
+    return printed_wide(to, n, format, words, PC);
+}
+int __wrap_swprintf(wchar_t *to, size_t n, const wchar_t *format, ...) {
+    va_list words;
+    va_start(words, format);
+    int count = printed_wide(to, n, format, words, PC);
+    va_end(words);
+    return count;
+}
