@@ -1,5 +1,6 @@
 // Streams of C++ that threads read: two that read one stream without a lock race, and so do two that write what is read.
 // Behind a lock, and by the standard streams, there is no race.
+#include <atomic>
 #include <cstdio>
 #include <fstream>
 #include <iostream>
@@ -8,15 +9,19 @@
 #include <string>
 #include <thread>
 static std::istringstream numbers("1 2 3 4"), words("some words of a text"), lines("a line\nanother\n"), guarded("5 6 7 8");
-static std::istringstream letters("abcdefgh"), mine("10 2.5 word x\nrest of a line that is long\nmore\nlast 77 end");
+static std::istringstream letters("abcdefgh"), mine("10 2.5 word x\nrest of a line that is long\nmore\nlast 77 end\n"
+                                 "a line for a text that has room\na line for a text that has no room\n");
 static std::istringstream blank("  ");
-static std::stringstream both, empty;
+static std::stringstream both, empty, passed, gone;
+static std::atomic<int> has_read;
 static std::ifstream file("/dev/zero");
 static std::mutex m;
 static int number, kept, last, sum;
-static double real;
+static struct {
+    double real, beside;
+} pair;
 static char letter, block[8], text[16];
-static std::string word, line;
+static std::string word, line, roomy = "a text that has room for a line, and more than that", narrow;
 static volatile size_t seen;
 
 static void reads() {
@@ -31,14 +36,20 @@ static void reads() {
     both << "hello ";                       // RACE both
     empty.peek();                           // RACE empty
     mine >> number;                         // RACE number
-    mine >> real;                           // RACE real
+    mine >> pair.real;                      // RACE real
     mine >> word;                           // RACE word
     mine >> letter;                         // RACE letter
     mine.ignore(1);
     std::getline(mine, line);               // RACE line
     mine.getline(text, 16);                 // RACE text
     mine.read(block, 4);                    // RACE block
+    std::getline(mine, s);
+    std::getline(mine, roomy);              // RACE roomy
+    std::getline(mine, narrow);             // RACE narrow
     blank >> kept;
+    passed << "hello ";                     // RACE passed
+    gone.get(c);                            // RACE gone
+    has_read.store(1, std::memory_order_relaxed);
     std::lock_guard<std::mutex> l(m);
     guarded >> last;
     std::cin >> s;
@@ -56,13 +67,19 @@ static void also_reads() {
     both >> s;                              // RACE both
     empty << 5;                             // RACE empty
     seen = (size_t)number;                  // RACE number
-    seen = (size_t)real;                    // RACE real
+    seen = (size_t)((char *)&pair.real)[7]; // RACE real
+    seen = (size_t)pair.beside;
     seen = word.size();                     // RACE word
     seen = (size_t)letter;                  // RACE letter
     seen = line.size();                     // RACE line
-    seen = (size_t)text[3];                 // RACE text
+    seen = (size_t)text[4];                 // RACE text
+    seen = (size_t)roomy.data()[2];         // RACE roomy
+    seen = (size_t)narrow.data();           // RACE narrow
     seen = (size_t)block[3];                // RACE block
-    seen = (size_t)(block[4] + block[5] + kept);
+    seen = (size_t)(block[4] + text[5] + kept);
+    while (!has_read.load(std::memory_order_relaxed)) {}
+    passed >> s;                            // RACE passed
+    gone.peek();                            // RACE gone
     std::lock_guard<std::mutex> l(m);
     guarded >> sum;
     sum += last;
