@@ -224,6 +224,15 @@ async def test_how_far_a_run_goes(program):
         same((told["answer"], told["undone"], told["made"]), ("6: undone 2", 1, [6]))
 
 
+async def test_a_run_while_another_drops_the_schedule(program):
+    """What was refused is done again without the event that may not come, and that is refused too."""
+    text = "T1|w(a)|a:0\nT2|w(b)|b:0\nT2|r(a)|b:1\n"
+    async with Alone(between(program, batch_add_A_1="drop A"), ("new A",), text) as alone:
+        told = await steps.Run(alone.bench, "A").to(1, None)
+        same(told, {"added": 0, "entries": [], "answer": "refused 70 at 0 42 no such schedule"})
+        same(logged(), ["1 new A", "2 drop A"])
+
+
 async def test_a_witness_that_is_entered(program):
     """It is proposed and adopted in one batch, or the refusal is told."""
     async with Alone(program, ("new A",), "T1|w(x)|a:0\nT2|w(x)|b:0\n") as alone:
