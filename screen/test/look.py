@@ -284,6 +284,10 @@ async def test_the_splitter(program):
         await page.until(f"{height} === {most}")
         await page.click("#splitter", times=2)
         await page.until(f"{height} === {before}")
+        x, y = await page.steady("#splitter")
+        for by in (0, 9):  # a hand that let go moves it no more
+            await page.mouse("mouseMoved", x + by, y)
+        same(await page.run(height), before)
         is_clean(page, screen)
 
 

@@ -448,6 +448,40 @@ async def test_a_run_that_is_not_over(program):
         is_clean(page, screen)
 
 
+# What the page tells the server that it showed; and whether the page is hidden by another tab.
+TELLS = """{
+  const send = WebSocket.prototype.send;
+  window.told = [];
+  WebSocket.prototype.send = function (text) {
+    const { do: what, n } = JSON.parse(text);
+    if (what === "seen") window.told.push(n);
+    send.call(this, text);
+  };
+}"""
+HIDDEN = """Object.defineProperty(document, "hidden", {{ get: () => {}, configurable: true }});
+document.dispatchEvent(new Event("visibilitychange")); window.told.at(-1)"""
+
+
+async def test_news_that_come_while_the_page_is_hidden(program):
+    """What was shown before is seen, and what comes meanwhile is not until the page is there again."""
+    traces.write("trace", FREE)
+    counted = "document.getElementById('feed-count').textContent === '{}'"
+    async with Screen(program, "trace", "log") as screen, Browser() as browser:
+        page = await browser.page(screen.link)
+        await new(page, 8)
+        await page.run(TELLS)
+        await session(program, 2, "add A 0\n")
+        await page.until(counted.format(2))
+        same(await page.run(HIDDEN.format("true")), 2)
+        told = await page.run("window.told.length")
+        await session(program, 2, "add A 1\n")
+        await page.until(counted.format(3))
+        same(await page.run("window.told.slice({}).filter((n) => n > 2)".format(told)), [])
+        await page.run(HIDDEN.format("false"))
+        same(await page.run(HIDDEN.format("true")), 3)
+        is_clean(page, screen)
+
+
 async def test_news_that_come_after_they_were_seen(program):
     """Who marks the log as seen is not told of that again by an answer that comes late."""
     traces.write("trace", FREE)
