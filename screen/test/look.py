@@ -287,7 +287,8 @@ async def test_the_splitter(program):
         x, y = await page.steady("#splitter")
         for by in (0, 9):  # a hand that let go moves it no more
             await page.mouse("mouseMoved", x + by, y)
-        same(await page.run(height), before)
+        is_sized = "document.getElementById('next').classList.contains('sized')"
+        same(await page.run(f"[{height}, {is_sized}]"), [before, False])
         is_clean(page, screen)
 
 
