@@ -45,14 +45,10 @@ async def asked(page, what, of):
     return await page.run(f"import('/net.js').then(({{ ask }}) => ask('{what}')).then((told) => told.{of})")
 
 
-async def is_settled(page, number):
-    """Waits until a page shows so many entries, all of them as seen, and chooses the first line and the last event."""
-    await page.until(f"document.getElementById('feed-count').textContent === '{number}'")
+async def is_settled(page):
+    """Waits until a page shows all entries and races, and chooses the first line and the last event."""
+    await page.until(f"document.getElementById('feed-count').textContent === '{len(logged())}'")
     await page.until("document.querySelectorAll('.race').length === 3")
-    await focus(page, "next-list")
-    await press(page, "s")
-    while await asked(page, "hello", "seen") != number:
-        await asyncio.sleep(0.05)
     for pane, key in (("stage", "End"), ("next-list", "Home")):
         await focus(page, pane)
         await page.key(key)
@@ -61,10 +57,13 @@ async def is_settled(page, number):
 
 async def is_as_anew(browser, page):
     """Compares what is drawn with what a page draws that is opened now."""
-    await is_settled(page, len(logged()))
+    await is_settled(page)
+    await press(page, "s")  # the other page begins with what this one has seen
+    while await asked(page, "hello", "seen") != len(logged()):
+        await asyncio.sleep(0.05)
     other = await browser.page(await asked(page, "link", "link"))
     await other.until(f"{OPEN} === {json.dumps(await page.run(OPEN))} && {LENGTH} === '{await page.run(LENGTH)}'")
-    await is_settled(other, len(logged()))
+    await is_settled(other)
     same(await different(page, other), [])
     return other
 
@@ -94,7 +93,8 @@ async def test_what_is_drawn_is_as_if_it_were_opened_now(program):
         await press(page, "1", "2")
         is_clean(await is_as_anew(browser, page), screen)
         traces.write("log.names", "2 Ada\n")
-        await session(program, 2, "add r2-3 2\nnew B\nadd B 0\nadd B 1\nadd B 2\nundo\npropose 2 3 0 1\nnew C\n")
+        calls = "new B\nadd B 0\nadd B 1\nadd B 2\nundo\npropose 2 3 0 1\nnew C\nadd r0-1 0\n"
+        await session(program, 2, "add r2-3 2\n" + calls)
         await page.until(f"{LENGTH} === '3 events'")
         await press(page, "1", "1")  # a lock is held
         await focus(page, "stage")
