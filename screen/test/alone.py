@@ -215,7 +215,7 @@ async def test_how_far_a_run_goes(program):
         told = await steps.Run(alone.bench, "A").to(1, 2)
         same(told, {"added": 1, "entries": [3], "answer": "3: done"})
         await alone.other("new B")
-        told = await steps.undo(alone.bench, [3, 4])
+        told = await steps.undo(alone.bench, [4, 3])  # of several answers the refusal is told
         same((told["undone"], told["made"], "rests" in told), (1, [5], False))
         same(told["answer"].startswith("refused 58 "), True)
         told = await steps.undo(alone.bench, [1])
