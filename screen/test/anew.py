@@ -9,7 +9,7 @@ from browser import ALT, Browser
 from judged import same
 from live import session
 from meanwhile import IDLE
-from stage import LENGTH, NEXT, Screen, comes, focus, is_clean, logged, press
+from stage import LENGTH, NEXT, ROWS, Screen, comes, focus, is_clean, logged, press
 
 OPEN = "document.querySelector('#bar h2').textContent"
 # What is drawn and not hidden, as trees of names, attributes and texts.
@@ -24,6 +24,10 @@ DRAWN = """(() => {
   return ["races", "bar", "lanes-head", "space", "pair", "next", "side"].flatMap((id) =>
     lines(document.getElementById(id), 0));
 })()"""
+# What is open, its length, and how many rows and next events are there.
+THERE = f"[{OPEN}, {LENGTH}, {ROWS}, {NEXT}]"
+# How often two pages are compared until they are the same.
+TRIES = 400
 LONG = "a_variable_of_a_name_that_is_longer_than_a_line_has_room_for_if_others_are_beside_it"
 TRACE = f"""T1|w({LONG})|one.c:1
 T2|w({LONG})|two.c:1
@@ -62,7 +66,7 @@ async def is_as_anew(browser, page):
     while await asked(page, "hello", "seen") != len(logged()):
         await asyncio.sleep(0.05)
     other = await browser.page(await asked(page, "link", "link"))
-    await other.until(f"{OPEN} === {json.dumps(await page.run(OPEN))} && {LENGTH} === '{await page.run(LENGTH)}'")
+    await other.until(f"JSON.stringify({THERE}) === {json.dumps(await page.run(f'JSON.stringify({THERE})'))}")
     await is_settled(other)
     same(await different(page, other), [])
     return other
@@ -70,7 +74,7 @@ async def is_as_anew(browser, page):
 
 async def different(page, other):
     """Lines that are in one page alone, if they stay so while both come to rest."""
-    for _ in range(40):
+    for _ in range(TRIES):
         drawn, anew = await page.run(DRAWN), await other.run(DRAWN)
         if drawn == anew:
             return []
@@ -97,10 +101,11 @@ async def test_what_is_drawn_is_as_if_it_were_opened_now(program):
         await session(program, 2, "add r2-3 2\n" + calls)
         await page.until(f"{LENGTH} === '3 events'")
         await press(page, "1", "1")  # a lock is held
+        await page.until(f"{LENGTH} === '5 events' && {ROWS} === 5")
         await focus(page, "stage")
-        await page.key("End")
-        await page.key("ArrowUp")
-        await page.key("ArrowUp")
+        for key in ("End", "ArrowUp", "ArrowUp"):
+            await page.key(key)
+        await page.until("document.querySelector('#space .row.on')?.dataset.p === '2'")
         await page.key("ArrowUp", ALT)
         await comes(lambda: logged()[-1] == "1 swap r2-3 1")
         is_clean(await is_as_anew(browser, page), screen)
