@@ -59,6 +59,7 @@ IN_THE_WAY = (
     (["swap A 2", "swap A 0"], (0, 1), 6),
     (["swap A 2", "swap A 0"], (1, -1), 6),
     (["swap A 2"], (1, 1), 5),  # the neighbour is another
+    (["batch back A ; back A", "add A 4"], (1, 1), 5),
     (["swap A 0"], (2, -1), 5),
     (["drop A", "new A", "add A 0", "add A 1", "add A 2", "add A 3"], "back", 10),
     (["drop A", "new A", "add A 0"], (2, 1), 6),  # none of them put an event there
