@@ -30,7 +30,11 @@ AreSame one other = (e : ℕ) → slice_index_or one e false ≡ slice_index_or 
 -- one of them is an event.
 abbrev pub IsMeant : Bool → List Bool → List Bool → ℕ × ℕ → Type 0
 IsMeant is_event one other marks =
-    (AreSame one other × (marks ≡ (1, 1))) ⊎ (((is_event ≡ true) ⊎ AreApart one other) × (marks ≡ (1, 2)))
+    (AreSame one other × (marks ≡ (1, 1))) ⊎ ((¬ AreSame one other) × ((is_event ≡ true) ⊎ AreApart one other) × (marks ≡ (1, 2)))
+
+-- both names mean some access, not the same ones, and none of the names is an event
+abbrev pub AreMixed : Bool → List Bool → List Bool → Type 0
+AreMixed is_event one other = (is_event ≡ false) × (¬ AreSame one other) × HaveShared one other
 
 -- a and b are the pair of the verdict that `triage` has on the accesses with these marks, if it takes marks for places
 pub record IsReported (r : Recording) (place : ℕ → ℕ) (marks : ℕ × ℕ) (a b : ℕ) : Type 0 where
@@ -48,10 +52,10 @@ pub record IsPlaced (r : Recording) (is_event : Bool) (one other : List Bool) (a
   pub meant : IsMeant is_event one other marks
   pub reported : IsReported r (slice_index (marks_of one other)) marks a b
 
--- a name means accesses at several places, or both names mean some of the same; or no two of the accesses conflict
+-- a name means accesses at several places, or both names mean some of the same and not all; or no two of the accesses conflict
 abbrev pub IsUnplaced : Recording → Bool → List Bool → List Bool → Type 0
 IsUnplaced r is_event one other =
-    HaveSeveral r one ⊎ HaveSeveral r other ⊎ HaveShared one other
+    HaveSeveral r one ⊎ HaveSeveral r other ⊎ AreMixed is_event one other
     ⊎ ((marks : ℕ × ℕ) × IsMeant is_event one other marks × ¬ HaveConflict r.events (slice_index (marks_of one other)) marks)
 
 -- a and b conflict, and are the two events, the earlier first

@@ -2,8 +2,8 @@
 ghost use Rattle.std.specs.Prelude.{◌≡◌, ◌<◌, ℕ, IfOk, IfSome, None, Ok, false, true, length, slice_index, slice_index_or};
 ghost use Rattle.event_index.specs.Relations.{IsConflicting};
 ghost use Rattle.race_groups.specs.Found.{HaveConflict};
-ghost use Rattle.explain_report.specs.places.Accesses.{HaveShared, flags_of};
-ghost use Rattle.calls.specs.pair.Named.{AreSame, IsMeant, IsNamedPair, IsNoPair, IsPlaced, IsReported, IsUnplaced, mark, marks_of};
+ghost use Rattle.explain_report.specs.places.Accesses.{flags_of};
+ghost use Rattle.calls.specs.pair.Named.{AreMixed, AreSame, IsMeant, IsNamedPair, IsNoPair, IsPlaced, IsReported, IsUnplaced, mark, marks_of};
 
 use event_index::Indexed;
 use explain_report::findings::pair_of;
@@ -100,7 +100,7 @@ fn pair_of_flags(
 fn meant(ones: &[bool], others: &[bool], is_event: bool) -> Option<(u32, u32)>
     requires { length ones.now ≡ length others.now }
     ensures some { IfSome result (IsMeant is_event ones.now others.now) }
-    ensures none { result ≡ None → HaveShared ones.now others.now }
+    ensures none { result ≡ None → AreMixed is_event ones.now others.now }
 {
     if are_same(ones, others) {
         return Some((1, 1));
@@ -114,7 +114,8 @@ fn meant(ones: &[bool], others: &[bool], is_event: bool) -> Option<(u32, u32)>
 /// Whether both names mean the same accesses.
 fn are_same(ones: &[bool], others: &[bool]) -> bool
     requires { length ones.now ≡ length others.now }
-    ensures { result ≡ true → AreSame ones.now others.now }
+    ensures same { result ≡ true → AreSame ones.now others.now }
+    ensures other { result ≡ false → ¬ AreSame ones.now others.now }
 {
     for event in 0..ones.len() {
         if ones[event] != others[event] {
