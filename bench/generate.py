@@ -102,6 +102,16 @@ def colliding_names(folder, count):
     return text.split()
 
 
+def colliding_classes(folder, events):
+    """Reads of many variables at many places, whose pairs of numbers collide if they are hashed without a key."""
+    here = os.path.dirname(os.path.abspath(__file__))
+    tool = os.path.join(folder, "collide_pairs")
+    subprocess.run(["cc", "-O2", "-o", tool, os.path.join(here, "collide_pairs.c")], check=True)
+    text = subprocess.run([tool, str(events), str(events), "16"], check=True, capture_output=True, text=True).stdout
+    os.remove(tool)
+    return text.splitlines()
+
+
 def write(folder, name, lines, script=()):
     with open(os.path.join(folder, name), "w", encoding="ascii") as out:
         out.write("".join(line + "\n" for line in lines))
@@ -244,6 +254,7 @@ def write_places(folder):
     write_trace(folder, f"told_to_all_256_{MOST_EVENTS}", told_to_all(MOST_EVENTS, 256))
     write_trace(folder, f"nested_locks_{MOST_EVENTS}", nested_locks(MOST_EVENTS))
     write_trace(folder, f"compared_locks_{sized(1_000)}", compared_locks(sized(1_000), sized(20)))
+    write_trace(folder, f"colliding_classes_{sized(90_000)}", colliding_classes(folder, sized(90_000)))
     write_trace(folder, f"one_writing_{sized(100_000)}", one_writing_place(sized(100_000)))
     write_trace(folder, f"written_everywhere_{sized(40_000)}", [f"T0|w(x)|p{i}" for i in range(sized(40_000))])
 
