@@ -12,7 +12,7 @@ pub loop-left-init : goal.loop-left-init
 loop-left-init c =
     let keys = c.args.places.now.locations.keys in
     let lines = slice_split is_line_feed c.args.text.now in
-    subst (λ (known : List (ℕ × ℕ)). IsReadUpTo keys lines lines Nothing known) (sym c.new-known.ensures.empty) (IsReadUpTo-start keys lines)
+    subst (λ (known : List (ℕ × ℕ)). IsReadUpTo keys lines lines Nothing known) (sym c.with_hasher-known.ensures.empty) (IsReadUpTo-start keys lines)
 
 pub loop-left-preserved : goal.loop-left-preserved
 loop-left-preserved c =
