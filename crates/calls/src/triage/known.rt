@@ -7,7 +7,7 @@ ghost use Rattle.calls.specs.triage.Answers.{AreGiven, AreKnownBy, IsGiven};
 
 use event_index::Indexed;
 use race_triage::{Known, Places, Verdicts, known_of};
-use rapid_text::OutOfMemory;
+use rapid_text::{OutOfMemory, TextKeyed};
 use std::alloc::Global;
 use triage_file::{Value, add_triaged};
 
@@ -71,19 +71,20 @@ fn known_plus(
     ensures { IfOk result (λ all. AreKnownBy indexed.now found.now.places.numbers.items (Some entries.now) found.now.verdicts.items
         (known_places known) (known_places all)) }
 {
-    match known_more(indexed, found, or_nothing(alloc, known), entries) {
+    let keyed = *found.places.locations.hasher();
+    match known_more(indexed, found, or_nothing(alloc, known, keyed), entries) {
         Ok(more) => Ok(Some(more)),
         Err(refused) => Err(refused),
     }
 }
 
-/// These pairs; an empty set if there are none.
-fn or_nothing(alloc: Global, known: Option<Known>) -> Known
+/// These pairs; an empty set with these hashers if there are none.
+fn or_nothing(alloc: Global, known: Option<Known>, keyed: TextKeyed) -> Known
     ensures { (v : Told) → is_known (Some result.keys) v ≡ is_known (known_places known) v }
 {
     match known {
         Some(known) => known,
-        None => Known::new(alloc),
+        None => Known::with_hasher(alloc, keyed),
     }
 }
 
