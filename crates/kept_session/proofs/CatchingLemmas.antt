@@ -4,7 +4,7 @@ use Rattle.rapid_text.specs.Recording.{Recording}
 use Rattle.inverse_log.specs.declared.entry.Entry.{Entry}
 use Rattle.script_language.specs.Scripts.{script_line_reading}
 use Rattle.kept_session.specs.Sessions.{log_by, log_of, log_behind, IsLogged, AreLogged}
-use Rattle.kept_session.specs.Faults.{IsFirstRefused, IsLineFault, IsLinesFault, IsFileFault, IsHeadFault, IsTurnFault, IsOpenFault, IsMakeFault}
+use Rattle.kept_session.specs.Faults.{IsFirstRefused, IsLineFault, IsLinesFault, IsFileFault, IsHeadFault, IsTurnFault, IsOpenFault, IsMakeFault, IsWriteFault}
 use Rattle.kept_session.specs.declared.fault.SessionFault.{SessionFault}
 use Rattle.kept_session.specs.declared.fault.SessionFault.TheVariants.{Replay, LogLine, OtherTrace}
 use Rattle.client_scripts.specs.declared.fault.ReadCause.TheVariants.{Device as DeviceFailed}
@@ -13,6 +13,8 @@ use Rattle.client_scripts.specs.declared.fault.ReplayFault.TheVariants.{Read, Wr
 use Rattle.kept_log.specs.declared.device.DeviceError.{DeviceError}
 use Rattle.kept_log.specs.declared.device.DeviceError.TheVariants.{Memory, Failed, Shorter}
 use Rattle.kept_log.specs.Log.{lines_behind}
+use Rattle.kept_log.specs.declared.log.AppendError.{AppendError}
+use Rattle.kept_log.specs.declared.log.AppendError.TheVariants.{OutOfMemory as NoRoom, Full, Device}
 use Rattle.std.proofs.lemmas.List.{length-take-le}
 use Rattle.kept_session.proofs.LogLemmas.{log_behind-append, AreLogged-append, logged_length}
 
@@ -140,3 +142,29 @@ open-told T head seen OtherTrace is = is
 -- a log of this head begins its lines behind it
 pub start_behind : (start : ℕ) (head seen : List ℕ) → start ≤ length seen → take start seen ≡ head → lines_behind (length head) seen ≡ lines_behind start seen
 start_behind start head seen within is = ap (λ (n : ℕ). lines_behind n seen) (sym (ap length is) ∙ length-take-le start seen within)
+
+-- a device that was not written, for no want of memory, has failed
+pub failed_write : (why : DeviceError) → why ≢ Memory → why ≢ Shorter → why ≡ Failed
+failed_write Memory memory shorter = absurd (memory refl)
+failed_write Failed memory shorter = refl
+failed_write Shorter memory shorter = absurd (shorter refl)
+
+-- what is told of a block that was not added
+pub block_fault : (why : AppendError) (fault : SessionFault) → IsWriteFault why fault → (fault ≡ Replay NoMemory) ⊎ (fault ≡ Replay Write)
+block_fault NoRoom fault is = inl is
+block_fault Full fault is = inr is
+block_fault (Device why) fault is = unwritten_fault why fault is.0 is.1
+
+pub block_written : (why : AppendError) (fault : SessionFault) (A B : Type 0) → IsWriteFault why fault → (why ≡ Device Failed → A) → why ≢ Device Shorter → (why ≡ Full → B) → fault ≡ Replay Write → A ⊎ B
+block_written NoRoom fault A B is failed shorter full write = absurd (let e : Replay NoMemory ≡ Replay Write = sym is ∙ write in cc)
+block_written Full fault A B is failed shorter full write = inr (full refl)
+block_written (Device Memory) fault A B is failed shorter full write = absurd (let e : Replay NoMemory ≡ Replay Write = sym (is.0 refl) ∙ write in cc)
+block_written (Device Failed) fault A B is failed shorter full write = inl (failed refl)
+block_written (Device Shorter) fault A B is failed shorter full write = absurd (shorter refl)
+
+pub block_unchanged : (why : AppendError) (fault : SessionFault) (A : Type 0) → IsWriteFault why fault → (why ≡ NoRoom → A) → (why ≡ Device Memory → A) → fault ≢ Replay Write → A
+block_unchanged NoRoom fault A is room memory other = room refl
+block_unchanged Full fault A is room memory other = absurd (other is)
+block_unchanged (Device Memory) fault A is room memory other = memory refl
+block_unchanged (Device Failed) fault A is room memory other = absurd (other (is.1 (λ e. absurd cc)))
+block_unchanged (Device Shorter) fault A is room memory other = absurd (other (is.1 (λ e. absurd cc)))

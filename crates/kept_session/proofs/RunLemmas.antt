@@ -22,6 +22,7 @@ use Rattle.kept_session.specs.Faults.{IsTurnFault}
 use Rattle.kept_session.specs.Runs.{IsLogTurn, AreTurns, no_turn, one_more, IsRun, IsFinished, IsUnanswered, IsUnwritten, IsHalted}
 use Rattle.kept_session.specs.Sessions.{IsAllOrNone, IsTurn, log_of, number_after, number_behind}
 use Rattle.kept_session.specs.Steps.{IsKeepFault, IsTakenIn, IsUnderway}
+use Rattle.kept_session.specs.Views.{IsFailedBetween, IsTooLong}
 use Rattle.kept_session.specs.declared.fault.SessionFault.{SessionFault}
 use Rattle.kept_session.specs.declared.fault.SessionFault.TheVariants.{Replay}
 
@@ -37,6 +38,15 @@ IsInputFault bytes fault = (fault ≡ Replay NoMemory) ⊎ ((why : ReadCause) ×
 input_told : (T : Recording) (known seen : List (List ℕ)) (before now : List (Option (List ℕ))) (bytes : List ℕ) (fault : SessionFault) → IsInputFault bytes fault → IsTurnFault T known seen before now fault ⊎ ((why : ReadCause) × (fault ≡ Replay (Read 3 why)))
 input_told T known seen before now bytes fault (inl memory) = inl (subst (IsTurnFault T known seen before now) (sym memory) tt)
 input_told T known seen before now bytes fault (inr (why, unread, is)) = inr (why, unread)
+
+-- and is no failed call of it
+input_not_write : (bytes : List ℕ) (fault : SessionFault) → IsInputFault bytes fault → fault ≢ Replay Write
+input_not_write bytes fault (inl memory) is = absurd (let e : Replay NoMemory ≡ Replay Write = sym memory ∙ is in cc)
+input_not_write bytes fault (inr (why, unread, told)) is = absurd (let e : Replay (Read 3 why) ≡ Replay Write = sym unread ∙ is in cc)
+
+input_not_log : (bytes : List ℕ) (fault : SessionFault) → IsInputFault bytes fault → fault ≢ Replay (Read 2 DeviceFailed)
+input_not_log bytes fault (inl memory) is = absurd (let e : Replay NoMemory ≡ Replay (Read 2 DeviceFailed) = sym memory ∙ is in cc)
+input_not_log bytes fault (inr (why, unread, told)) is = absurd (let e : Replay (Read 3 why) ≡ Replay (Read 2 DeviceFailed) = sym unread ∙ is in cc)
 
 -- and tells why these bytes were not read on
 input_unread : (bytes : List ℕ) (fault : SessionFault) → IsInputFault bytes fault → (why : ReadCause) → fault ≡ Replay (Read 3 why) → IsUnreadable bytes why
@@ -133,13 +143,20 @@ module _ {D : Type 0} (disk : Ghosts D) (T : Recording) (client : Option ℕ) wh
       → IsAsFound disk old new ⊎ IsAllOrNone disk T client n (slice_split is_line_feed piece) old new → IsAsFound disk old new ⊎ IsAllOrNone disk T client n (slice_split is_line_feed bytes) old new
   unanswered_whole n piece bytes old new is whole = subst (λ b. IsAsFound disk old new ⊎ IsAllOrNone disk T client n (slice_split is_line_feed b) old new) is whole
 
+  pub unanswered_long : (n : ℕ) (piece bytes : List ℕ) (old new : KeptLog D) (fault : SessionFault) → piece ≡ bytes
+      → (fault ≡ Replay Write → IsFailedBetween disk old new ⊎ IsTooLong disk T client n (slice_split is_line_feed piece) new)
+      → fault ≡ Replay Write → IsFailedBetween disk old new ⊎ IsTooLong disk T client n (slice_split is_line_feed bytes) new
+  unanswered_long n piece bytes old new fault is long write = subst (λ b. IsFailedBetween disk old new ⊎ IsTooLong disk T client n (slice_split is_line_feed b) new) is (long write)
+
   -- a turn that was not answered
   pub unanswered : (n : ℕ) (old new : KeptLog D) (bytes : List ℕ) (failed : Bool) (taken : Option (List ℕ)) (fault : SessionFault)
       → failed ≡ false → LosesNone disk old new → IsAsFound disk old new ⊎ IsAllOrNone disk T client n (slice_split is_line_feed bytes) old new → (fault ≢ Replay Write → IsAsFound disk old new)
+      → (fault ≡ Replay (Read 2 DeviceFailed) → IsFailedBetween disk old new)
+      → (fault ≡ Replay Write → IsFailedBetween disk old new ⊎ IsTooLong disk T client n (slice_split is_line_feed bytes) new)
       → IsTurnFault T (lines_of disk old) (lines_of disk new) (disk.found old.device) (disk.found new.device) fault
       → ((why : ReadCause) → fault ≢ Replay (Read 3 why)) → IsHalted disk T client n old new bytes failed taken taken fault
   unfolding no_run
-  unanswered n old new bytes failed taken fault working none_lost whole unchanged told other = record {
+  unanswered n old new bytes failed taken fault working none_lost whole unchanged read_failed write_failed told other = record {
     log = old;
     text = [];
     left = slice_split is_line_feed bytes;
@@ -153,6 +170,8 @@ module _ {D : Type 0} (disk : Ghosts D) (T : Recording) (client : Option ℕ) wh
       none_lost = none_lost;
       whole = whole;
       unchanged = unchanged;
+      read_failed = read_failed;
+      write_failed = write_failed;
       told = inl told;
     });
     unread = λ why is. absurd (other why is);
@@ -209,6 +228,8 @@ module _ {D : Type 0} (disk : Ghosts D) (T : Recording) (client : Option ℕ) wh
         none_lost = u.none_lost;
         whole = u.whole;
         unchanged = u.unchanged;
+        read_failed = u.read_failed;
+        write_failed = u.write_failed;
         told = u.told;
       }
 
@@ -258,6 +279,8 @@ module _ {D : Type 0} (disk : Ghosts D) (T : Recording) (client : Option ℕ) wh
         none_lost = u.none_lost;
         whole = ⊎_elim inl (λ (all : IsAllOrNone disk T client (number_behind k h.run.asked) u.more h.log new). inr (subst (λ j. IsAllOrNone disk T client j u.more h.log new) numbers all)) u.whole;
         unchanged = u.unchanged;
+        read_failed = u.read_failed;
+        write_failed = λ is. subst (λ j. IsFailedBetween disk h.log new ⊎ IsTooLong disk T client j u.more new) numbers (u.write_failed is);
         told = u.told;
       }
 
@@ -319,6 +342,8 @@ module _ {D : Type 0} (disk : Ghosts D) (T : Recording) (client : Option ℕ) wh
       none_lost = inl (inl refl);
       whole = inl (inl (inl refl));
       unchanged = λ _. inl (inl refl);
+      read_failed = λ unread. absurd (input_not_log bytes fault is unread);
+      write_failed = λ write. absurd (input_not_write bytes fault is write);
       told = input_told T (lines_of disk new) (lines_of disk new) (disk.found new.device) (disk.found new.device) bytes fault is;
     });
     unread = λ why unread. (begun, refl, input_unread bytes fault is why unread);

@@ -1,19 +1,23 @@
 -- What a crash leaves of a piece, and of a file that is opened.
-use Rattle.std.proofs.Common.{◌≡◌, ◌⊎◌, inl, inr, ⊎_elim, ℕ, List, [], ◌∷◌, ◌++◌, Option, Some, Result, Ok, Err, length, take, drop, refl, sym, ap, ◌∙◌, subst, append-nil}
+use Rattle.std.proofs.Common.{◌≡◌, ◌⊎◌, inl, inr, ⊎_elim, ℕ, List, [], ◌∷◌, ◌++◌, Option, Some, Result, Ok, Err, length, take, drop, refl, sym, ap, ◌∙◌, subst, append-nil, ◌<◌, arith}
 use Rattle.std.proofs.lemmas.List.{length-take-le}
 use Rattle.std.specs.Result.{IfOk, IfErr}
 use Rattle.rapid_text.specs.Recording.{Recording}
 use Rattle.inverse_log.specs.declared.entry.Entry.{Entry}
-use Rattle.kept_log.specs.Device.{Elapses, AfterOthers}
+use Rattle.std.specs.Prelude.{IsErr}
+use Rattle.kept_log.specs.Device.{Elapses, AfterOthers, HasCause}
 use Rattle.kept_log.specs.Moments.{LeavesOnly}
 use Rattle.kept_log.specs.Lines.{kept_lines}
-use Rattle.kept_log.specs.Log.{StandsFor, IsOldOrNew, BeginsWith, HasTurn, IsAtRest, head_of, lines_of, lines_behind}
+use Rattle.kept_log.specs.Log.{StandsFor, IsOldOrNew, BeginsWith, HasTurn, IsAtRest, IsTooMuch, head_of, lines_of, lines_behind}
+use Rattle.kept_log.specs.declared.device.DeviceError.{DeviceError}
+use Rattle.kept_log.specs.declared.device.DeviceError.TheVariants.{Failed}
 use Rattle.kept_log.specs.declared.device.Device.{Ghosts}
 use Rattle.kept_log.specs.declared.log.KeptLog.{KeptLog}
 use Rattle.kept_log.proofs.MomentLemmas.{started, goes_on, then_on, weaker}
 use Rattle.kept_session.proofs.FrontLemmas.{in_front, old_or_new_front}
 use Rattle.kept_session.specs.Sessions.{AreGained, IsAllOrNone, IsUntaken, IsTaken, BeforeLock, KeepsLines, log_of}
 use Rattle.kept_session.specs.Steps.{IsPut, PieceAnswered}
+use Rattle.kept_session.specs.Views.{IsFailedBetween, IsTooLong}
 
 module _ {D : Type 0} (disk : Ghosts D) where
   -- a log at rest stands for its lines
@@ -54,6 +58,26 @@ put-block disk T client first raws L M out_old out_new block_old block_new old n
       moments = subst (λ b. LeavesOnly disk old.device new.device (IsOldOrNew (head_of disk old) (lines_of disk old) b)) block moments;
       shown = subst (λ b. IsOldOrNew (head_of disk old) (lines_of disk old) b (disk.seen new.device)) block shown;
     }
+
+-- the calls of a piece were made, and the file would have been too long with its block
+pub block_long : {D : Type 0} (disk : Ghosts D) (T : Recording) (client : Option ℕ) (first : ℕ) (raws : List (List ℕ)) (L M : List Entry) (out_old out_new : List ℕ)
+    (block_old block_new : List (List ℕ)) (old new : KeptLog D) → (h : PieceAnswered T client first raws L M out_old out_new block_old block_new) → block_old ≡ []
+    → log_of T (lines_of disk old) ≡ L → IsAtRest disk old → IsTooMuch old block_new → new ≡ old → IsTooLong disk T client first raws new
+block_long disk T client first raws L M out_old out_new block_old block_new old new h none says rest long same =
+    let block : block_new ≡ h.lines = h.kept ∙ ap (λ (b : List (List ℕ)). b ++ h.lines) none in
+    let calls : AreGained T client first raws (log_of T (lines_of disk old)) h.lines = subst (λ X. AreGained T client first raws X h.lines) (sym says) (h.text, M, h.answered, h.gained, h.logged) in
+    subst (IsTooLong disk T client first raws) (sym same) (h.lines, calls, subst (λ b. IsTooMuch old b) block long, rest)
+
+-- a piece behind what others added was not written, and no call had failed before
+pub turn-long : {D : Type 0} (disk : Ghosts D) (T N : Recording) (client : Option ℕ) (first : ℕ) (raws : List (List ℕ)) (old mid new : KeptLog D) → N ≡ T
+    → disk.faults mid.device ≡ disk.faults old.device → IsFailedBetween disk mid new ⊎ IsTooLong disk N client first raws new → IsFailedBetween disk old new ⊎ IsTooLong disk T client first raws new
+turn-long disk T N client first raws old mid new same sound (inl failed) = inl (omega (arith, failed, sound))
+turn-long disk T N client first raws old mid new same sound (inr long) = inr (subst (λ t. IsTooLong disk t client first raws new) same long)
+
+-- a lock that was not let go
+pub failed_release : {A : Type 0} (before now : ℕ) (r : Result A DeviceError) → HasCause before now r → IfErr r (λ why. why ≡ Failed) → IsErr r → before < now
+failed_release before now (Ok x) cause only err = absurd cc
+failed_release before now (Err why) cause only err = cause.failed (ap Err only)
 
 -- two facts of a success, or of a failure
 pub if_ok_both : {A E : Type 0} (P Q R : A → Type 0) → ((a : A) → P a → Q a → R a) → (r : Result A E) → IfOk r P → IfOk r Q → IfOk r R

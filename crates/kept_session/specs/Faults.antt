@@ -6,6 +6,7 @@ use Rattle.client_scripts.specs.declared.fault.ReadCause.TheVariants.{Device as 
 use Rattle.client_scripts.specs.declared.fault.ReplayFault.{ReplayFault}
 use Rattle.client_scripts.specs.declared.fault.ReplayFault.TheVariants.{Read, Write, OutOfMemory as NoMemory}
 use Rattle.kept_log.specs.Log.{lines_behind}
+use Rattle.kept_log.specs.declared.device.DeviceError.TheVariants.{Memory}
 use Rattle.kept_log.specs.declared.log.AppendError.{AppendError}
 use Rattle.kept_log.specs.declared.log.AppendError.TheVariants.{OutOfMemory as NoRoom, Full, Device}
 use Rattle.kept_session.specs.Sessions.{log_behind, IsLogged, AreLogged}
@@ -74,9 +75,9 @@ IsPrintFault (Replay fault) = ⊥
 IsPrintFault (LogLine number) = number ≡ 1
 IsPrintFault OtherTrace = ⊥
 
--- the fault of a block that was not added: out of memory if there was no memory for the block, else a failed write,
--- for whatever reason
+-- the fault of a block that was not added: out of memory if there was no memory for the block or in the device, else
+-- a failed write, for whatever reason
 abbrev pub IsWriteFault : AppendError → SessionFault → Type 0
 IsWriteFault NoRoom fault = fault ≡ Replay NoMemory
 IsWriteFault Full fault = fault ≡ Replay Write
-IsWriteFault (Device why) fault = fault ≡ Replay Write
+IsWriteFault (Device why) fault = (why ≡ Memory → fault ≡ Replay NoMemory) × (why ≢ Memory → fault ≡ Replay Write)

@@ -7,6 +7,7 @@ use Rattle.rapid_text.specs.Recording.{Recording}
 use Rattle.rapid_text.specs.Reading.{is_line_feed}
 use Rattle.client_scripts.specs.Replay.{IsUnreadable}
 use Rattle.client_scripts.specs.declared.fault.ReadCause.{ReadCause}
+use Rattle.client_scripts.specs.declared.fault.ReadCause.TheVariants.{Device as DeviceFailed}
 use Rattle.client_scripts.specs.declared.sink.Sink.{Ghosts as Sinks}
 use Rattle.client_scripts.specs.declared.source.Source.{Ghosts as Sources}
 use Rattle.inverse_log.specs.Log.{Benched}
@@ -16,6 +17,7 @@ use Rattle.kept_log.specs.declared.device.Device.{Ghosts}
 use Rattle.kept_log.specs.declared.log.KeptLog.{KeptLog}
 use Rattle.kept_session.specs.Faults.{IsTurnFault}
 use Rattle.kept_session.specs.Sessions.{IsAllOrNone, IsTurn, log_of, number_behind}
+use Rattle.kept_session.specs.Views.{IsFailedBetween, IsTooLong}
 use Rattle.kept_session.specs.declared.fault.SessionFault.{SessionFault}
 use Rattle.kept_session.specs.declared.fault.SessionFault.TheVariants.{Replay}
 
@@ -51,7 +53,8 @@ module _ {D : Type 0} (disk : Ghosts D) (T : Recording) (client : Option ℕ) wh
 
   -- A fault after turns that left `log`. Their answers, `text`, were written, and nothing else was. The fault may have
   -- ended a turn for the first of the lines left. That turn lost no line, and the file has the lines of all its calls
-  -- or of none. It has none of them unless a write failed.
+  -- or of none. It has none of them unless a write failed. The fault is a failed read of the file only if an operation on
+  -- the file failed. So it is with a failed write, unless the file would have been too long with the lines of the turn.
   pub record IsUnanswered (number : ℕ) (log new : KeptLog D) (text : List ℕ) (left : List (List ℕ)) (failed : Bool) (taken_old taken_new : Option (List ℕ)) (fault : SessionFault) : Type 0 where
     pub more : List (List ℕ)
     pub beyond : List (List ℕ)
@@ -61,6 +64,8 @@ module _ {D : Type 0} (disk : Ghosts D) (T : Recording) (client : Option ℕ) wh
     pub none_lost : LosesNone disk log new
     pub whole : IsAsFound disk log new ⊎ IsAllOrNone disk T client number more log new
     pub unchanged : fault ≢ Replay Write → IsAsFound disk log new
+    pub read_failed : fault ≡ Replay (Read 2 DeviceFailed) → IsFailedBetween disk log new
+    pub write_failed : fault ≡ Replay Write → IsFailedBetween disk log new ⊎ IsTooLong disk T client number more new
     pub told : IsTurnFault T (lines_of disk log) (lines_of disk new) (disk.found log.device) (disk.found new.device) fault
         ⊎ ((why : ReadCause) × (fault ≡ Replay (Read 3 why)))
 

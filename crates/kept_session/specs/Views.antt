@@ -1,16 +1,16 @@
 -- What the contracts of a session say about its bench, its log and the lines that it answers. `T` is the trace.
-use Rattle.std.specs.Prelude.{◌≡◌, ℕ, List, ◌∷◌, ◌++◌, Option, Some, false}
+use Rattle.std.specs.Prelude.{◌≡◌, ◌<◌, ℕ, List, ◌∷◌, ◌++◌, Option, Some, false}
 use Rattle.std.specs.List.{slice_split}
 use Rattle.rapid_text.specs.Recording.{Recording}
 use Rattle.rapid_text.specs.Reading.{is_line_feed}
 use Rattle.inverse_log.specs.Log.{Benched}
 use Rattle.inverse_log.specs.declared.entry.Entry.{Entry}
 use Rattle.kept_log.specs.Moments.{LeavesOnly}
-use Rattle.kept_log.specs.Log.{BeginsWith, head_of, lines_of, lines_behind}
+use Rattle.kept_log.specs.Log.{BeginsWith, IsAtRest, IsTooMuch, head_of, lines_of, lines_behind}
 use Rattle.kept_log.specs.declared.device.Device.{Ghosts}
 use Rattle.kept_log.specs.declared.log.KeptLog.{KeptLog}
 use Rattle.kept_session.specs.Faults.{IsTurnFault}
-use Rattle.kept_session.specs.Sessions.{IsTurn}
+use Rattle.kept_session.specs.Sessions.{AreGained, IsTurn, log_of}
 use Rattle.kept_session.specs.declared.fault.SessionFault.{SessionFault}
 
 -- the trace of a bench, and its log
@@ -32,6 +32,15 @@ module _ {D : Type 0} (disk : Ghosts D) where
   -- no operation on the file has failed meanwhile
   abbrev pub IsUnfailed : KeptLog D → KeptLog D → Type 0
   IsUnfailed old new = disk.faults new.device ≡ disk.faults old.device
+
+  -- an operation on the file has failed meanwhile
+  abbrev pub IsFailedBetween : KeptLog D → KeptLog D → Type 0
+  IsFailedBetween old new = disk.faults old.device < disk.faults new.device
+
+  -- The file is at rest. With the lines of all calls of a piece it would be longer than a file of a log can be.
+  abbrev pub IsTooLong : Recording → Option ℕ → ℕ → List (List ℕ) → KeptLog D → Type 0
+  IsTooLong T client first raws log =
+      (gained : List (List ℕ)) × AreGained T client first raws (log_of T (lines_of disk log)) gained × IsTooMuch log gained × IsAtRest disk log
 
   -- from now on each crash leaves a file whose lines begin with those of the log
   abbrev pub IsKept : KeptLog D → Type 0

@@ -40,6 +40,8 @@ impl SessionFault {
         ensures memory { why ≡ Memory → result ≡ Replay NoMemory }
         ensures failed { why ≡ Failed → result ≡ Replay (Read 2 DeviceFailed) }
         ensures shorter { why ≡ Shorter → result ≡ LogLine last }
+        ensures read { result ≡ Replay (Read 2 DeviceFailed) → why ≡ Failed }
+        ensures not_write { result ≢ Replay Write }
     {
         match why {
             DeviceError::Memory => SessionFault::Replay(ReplayFault::OutOfMemory),
@@ -55,6 +57,8 @@ impl SessionFault {
     pub(crate) fn unwritten(why: DeviceError) -> SessionFault
         ensures memory { why ≡ Memory → result ≡ Replay NoMemory }
         ensures others { why ≢ Memory → result ≡ Replay Write }
+        ensures write { result ≡ Replay Write → why ≢ Memory }
+        ensures not_read { result ≢ Replay (Read 2 DeviceFailed) }
     {
         match why {
             DeviceError::Memory => SessionFault::Replay(ReplayFault::OutOfMemory),
@@ -107,7 +111,7 @@ impl From<AppendError> for SessionFault {
         match why {
             AppendError::OutOfMemory => SessionFault::Replay(ReplayFault::OutOfMemory),
             AppendError::Full => SessionFault::Replay(ReplayFault::Write),
-            AppendError::Device(_) => SessionFault::Replay(ReplayFault::Write),
+            AppendError::Device(why) => SessionFault::unwritten(why),
         }
     }
 }

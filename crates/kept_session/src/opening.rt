@@ -4,7 +4,9 @@ ghost use Rattle.kept_log.specs.Device.{Only};
 ghost use Rattle.kept_log.specs.Moments.{LeavesOnly};
 ghost use Rattle.kept_log.specs.Lines.{kept_lines};
 ghost use Rattle.kept_log.specs.Log.{StandsFor, at_rest, head_of, lines_of, lines_behind, BeginsWith, IsAtRest};
+ghost use Rattle.client_scripts.specs.declared.fault.ReadCause.TheVariants.{Device as DeviceFailed};
 ghost use Rattle.client_scripts.specs.declared.fault.ReplayFault.{ReplayFault};
+ghost use Rattle.client_scripts.specs.declared.fault.ReplayFault.TheVariants.{Read, Write};
 ghost use Rattle.kept_session.specs.declared.fault.SessionFault.TheVariants.{Replay, OtherTrace};
 ghost use Rattle.kept_session.specs.Faults.{IsFileFault, IsHeadFault, IsMakeFault, IsOpenFault};
 ghost use Rattle.kept_session.specs.Sessions.{IsAtWork, IsHandedBack, IsLeftAlone, IsUntaken, IsTaken, BeforeLock, HasNoLines};
@@ -31,6 +33,8 @@ fn take_first<D: Device>(alloc: Global, device: &mut D) -> Result<Vec<u8>, Sessi
     ensures sound { OnOk result (D.faults device.new ≡ D.faults device.old) }
     ensures any_moment { LeavesOnly D.Device device.old device.new (BeforeLock D.Device device.old) }
     ensures fault { IfErr result (λ fault. (f : ReplayFault) × (fault ≡ Replay f) × IsFileFault f) }
+    ensures unread { IfErr result (λ fault. fault ≡ Replay (Read 2 DeviceFailed) → D.faults device.old < D.faults device.new) }
+    ensures not_write { IfErr result (λ fault. fault ≢ Replay Write) }
 {
     match device.take_over(alloc, 0) {
         Ok(bytes) => Ok(bytes),
@@ -54,6 +58,10 @@ pub fn make_log<D: Device>(alloc: Global, device: &mut D, head: &[u8]) -> Result
     ensures any_moment { IsUntaken D.Device device.old device.new
         ⊎ IsTaken D.Device (HasNoLines head.now) device.old device.new }
     ensures fault { IfErr result IsMakeFault }
+
+    // It reports a failed read or write only if a call of the file failed.
+    ensures unread { IfErr result (λ fault. fault ≡ Replay (Read 2 DeviceFailed) → D.faults device.old < D.faults device.new) }
+    ensures unwritten { IfErr result (λ fault. fault ≡ Replay Write → D.faults device.old < D.faults device.new) }
 {
     let bytes = take_first(alloc, device)?;
     if !bytes.is_empty() {
@@ -94,6 +102,8 @@ pub(crate) fn open_log<D: Device + Drop>(
     ensures back { IfErr result (λ e. IsHandedBack D.Device head.now device e.1) }
     ensures other_trace { IfErr result (λ e. e.0 ≡ OtherTrace → D.found e.1 ≡ Some (D.seen e.1) ∷ D.found device) }
     ensures fault { IfErr result (λ e. IsHeadFault head.now (D.seen e.1) e.0) }
+    ensures unread { IfErr result (λ e. e.0 ≡ Replay (Read 2 DeviceFailed) → D.faults device < D.faults e.1) }
+    ensures unwritten { IfErr result (λ e. e.0 ≡ Replay Write → D.faults device < D.faults e.1) }
     ensures any_moment { IfOk result (λ opened. IsTaken D.Device
         (λ file c. StandsFor head.now (lines_behind (length head.now) file) c) device opened.0.device) }
     ensures any_moment_err { IfErr result (λ e. IsUntaken D.Device device e.1
@@ -134,6 +144,8 @@ pub(crate) fn begin<D: Device + Drop>(
     ensures seen_err { IfErr result (λ e. D.seen e.1 ≡ D.seen log.device) }
     ensures fault { IfErr result (λ e. IsOpenFault bench.trace (head_of D.Device log) (D.seen e.1) e.0) }
     ensures own_trace { IfErr result (λ e. e.0 ≢ OtherTrace) }
+    ensures not_read { IfErr result (λ e. e.0 ≢ Replay (Read 2 DeviceFailed)) }
+    ensures unwritten { IfErr result (λ e. e.0 ≡ Replay Write → D.faults log.device < D.faults e.1) }
     ensures any_moment { IfOk result (λ s. LeavesOnly D.Device log.device s.log.device (BeginsWith (head_of D.Device log) (lines_of D.Device log))) }
     ensures any_moment_err { IfErr result (λ e. LeavesOnly D.Device log.device e.1 (BeginsWith (head_of D.Device log) (lines_of D.Device log))) }
 {
@@ -163,6 +175,8 @@ fn let_go<D: Device + Drop>(
     ensures seen_err { IfErr result (λ e. D.seen e.1 ≡ D.seen log.device) }
     ensures fault { IfErr result (λ e. IsOpenFault bench.trace (head_of D.Device log) (D.seen e.1) e.0) }
     ensures own_trace { IfErr result (λ e. e.0 ≢ OtherTrace) }
+    ensures not_read { IfErr result (λ e. e.0 ≢ Replay (Read 2 DeviceFailed)) }
+    ensures unwritten { IfErr result (λ e. e.0 ≡ Replay Write → D.faults log.device < D.faults e.1) }
     ensures any_moment { IfOk result (λ s. LeavesOnly D.Device log.device s.log.device (BeginsWith (head_of D.Device log) (lines_of D.Device log))) }
     ensures any_moment_err { IfErr result (λ e. LeavesOnly D.Device log.device e.1 (BeginsWith (head_of D.Device log) (lines_of D.Device log))) }
 {

@@ -2,6 +2,7 @@
 ghost use Rattle.std.specs.Prelude.{◌≡◌, ◌≢◌, ◌⊎◌, ◌<◌, ◌∷◌, ◌++◌, List, [], ℕ, Option, Some, true, false, IsTrue, IfOk, IfErr, IsErr, OnOk};
 ghost use Rattle.kept_log.specs.Log.{head_of, lines_of, HasTurn, IsAsFound, LosesNone};
 ghost use Rattle.client_scripts.specs.declared.fault.ReadCause.{ReadCause};
+ghost use Rattle.client_scripts.specs.declared.fault.ReadCause.TheVariants.{Device as DeviceFailed};
 ghost use Rattle.client_scripts.specs.declared.fault.ReplayFault.{ReplayFault};
 ghost use Rattle.client_scripts.specs.declared.fault.ReplayFault.TheVariants.{Read, Write, OutOfMemory as NoMemory};
 ghost use Rattle.kept_session.specs.declared.fault.SessionFault.TheVariants.{Replay, OtherTrace};
@@ -10,7 +11,7 @@ ghost use Rattle.kept_session.specs.InStep.{IsInStep-prop};
 ghost use Rattle.kept_session.specs.Faults.{IsOpenFault};
 ghost use Rattle.kept_session.specs.Sessions.{IsInStep, IsAtWork, IsAllOrNone, IsOpened, IsHandedBack, IsUntaken, IsTaken, KeepsLines, number_behind};
 ghost use Rattle.kept_session.specs.Steps.{IsPieceMade, IsPutOn};
-ghost use Rattle.kept_session.specs.Views.{HasGained, IsAnsweredOnce, IsFaultBetween, IsFree, IsKept, IsUnfailed, LeavesKnown, entries_of, lines_in, trace_of};
+ghost use Rattle.kept_session.specs.Views.{HasGained, IsAnsweredOnce, IsFailedBetween, IsFaultBetween, IsFree, IsKept, IsTooLong, IsUnfailed, LeavesKnown, entries_of, lines_in, trace_of};
 
 use crate::answering::answer_lines;
 use crate::catching::{line_behind, make_all};
@@ -84,6 +85,10 @@ impl<D: Device + Drop> Session<D> {
         // entry.
         ensures fault { IfErr result (λ e. IsOpenFault indexed head.now (D.seen e.1) e.0) }
 
+        // It reports a failed read or write only if an operation on the file failed.
+        ensures unread { IfErr result (λ e. e.0 ≡ Replay (Read 2 DeviceFailed) → D.faults device < D.faults e.1) }
+        ensures unwritten { IfErr result (λ e. e.0 ≡ Replay Write → D.faults device < D.faults e.1) }
+
         // A crash at any moment leaves what a crash might have left when the lock was taken, or the lines that the
         // file had then.
         ensures any_moment { IfOk result (λ s. IsTaken D.Device (KeepsLines head.now) device s.log.device) }
@@ -113,6 +118,8 @@ impl<D: Device + Drop> Session<D> {
         ensures back { IfErr result (λ e. IsHandedBack D.Device head.now device e.1) }
         ensures other_trace { IfErr result (λ e. e.0 ≡ OtherTrace → D.found e.1 ≡ Some (D.seen e.1) ∷ D.found device) }
         ensures fault { IfErr result (λ e. IsOpenFault bench.trace head.now (D.seen e.1) e.0) }
+        ensures unread { IfErr result (λ e. e.0 ≡ Replay (Read 2 DeviceFailed) → D.faults device < D.faults e.1) }
+        ensures unwritten { IfErr result (λ e. e.0 ≡ Replay Write → D.faults device < D.faults e.1) }
         ensures any_moment { IfOk result (λ s. IsTaken D.Device (KeepsLines head.now) device s.log.device) }
         ensures any_moment_err { IfErr result (λ e. IsUntaken D.Device device e.1
             ⊎ IsTaken D.Device (KeepsLines head.now) device e.1) }
@@ -149,6 +156,8 @@ impl<D: Device + Drop> Session<D> {
         ensures any_moment { LeavesKnown D.Device self.old.log self.new.log }
         ensures fault { IfErr result (IsFaultBetween D.Device (trace_of self.old.bench) self.old.log self.new.log) }
         ensures input { IfErr result (λ fault. (input : ℕ) (why : ReadCause) → fault ≡ Replay (Read input why) → input ≡ 2) }
+        ensures unread { IfErr result (λ fault. fault ≡ Replay (Read 2 DeviceFailed) → IsFailedBetween D.Device self.old.log self.new.log) }
+        ensures unwritten { IfErr result (λ fault. fault ≡ Replay Write → IsFailedBetween D.Device self.old.log self.new.log) }
     {
         match self.log.enter(alloc) {
             Ok(text) => {
@@ -193,12 +202,17 @@ impl<D: Device + Drop> Session<D> {
         ensures unchanged { IfErr result (λ fault. fault ≢ Replay Write
             → (head_of D.Device self.new.log ≡ head_of D.Device self.old.log) × (lines_of D.Device self.new.log ≡ lines_of D.Device self.old.log)) }
         ensures fault { IfErr result (λ fault. (fault ≡ Replay NoMemory) ⊎ (fault ≡ Replay Write)) }
+        ensures not_read { IfErr result (λ fault. fault ≢ Replay (Read 2 DeviceFailed)) }
+        ensures unwritten { IfErr result (λ fault. fault ≡ Replay Write → IsFailedBetween D.Device self.old.log self.new.log
+            ⊎ IsTooLong D.Device (trace_of self.old.bench) client first (lines_in piece.now) self.new.log) }
     {
         let mut block = Block::new(alloc);
         make_room(&mut block, piece)?;
         let next = answer_lines(&mut self.bench, client, first, piece, &mut block, out)?;
-        self.log.add(block)?;
-        Ok(next)
+        match self.log.add(block) {
+            Ok(()) => Ok(next),
+            Err(why) => Err(SessionFault::from(why)),
+        }
     }
 
     /// Answers the lines of a piece under one lock, and appends the texts of the answers. `first` is the number of
@@ -248,6 +262,12 @@ impl<D: Device + Drop> Session<D> {
         // Fault 101 names the first line that adds no entry, or the last known line if the file got shorter.
         // Otherwise the file could not be read or written, or memory ran out.
         ensures fault { IfErr result (IsFaultBetween D.Device (trace_of self.old.bench) self.old.log self.new.log) }
+
+        // It reports a failed read only if an operation on the file failed. So it does with a failed write, unless the
+        // file would have been too long with the lines of the piece. Then the file was not changed.
+        ensures unread { IfErr result (λ fault. fault ≡ Replay (Read 2 DeviceFailed) → IsFailedBetween D.Device self.old.log self.new.log) }
+        ensures unwritten { IfErr result (λ fault. fault ≡ Replay Write → IsFailedBetween D.Device self.old.log self.new.log
+            ⊎ IsTooLong D.Device (trace_of self.old.bench) client first (lines_in piece.now) self.new.log) }
 
         // An input that could not be read is the log's file, input 2.
         ensures input { IfErr result (λ fault. (input : ℕ) (why : ReadCause) → fault ≡ Replay (Read input why) → input ≡ 2) }

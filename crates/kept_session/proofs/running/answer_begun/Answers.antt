@@ -1,7 +1,7 @@
 use Rattle.std.proofs.Common.{◌≡◌, inl, inr, ⊎_elim, Err, rules, sym, subst}
 use Rattle.std.specs.Result.{IfErr}
 use Rattle.kept_session.specs.Runs.{IsHalted}
-use Rattle.kept_session.proofs.RunLemmas.{log_turn, unanswered, unanswered_whole, unwritten}
+use Rattle.kept_session.proofs.RunLemmas.{log_turn, unanswered, unanswered_long, unanswered_whole, unwritten}
 use Rattle.kept_session.proofs.running.answer_begun.Goals as goal
 
 pub returns-in_err-pending-clause-halted : goal.returns-in_err-pending-clause-halted
@@ -14,7 +14,8 @@ returns-in_err-pending-clause-halted g c =
     subst
     (λ r. IfErr r (IsHalted g.D.Device c.args.session.now.bench.trace c.args.client c.args.pending.now.number c.args.session.now.log c.answer.new.self.log c.args.pending.now.begun.items (g.K.Sink.has_failed c.args.writer.now) (g.K.Sink.taken c.args.writer.now) (g.K.Sink.taken c.args.writer.now)))
     (sym same)
-    (unanswered _ _ _ c.args.pending.now.number c.args.session.now.log c.answer.new.self.log c.args.pending.now.begun.items _ (g.K.Sink.taken c.args.writer.now) fault c.requires.writer one.none_lost whole one.unchanged one.fault (λ why is. absurd (let e = one.input 3 why is in cc)))
+    (unanswered _ _ _ c.args.pending.now.number c.args.session.now.log c.answer.new.self.log c.args.pending.now.begun.items _ (g.K.Sink.taken c.args.writer.now) fault c.requires.writer one.none_lost whole one.unchanged one.unread
+    (unanswered_long g.D.Device c.args.session.now.bench.trace c.args.client c.args.pending.now.number _ c.args.pending.now.begun.items c.args.session.now.log c.answer.new.self.log fault c.deref.ensures.value one.unwritten) one.fault (λ why is. absurd (let e = one.input 3 why is in cc)))
 
 pub returns-clause-halted : goal.returns-clause-halted
 returns-clause-halted g c =

@@ -17,5 +17,5 @@ returns-in_err-piece-clause-halted g c =
     (sym same) (
       [],
       Consumes-nothing (g.S.Source.rest c.args.reader.now),
-      unanswered _ _ _ 1 c.args.session.now.log c.args.session.now.log [] _ (g.K.Sink.taken c.args.writer.now) (Replay NoMemory) c.requires.writer (inl (inl refl)) (inl (inl (inl refl))) (λ _. inl (inl refl)) tt (λ why is. absurd cc),
+      unanswered _ _ _ 1 c.args.session.now.log c.args.session.now.log [] _ (g.K.Sink.taken c.args.writer.now) (Replay NoMemory) c.requires.writer (inl (inl refl)) (inl (inl (inl refl))) (λ _. inl (inl refl)) (λ is. absurd cc) (λ is. absurd cc) tt (λ why is. absurd cc),
     )

@@ -29,7 +29,7 @@ returns-in_err-extend_from_slice-clause-halted g c =
     (IsHalted g.D.Device c.args.session.now.bench.trace c.args.client c.args.pending.now.number c.args.session.now.log c.args.session.now.log (c.args.pending.now.begun.items ++ c.args.bytes.now) (g.K.Sink.has_failed c.args.writer.now)
     (g.K.Sink.taken c.args.writer.now) (g.K.Sink.taken c.args.writer.now)))
     (sym same)
-    (unanswered _ _ _ c.args.pending.now.number c.args.session.now.log c.args.session.now.log _ _ (g.K.Sink.taken c.args.writer.now) (Replay NoMemory) c.requires.writer (inl (inl refl)) (inl (inl (inl refl))) (λ _. inl (inl refl)) tt (λ why is. absurd cc))
+    (unanswered _ _ _ c.args.pending.now.number c.args.session.now.log c.args.session.now.log _ _ (g.K.Sink.taken c.args.writer.now) (Replay NoMemory) c.requires.writer (inl (inl refl)) (inl (inl (inl refl))) (λ _. inl (inl refl)) (λ is. absurd cc) (λ is. absurd cc) tt (λ why is. absurd cc))
 
 pub returns-in_err-answer_begun-clause-halted : goal.returns-in_err-answer_begun-clause-halted
 returns-in_err-answer_begun-clause-halted g c =

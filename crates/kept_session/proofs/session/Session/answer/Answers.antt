@@ -1,5 +1,9 @@
-use Rattle.std.proofs.Common.{inr, refl}
-use Rattle.kept_session.proofs.WholeLemmas.{all_or_none, put-since, put-released, turn-put, turn-released}
+use Rattle.std.proofs.Common.{◌≡◌, ◌∙◌, ◌⊎◌, inl, inr, refl, sym, subst, Err, rules}
+use Rattle.std.specs.Prelude.{IfErr, IsErr}
+use Rattle.client_scripts.specs.declared.fault.ReplayFault.TheVariants.{Write}
+use Rattle.kept_session.specs.Views.{IsFailedBetween, IsTooLong, lines_in}
+use Rattle.kept_session.specs.declared.fault.SessionFault.TheVariants.{Replay}
+use Rattle.kept_session.proofs.WholeLemmas.{all_or_none, failed_release, put-since, put-released, turn-long, turn-put, turn-released}
 use Rattle.kept_session.proofs.session.Session.answer.Goals as goal
 
 pub returns-in_err-next-clause-any_moment : goal.returns-in_err-next-clause-any_moment
@@ -47,3 +51,19 @@ returns-in-Err-clause-all_or_none g c =
     (all_or_none g.D.Device c.args.self.now.bench.trace _ _ _ _ _ c.args.self.now.log c.catch_up.new.self.log c.make_piece.new.self.log c.release-released.new.self put.0
     c.catch_up.ensures.trace up.at_work.says up.at_work.at_rest up.turn c.catch_up.ensures.any_moment put.1 c.release-released.ensures.same.0
     (put-released g.D.Device c.args.self.now.bench.trace _ _ _ _ _ c.args.self.now.log c.catch_up.new.self.log c.make_piece.new.self.log c.release-released.new.self put.0 put.1 c.in_ok-next.ensures.head put.2 c.release-released.ensures.any_moment))
+
+pub returns-in_err-next-clause-unwritten : goal.returns-in_err-next-clause-unwritten
+returns-in_err-next-clause-unwritten g c =
+    let fault = c.in_err-next.field-0.0 in
+    let same : c.from_residual-in_err-next.result ≡ Err fault = search rules in
+    subst
+    (λ r. IfErr r (λ f. f ≡ Replay Write → IsFailedBetween g.D.Device c.args.self.now.log c.make_piece.new.self.log ⊎ IsTooLong g.D.Device c.args.self.now.bench.trace c.args.client c.args.first (lines_in c.args.piece.now) c.make_piece.new.self.log))
+    (sym same)
+    (λ is. turn-long g.D.Device c.args.self.now.bench.trace c.catch_up.new.self.bench.trace c.args.client c.args.first (lines_in c.args.piece.now) c.args.self.now.log c.catch_up.new.self.log c.make_piece.new.self.log c.catch_up.ensures.trace c.in_ok-catch_up.ensures.sound (c.in_err-next.ensures.unwritten is))
+
+pub returns-in-Err-clause-unwritten : goal.returns-in-Err-clause-unwritten
+returns-in-Err-clause-unwritten g c = λ _.
+    let err : IsErr c.release-released.result = search rules in
+    let failed = failed_release _ _ c.release-released.result c.release-released.ensures.cause c.release-released.ensures.only err in
+    turn-long g.D.Device c.args.self.now.bench.trace c.args.self.now.bench.trace c.args.client c.args.first (lines_in c.args.piece.now) c.args.self.now.log c.make_piece.new.self.log c.release-released.new.self refl
+    (c.in_ok-next.ensures.sound ∙ c.in_ok-catch_up.ensures.sound) (inl failed)

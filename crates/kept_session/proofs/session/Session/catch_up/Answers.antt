@@ -1,10 +1,10 @@
 use Rattle.std.specs.Result.{IfErr}
 use Rattle.kept_session.specs.Faults.{IsLinesFault, IsTurnFault}
-use Rattle.kept_session.proofs.CatchingLemmas.{turn-lines, unread_turn}
+use Rattle.kept_session.proofs.CatchingLemmas.{failed_write, turn-lines, unread_turn}
 use Rattle.std.proofs.Common.{Err, rules, arith, ◌-◌, ◌≡◌, ◌∙◌, sym, ap, subst, List, ℕ}
 use Rattle.kept_log.specs.Lines.{kept_lines}
 use Rattle.kept_log.specs.Log.{lines_of}
-use Rattle.kept_log.specs.declared.turns.EnterError.TheVariants.{Unread}
+use Rattle.kept_log.specs.declared.turns.EnterError.TheVariants.{Unread, Unwritten}
 use Rattle.kept_session.specs.Sessions.{log_behind, AreLogged}
 use Rattle.kept_session.proofs.LogLemmas.{grown_log, grown_logged}
 use Rattle.kept_session.proofs.session.Session.catch_up.Goals as goal
@@ -40,3 +40,11 @@ returns-in-Err-Unread-clause-fault g c =
     let unread = c.unread.ensures in
     unread_turn c.args.self.now.bench.trace _ _ _ _ c.args.self.now.bench.log (c.line_behind.result - 1) c.requires.in_step.says c.requires.in_step.logged (omega (arith, c.line_behind.ensures)) _
     (λ is. c.in-Err-Unread.ensures.shorter (ap Err (c.in-Err-Unread.field-0-is ∙ ap Unread (sym c.in-Err-Unread.why-is ∙ is)))) c.unread.result unread.memory unread.failed unread.shorter
+
+pub returns-in-Err-Unread-clause-unread : goal.returns-in-Err-Unread-clause-unread
+returns-in-Err-Unread-clause-unread g c = λ is. c.in-Err-Unread.ensures.unread (ap Err (c.in-Err-Unread.field-0-is ∙ ap Unread (sym c.in-Err-Unread.why-is ∙ c.unread.ensures.read is)))
+
+pub returns-in-Err-Unwritten-clause-unwritten : goal.returns-in-Err-Unwritten-clause-unwritten
+returns-in-Err-Unwritten-clause-unwritten g c = λ is.
+    let failed = failed_write _ (c.unwritten.ensures.write is) (λ shorter. c.in-Err-Unwritten.ensures.not_shorter (c.in-Err-Unwritten.field-0-is ∙ ap Unwritten (sym c.in-Err-Unwritten.why-is ∙ shorter))) in
+    c.in-Err-Unwritten.ensures.unwritten (ap Err (c.in-Err-Unwritten.field-0-is ∙ ap Unwritten (sym c.in-Err-Unwritten.why-is ∙ failed)))
