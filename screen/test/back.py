@@ -148,6 +148,8 @@ async def test_no_schedule_is_chosen_if_none_is_open(program):
         await page.until(f"{OPEN} === 'B' && {OPEN_ONES} === 'B' && {ACTIVE} === 'schedule-B'")
         await page.run("history.forward()")
         await page.until(f"{EXPLAINED} && {OPEN_ONES} === '' && {ACTIVE} === null")
+        await page.key("[")  # the one before none is the last
+        await page.until(f"{OPEN} === 'B' && {OPEN_ONES} === 'B'")
         is_clean(page, screen)
 
 

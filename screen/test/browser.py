@@ -27,7 +27,7 @@ KEYS = {
     "End": 35,
     "Tab": 9,
 }
-ALT, CONTROL, SHIFT = 1, 2, 8
+ALT, CONTROL, META, SHIFT = 1, 2, 4, 8
 # A letter while the caps lock is on: it comes as a capital, and no key is held.
 CAPS = 0
 # How long a condition, an answer of the browser and its start may take, in seconds: a machine may be slow and busy.

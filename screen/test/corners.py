@@ -552,6 +552,9 @@ async def test_several_pairs_side_by_side(program):
             await press(page, "p")
             await page.click("#pair .do button")
         same(logged(), ["1 new A", "1 propose 0 1", "1 propose 0 2", "1 propose 1 2", "1 propose 0 1"])
+        await page.until(f"{pair} === '0,2'")
+        await new(page, 3, "B")  # what was chosen in one schedule is not chosen in another
+        await page.until(f"{OPEN} === 'B' && {pair} === '0,1'")
         is_clean(page, screen)
 
 

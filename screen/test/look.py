@@ -301,6 +301,8 @@ async def test_names_of_clients(program):
         page, other = await browser.page(one.link), await browser.page(two.link)
         await new(page, 3)
         same(await page.run("document.getElementById('live').textContent"), "● client 1, Ada")
+        who = "document.querySelector('.sched .who')"
+        same(await page.run(f"[{who}.textContent, {who}.title]"), ["you", "client 1 Ada"])
         await other.until("document.querySelector('.sched .who')?.textContent === 'Ada'")
         same(await other.run("document.getElementById('live').textContent"), "● client 2, \\u{202e}Grace <b>")
         traces.write("log.names", "1 Ada Lovelace\n")

@@ -13,6 +13,8 @@ from table import SEVERAL
 OPEN = "document.querySelector('#bar h2').textContent"
 SCHEDULES = "[...document.querySelectorAll('.sched .sched-name')].map((e) => e.textContent).join()"
 CURSOR = "document.querySelector('#space .row.on')?.dataset.p"
+# What a screen reader says of where each row is.
+NUMBERS = "[...document.querySelectorAll('#space .row')].map((row) => `${row.ariaPosInSet}/${row.ariaSetSize}`).join()"
 # How far each row is from where its number in the list puts it.
 ASTRAY = (
     "[...document.querySelectorAll('#space .row')].sort((one, other) => one.dataset.p - other.dataset.p)"
@@ -72,6 +74,7 @@ async def test_rows_below_a_block_move_up(program):
         await session(program, 2, "back A\n" * 16)
         await page.until(f"{LENGTH} === '16 events' && {ROWS} === {rows}")
         await page.until(f"{ASTRAY} === ''")
+        same(await page.run(NUMBERS), ",".join(f"{number}/{rows}" for number in range(1, rows + 1)))
         is_clean(page, screen)
 
 
@@ -597,6 +600,13 @@ async def test_who_reads_whom_of_the_cursor_again(program):
         await page.hover("#space .row[data-p='0'] .info", 0, f"{reads} === 'is read at 1'")
         await page.mouse("mouseMoved", 5, 5)
         await page.until(f"{reads} === 'reads the write at 0'")
+        await page.key("s")  # it is drawn anew, and the mouse is gone still
+        await page.key("Home")
+        await page.until("document.querySelector('#space .row.on').dataset.p === '0'")
+        await page.key("ArrowDown")
+        await session(program, 2, "new B\nback A\n")
+        await shows(page, 2)
+        same(await page.run(reads), "reads the write at 0")
         is_clean(page, screen)
 
 

@@ -3,7 +3,7 @@
 import os
 
 import traces
-from browser import CONTROL, Browser
+from browser import CONTROL, META, Browser
 from judged import same
 from live import session
 from stage import LENGTH, NEXT, ROWS, SAID, Screen, focus, is_clean, logged, new, press
@@ -26,6 +26,8 @@ async def test_keys_that_have_a_twin(program):
         await page.until("document.querySelectorAll('.coming').length === 40")
         await page.key("ArrowLeft")
         await page.until("document.querySelectorAll('.coming').length === 0")
+        for key in ("1", "b", "u"):  # with this key they are the system's
+            await page.key(key, META)
         await press(page, "1")
         await page.until(f"{ROWS} === 1")
         await page.key("z", CONTROL)
@@ -70,6 +72,9 @@ async def test_the_field_that_runs_to_an_event(program):
         is_clean(page, screen)
 
 
+EXPANDED = "[...document.querySelectorAll('.next .more')].map((one) => one.ariaExpanded).join()"
+
+
 async def test_the_list_of_a_thread_that_ended(program):
     """It is folded, as another thread is chosen then: also if the thread's last event is taken back."""
     traces.write("trace", traces.COUNT)
@@ -78,6 +83,12 @@ async def test_the_list_of_a_thread_that_ended(program):
         page = await browser.page(screen.link)
         await new(page, 3)
         await press(page, "1", "1", "2")
+        same(await page.run(EXPANDED), "false,false,false")
+        await page.key("ArrowRight")
+        await page.until(f"{coming} === 5 && {EXPANDED} === 'false,true,false'")
+        await page.key("ArrowDown")  # the list of another thread is not wanted
+        await page.until(f"{coming} === 0 && {EXPANDED} === 'false,false,false'")
+        await page.key("ArrowUp")
         await page.key("ArrowRight")
         await page.until(f"{coming} === 5")
         await press(page, "r")
@@ -275,7 +286,7 @@ async def test_the_source_near_an_edge(program):
     """It stands where there is room, and in the window."""
     traces.write("trace", "T1|w(a)|main.c:20\nT2|w(a)|main.c:30\n")
     os.mkdir("source")
-    traces.write("source/main.c", "\n".join(f"line {number};" for number in range(1, 60)))
+    traces.write("source/main.c", "\n".join(f"line {number}; {'and more ' * 20}" for number in range(1, 60)))
     inside = (
         "(() => { const b = document.getElementById('peek').getBoundingClientRect(); "
         "return b.height > 100 && b.top >= 0 && b.bottom <= innerHeight && b.left >= 0 && b.right <= innerWidth; })()"

@@ -197,6 +197,18 @@ BEYOND = """(() => {
 })()"""
 
 
+async def test_more_locks_at_once_than_have_room(program):
+    """From the third on they stand at one place, right of the first two."""
+    traces.write("trace", "".join(f"T1|acq(l{at})|a:{at}\n" for at in range(4)) + "T1|w(x)|a:4\n")
+    await session(program, 1, "new A\n" + "".join(f"add A {event}\n" for event in range(5)))
+    async with Screen(program, "trace", "log") as screen, Browser() as browser:
+        page = await browser.page(screen.link)
+        await page.until(f"{LENGTH} === '5 events' && {BARS}.length === 4")
+        first, *rest = [left for _, _, left in sorted(await page.run(BARS))]
+        same([left - first for left in rest], [4, 8, 8])
+        is_clean(page, screen)
+
+
 async def test_a_lock_that_is_held_beyond_what_is_drawn(program):
     """Its bar goes from above the first row that is drawn to below the last one."""
     lines = [f"T{at % 2}|w(a{at % 2})|a:{at}\n" for at in range(300)]
@@ -219,12 +231,14 @@ async def test_the_schedule_that_was_worked_on_last_opens(program):
     await session(program, 1, "new A\nnew B\n")
     await session(program, 2, "new C\nadd B 0\n")
     await session(program, 1, "add A 0\n")
-    await session(program, 2, "new D\nadd D 0\nadd D 1\n")
-    for words, name, length in (((), "A", 1), (("--client", "2"), "D", 2), (("--client", "3"), "D", 2)):
+    await session(program, 4, "new E\n")
+    await session(program, 2, "add E 0\nnew D\nadd D 0\nadd D 1\n")
+    for client, name, length in ((1, "A", 1), (2, "D", 2), (3, "D", 2), (4, "E", 1)):
+        words = ("--client", str(client)) if client > 1 else ()
         async with Screen(program, "trace", "log", *words) as screen, Browser() as browser:
             page = await browser.page(screen.link)
             await page.until(f"{OPEN} === '{name}' && {ROWS} === {length} && {NEXT} === 3")
-            same(await page.run("document.title"), f"trace · client {words[1] if words else 1}")
+            same(await page.run("document.title"), f"trace · client {client}")
             is_clean(page, screen)
 
 

@@ -228,6 +228,9 @@ async def test_swaps_by_keys_and_by_hand(program):
         await page.drag("#space .row[data-p='0'] .lanes", 0, 44)
         await page.until(f"{ORDER} === '0 1 2 3'")
         same(logged()[-1], "1 batch swap A 0 ; swap A 1")
+        await page.drag("#space .row[data-p='2'] .place", 0, -22)  # who marks the text of a place moves nothing
+        await press(page, "Backspace")
+        same(logged()[-2:], ["1 batch swap A 0 ; swap A 1", "1 back A"])
         is_clean(page, screen)
 
 
