@@ -17,6 +17,7 @@ function line(told, [number, text]) {
 }
 
 function stand(box) {
+  peek.style.left = "0"; // so it is as wide as its lines, wherever it stood before
   peek.style.left = `${Math.max(8, Math.min(box.left, innerWidth - peek.offsetWidth - 8))}px`;
   const isRoom = box.bottom + peek.offsetHeight + 8 < innerHeight;
   peek.style.top = `${isRoom ? box.bottom + 4 : Math.max(8, box.top - peek.offsetHeight - 4)}px`;

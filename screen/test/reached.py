@@ -291,6 +291,7 @@ async def test_the_source_near_an_edge(program):
         "(() => { const b = document.getElementById('peek').getBoundingClientRect(); "
         "return b.height > 100 && b.top >= 0 && b.bottom <= innerHeight && b.left >= 0 && b.right <= innerWidth; })()"
     )
+    wide = "Math.abs(document.getElementById('peek').offsetWidth - Math.min(720, 0.94 * innerWidth)) < 2"
     async with Screen(program, "trace", "log", "--source", "source") as screen, Browser() as browser:
         page = await browser.page(screen.link)
         await new(page, 2)
@@ -299,6 +300,7 @@ async def test_the_source_near_an_edge(program):
             await page.until(f"innerWidth === {width} && innerHeight === {height}")
             await page.click("#next-list .code .place")
             await page.until(f"!document.getElementById('peek').hidden && {inside}")
+            same((width, await page.run(wide)), (width, True))  # as much of its lines is seen as can be
             same(await page.run("document.querySelector('.peek-head').textContent"), "main.c:20")
             await page.key("Escape")
         is_clean(page, screen)
