@@ -416,6 +416,23 @@ async def test_a_list_of_races_that_was_scrolled(program):
         is_clean(page, screen)
 
 
+async def test_a_key_in_a_list_of_races_that_was_scrolled(program):
+    """If no race in sight is chosen, the first in sight is."""
+    lines = [f"T{thread}|w(v{at})|{thread}.c:{at}\n" for thread in (1, 2) for at in range(300)]
+    traces.write("trace", "".join(lines))
+    chosen = "document.querySelector('.race.on')?.ariaPosInSet"
+    async with Screen(program, "trace", "log") as screen, Browser() as browser:
+        page = await browser.page(screen.link)
+        await page.until("document.querySelector('.chip')?.textContent === '300 races'")
+        for first, key in ((200, "ArrowDown"), (50, "ArrowUp")):
+            await page.run(f"document.getElementById('race-list').scrollTop = {first} * 58")
+            await page.until(f"!!document.querySelector('.race[aria-posinset=\"{first + 1}\"]')")
+            await focus(page, "race-list")
+            await page.key(key)
+            await page.until(f"{chosen} === '{first + 1}'")
+        is_clean(page, screen)
+
+
 async def test_keys_beyond_what_was_fetched(program):
     """Races are fetched eighty at a time; who walks down goes on."""
     lines = [f"T{thread}|w(v{at})|{thread}.c:{at}\n" for thread in (1, 2) for at in range(200)]
