@@ -3,7 +3,7 @@
 import os
 
 import traces
-from browser import CONTROL, META, Browser
+from browser import ALT, CONTROL, META, Browser
 from judged import same
 from live import session
 from stage import LENGTH, NEXT, ROWS, SAID, Screen, focus, is_clean, logged, new, press
@@ -33,6 +33,12 @@ async def test_keys_that_have_a_twin(program):
         await page.key("z", CONTROL)
         await page.until(f"{ROWS} === 0")
         same(logged(), ["1 new A", "1 add A 0", "1 undo 1"])
+        await new(page, 3, "B")
+        for sign, name in (("[", "A"), ("]", "B")):  # some keyboards have them with Alt
+            await page.key(sign, ALT)
+            await page.until(f"{OPEN} === '{name}'")
+        await page.key("/", ALT)
+        await page.until("document.activeElement.id === 'race-filter'")
         is_clean(page, screen)
 
 
@@ -61,7 +67,7 @@ async def test_the_field_that_runs_to_an_event(program):
         same(await page.run("document.activeElement.className"), "until-event")  # the field stays, with what was typed
         same(await page.run(f"{field}.value"), "4")
         await page.run(f"{field}.select()")
-        await page.type("90")
+        await page.type(" 0,090 ")  # as the page writes long numbers
         await page.key("Enter")
         await page.until(f"{LENGTH} === '46 events'")
         await page.until(f"!{field}")
