@@ -102,9 +102,10 @@ class Pairs:
     async def explain(self, pair: tuple[int, int]) -> Told:
         if pair not in self.explained:
             status, out, error = await output(self.bench.program, "explain", self.bench.trace.path, *map(str, pair))
-            lines = (error.encode() if status else out).split(b"\n")
+            lines = (error.encode() if status else out).removesuffix(b"\n").split(b"\n")
             more = len(lines) - LINES
-            rest = [f"and {more} lines more: racebench explain TRACE {pair[0]} {pair[1]}"] if more > 0 else []
+            left = "1 line" if more == 1 else f"{more} lines"
+            rest = [f"and {left} more: racebench explain TRACE {pair[0]} {pair[1]}"] if more > 0 else []
             self.explained[pair] = [clean(line) for line in lines[:LINES]] + rest
         return {"pair": list(pair), "lines": self.explained[pair]}
 

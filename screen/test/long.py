@@ -62,10 +62,11 @@ async def test_a_run_that_goes_on(program):
 async def test_an_explanation_of_many_lines(program):
     """The first ones are shown, and how the others are seen is said."""
     bench = await bench_of(program, traces.COUNT)
-    bench.program = script("talks", "#!/bin/sh\nseq 1 500\n")
-    told = await pairs.Pairs(bench).explain((7, 12))
-    same(told["lines"][:400], [str(number) for number in range(1, 401)])
-    same(told["lines"][400:], ["and 101 lines more: racebench explain TRACE 7 12"])
+    more = "and {} more: racebench explain TRACE 7 12"
+    for number, rest in ((500, [more.format("100 lines")]), (401, [more.format("1 line")]), (400, []), (9, [])):
+        bench.program = script("talks", f"#!/bin/sh\nseq 1 {number}\n")
+        told = await pairs.Pairs(bench).explain((7, 12))
+        same(told["lines"], [str(line) for line in range(1, min(number, 400) + 1)] + rest)
     await bench.session.stop()
 
 
