@@ -227,6 +227,8 @@ async def test_a_hand_that_moves_on_the_map(program):
     async with Screen(program, "trace", "log") as screen, Browser() as browser:
         page = await browser.page(screen.link)
         await page.until(f"{LENGTH} === '400 events' && {marks} === '25,75.25'")
+        await page.until("document.getElementById('next-list').dataset.length === '400'")  # the map stays so high
+        await page.steady("#map")
         x, y, height = await page.run(
             "(() => { const b = document.getElementById('map').getBoundingClientRect(); "
             "return [b.left + b.width / 2, b.top, b.height]; })()"
