@@ -19,6 +19,7 @@ NOTHING_KEPT = (
     "for (const name of ['localStorage', 'sessionStorage']) Object.defineProperty(window, name, "
     "{ get() { throw new DOMException('Access is denied for this document.', 'SecurityError'); } });"
 )
+NO_ROOM = "Storage.prototype.setItem = () => { throw new DOMException('It is full.', 'QuotaExceededError'); };"
 
 
 async def test_back_and_forward(program):
@@ -270,17 +271,19 @@ async def test_a_long_run_is_one_step_after_a_reload(program):
 
 
 async def test_a_browser_that_keeps_nothing(program):
-    """The page works as long as it is there."""
+    """It may allow nothing, or have no room. The page works as long as it is there."""
     traces.write("trace", traces.COUNT)
-    async with Screen(program, "trace", "log") as screen, Browser() as browser:
-        page = await browser.page("about:blank")
-        await page.call("Page.addScriptToEvaluateOnNewDocument", source=NOTHING_KEPT)
-        await page.open(screen.link)
-        await new(page, 3)
-        await press(page, "1")
-        await page.click("#theme")
-        same(logged(), ["1 new A", "1 add A 0"])
-        is_clean(page, screen)
+    for script in (NOTHING_KEPT, NO_ROOM):
+        async with Screen(program, "trace", "log") as screen, Browser() as browser:
+            page = await browser.page("about:blank")
+            await page.call("Page.addScriptToEvaluateOnNewDocument", source=script)
+            await page.open(screen.link)
+            await new(page, 3)
+            await press(page, "1")
+            await page.click("#theme")
+            same(logged(), ["1 new A", "1 add A 0"])
+            is_clean(page, screen)
+        os.remove("log")
 
 
 BUTTONS = "[...document.querySelectorAll('#bar .line:first-child button')].map((b) => b.textContent).join()"
