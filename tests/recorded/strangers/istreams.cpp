@@ -10,7 +10,7 @@
 #include <thread>
 static std::istringstream numbers("1 2 3 4"), words("some words of a text"), lines("a line\nanother\n"), guarded("5 6 7 8");
 static std::istringstream letters("abcdefgh"), mine("10 2.5 word x\nrest of a line that is long\nmore\nlast 77 end\n"
-                                 "a line for a text that has room\na line for a text that has no room\n");
+                                 "a line for a text that has room\na line for a text that has no room\nend");
 static std::istringstream blank("  ");
 static std::stringstream both, empty, passed, gone;
 static std::atomic<int> has_read;
@@ -20,7 +20,7 @@ static int number, kept, last, sum;
 static struct {
     double real, beside;
 } pair;
-static char letter, block[8], text[16];
+static char letter, block[8], text[16], part_of_it[8];
 static std::string word, line, roomy = "a text that has room for a line, and more than that", narrow;
 static volatile size_t seen;
 
@@ -28,31 +28,32 @@ static void reads() {
     int k;
     std::string s;
     char c, part[8];
-    numbers >> k;                           // RACE numbers
-    words >> s;                             // RACE words
-    std::getline(lines, s);                 // RACE lines
-    letters.get(c);                         // RACE letters
-    file.read(part, 4);                     // RACE file
-    both << "hello ";                       // RACE both
-    empty.peek();                           // RACE empty
-    mine >> number;                         // RACE number
-    mine >> pair.real;                      // RACE real
-    mine >> word;                           // RACE word
-    mine >> letter;                         // RACE letter
+    numbers >> k;               // RACE numbers
+    words >> s;                 // RACE words
+    std::getline(lines, s);     // RACE lines
+    letters.get(c);             // RACE letters
+    file.read(part, 4);         // RACE file
+    both << "hello ";           // RACE both
+    empty.peek();               // RACE empty
+    mine >> number;             // RACE number
+    mine >> pair.real;          // RACE real
+    mine >> word;               // RACE word
+    mine >> letter;             // RACE letter
     mine.ignore(1);
-    std::getline(mine, line);               // RACE line
-    mine.getline(text, 16);                 // RACE text
-    mine.read(block, 4);                    // RACE block
+    std::getline(mine, line);   // RACE line
+    mine.getline(text, 16);     // RACE text
+    mine.read(block, 4);        // RACE block
     std::getline(mine, s);
-    std::getline(mine, roomy);              // RACE roomy
-    std::getline(mine, narrow);             // RACE narrow
+    std::getline(mine, roomy);  // RACE roomy
+    std::getline(mine, narrow); // RACE narrow
+    mine >> part_of_it;         // RACE part
     blank >> kept;
-    passed << "hello ";                     // RACE passed
-    gone.get(c);                            // RACE gone
+    passed << "hello ";         // RACE passed
+    gone.get(c);                // RACE gone
     has_read.store(1, std::memory_order_relaxed);
+    std::cin >> s;
     std::lock_guard<std::mutex> l(m);
     guarded >> last;
-    std::cin >> s;
 }
 
 static void also_reads() {
@@ -76,14 +77,15 @@ static void also_reads() {
     seen = (size_t)roomy.data()[2];         // RACE roomy
     seen = (size_t)narrow.data();           // RACE narrow
     seen = (size_t)block[3];                // RACE block
+    seen = (size_t)part_of_it[3];           // RACE part
     seen = (size_t)(block[4] + text[5] + kept);
     while (!has_read.load(std::memory_order_relaxed)) {}
-    passed >> s;                            // RACE passed
-    gone.peek();                            // RACE gone
+    passed >> s; // RACE passed
+    gone.peek(); // RACE gone
+    std::cin >> s;
     std::lock_guard<std::mutex> l(m);
     guarded >> sum;
     sum += last;
-    std::cin >> s;
 }
 
 int main() {

@@ -15,10 +15,10 @@ struct work {
 };
 static void *work(void *p) {
     struct work *w = p;
-    w->first++;          /* RACE first */
-    w->second++;         /* RACE second */
-    w->places[2].y = 1;  /* RACE member */
-    w->counts[1]++;      /* RACE element */
+    w->first++;              /* RACE first */
+    w->second++;             /* RACE second */
+    w->places[2].y = 1;      /* RACE member */
+    w->counts[1]++;          /* RACE element */
     memset(w->text, 'b', 4); /* RACE text */
     pthread_mutex_lock(&m);
     w->locked++;
@@ -33,11 +33,11 @@ static int both(int n) {
     w.counts = counts, w.text = alloca((size_t)n);
     w.text[3] = 'a';
     pthread_create(&t, NULL, work, &w);
-    w.first++;                  /* RACE first */
-    w.second++;                 /* RACE second */
-    seen += w.places[2].y < 5;  /* RACE member */
-    seen += counts[1] < 5;      /* RACE element */
-    seen += w.text[3] >= 'a';   /* RACE text */
+    w.first++;                 /* RACE first */
+    w.second++;                /* RACE second */
+    seen += w.places[2].y < 5; /* RACE member */
+    seen += counts[1] < 5;     /* RACE element */
+    seen += w.text[3] >= 'a';  /* RACE text */
     pthread_mutex_lock(&m);
     w.locked++;
     pthread_mutex_unlock(&m);

@@ -16,7 +16,7 @@ static char *area(void) {
 }
 
 static void *work(void *p) {
-    areas[BACK][SIZE - 1] = 1; /* RACE back */
+    areas[BACK][SIZE - 1] = 1;  /* RACE back */
     areas[MOVED][SIZE - 1] = 1; /* RACE moved */
     areas[CUT][5000] = 1;       /* RACE cut */
     areas[KEPT][4095] = 1;
@@ -31,9 +31,9 @@ int main(void) {
     char *cut = areas[CUT], *kept = areas[KEPT], *moved = areas[MOVED], *back = areas[BACK], *target = area();
     pthread_create(&t, NULL, work, NULL);
     while (!atomic_load_explicit(&done, memory_order_relaxed)) {}
-    munmap(back, SIZE); /* RACE back */
+    munmap(back, SIZE);                                                           /* RACE back */
     char *now = mremap(moved, SIZE, SIZE, MREMAP_MAYMOVE | MREMAP_FIXED, target); /* RACE moved */
-    if (mremap(cut, SIZE, 4096, 0) != cut) return 1; /* RACE cut */
+    if (mremap(cut, SIZE, 4096, 0) != cut) return 1;                              /* RACE cut */
     if (mremap(kept, SIZE, 4096, 0) != kept || mremap(back, SIZE, 4096, 0) != MAP_FAILED) return 1;
     sum = now[SIZE - 1];
     pthread_join(t, NULL);
