@@ -45,6 +45,7 @@ EACH_COMPILER = (
     "sizes.c",
     "conversions.c",
     "cut_texts.c",
+    "links.cpp",
     "lists.cpp",
     "ostreams.cpp",
     "istreams.cpp",

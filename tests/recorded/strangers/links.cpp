@@ -33,6 +33,7 @@ static tree grown[4], cut[4];
 static set empty, single{1};
 // Nodes that are taken out are kept, so that no free races.
 static set::node_type kept[5];
+static std::atomic<bool> has_looked;
 static std::atomic<list::iterator> new_node;
 static std::atomic<set::iterator> new_leaf;
 static thread_local volatile bool seen;
@@ -54,18 +55,24 @@ static void writes() {
     new_node.store(node, std::memory_order_relaxed);
     auto leaf = grown[3].all.insert(12).first;             // RACE leaf
     new_leaf.store(leaf, std::memory_order_relaxed);
-    grown[0].all.insert(12);                               // RACE grown
     grown[1].all.insert(20);                               // RACE grownlast
     grown[2].all.insert(1);                                // RACE grownfirst
-    empty.insert(1);                                       // RACE root
-    kept[0] = cut[0].all.extract(cut[0].last);             // RACE cut
     kept[1] = cut[1].all.extract(cut[1].last);             // RACE cutlast
     kept[2] = cut[2].all.extract(cut[2].first);            // RACE cutfirst
     kept[3] = cut[3].all.extract(cut[3].first);            // RACE cutleft
     kept[4] = single.extract(single.begin());              // RACE single
+    while (!has_looked.load(std::memory_order_relaxed)) {}
+    grown[0].all.insert(12);                               // RACE grown
+    empty.insert(1);                                       // RACE root
+    kept[0] = cut[0].all.extract(cut[0].last);             // RACE cut
 }
 
+// What is looked at first is changed last: then there are no new nodes to meet.
 static void looks() {
+    seen = std::prev(grown[0].last) == grown[0].first;                            // RACE grown
+    seen = empty.find(3) == empty.end();                                          // RACE root
+    seen = std::next(cut[0].middle) == cut[0].first;                              // RACE cut
+    has_looked.store(true, std::memory_order_relaxed);
     seen = std::next(moves[0].end) == none;                                       // RACE end
     seen = std::next(moves[1].before_first) == none;                              // RACE behind
     seen = std::next(moves[2].ahead) == none;                                     // RACE ahead
@@ -82,11 +89,8 @@ static void looks() {
     seen = std::next(new_node.load(std::memory_order_relaxed)) == none;           // RACE node
     while (new_leaf.load(std::memory_order_relaxed) == set::iterator()) {}
     seen = std::next(new_leaf.load(std::memory_order_relaxed)) == grown[3].first; // RACE leaf
-    seen = std::prev(grown[0].last) == grown[0].first;                            // RACE grown
     seen = std::prev(grown[1].all.end()) == grown[1].first;                       // RACE grownlast
     seen = grown[2].all.begin() == grown[2].last;                                 // RACE grownfirst
-    seen = empty.find(3) == empty.end();                                          // RACE root
-    seen = std::next(cut[0].middle) == cut[0].first;                              // RACE cut
     seen = std::prev(cut[1].all.end()) == cut[1].first;                           // RACE cutlast
     seen = cut[2].all.begin() == cut[2].last;                                     // RACE cutfirst
     seen = std::prev(cut[3].middle) == cut[3].last;                               // RACE cutleft
