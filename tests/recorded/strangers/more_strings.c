@@ -8,6 +8,7 @@
 #include <string.h>
 #include <strings.h>
 static char a[32], b[32], c[32], d[32], e[32], f[32], g[32], h[32], i[32], j[32], k[32], l[32], m[32], o[32], q[32], r[32];
+static char s[8] = "ab";
 static char *volatile copy;
 static __thread volatile size_t n;
 static FILE *file, *line;
@@ -36,7 +37,8 @@ static void *writes(void *p) {
     if (fread(o, 2, 2, file)) /* RACE o */
         q[2] = '\n';          /* RACE q */
     n += fgets(r, 16, line) != NULL; /* RACE r */
-    e[5] = f[4] = g[9] = h[5] = i[8] = j[8] = k[12] = m[5] = q[5] = 'z';
+    s[2] = 0;                        /* RACE s */
+    s[3] = 0, e[5] = f[4] = g[9] = h[5] = i[8] = j[8] = k[12] = m[5] = q[5] = 'z';
     return NULL;
 }
 
@@ -61,6 +63,7 @@ static void *reads(void *p) {
     n += o[3];                      /* RACE o */
     fwrite(q, 1, 3, stderr);        /* RACE q */
     n += r[6];                      /* RACE r */
+    n += strnlen(s, 8);             /* RACE s */
     n += l[5] + o[4] + r[7];
     return NULL;
 }
