@@ -49,6 +49,7 @@ EACH_COMPILER = (
     "lists.cpp",
     "ostreams.cpp",
     "istreams.cpp",
+    "last_letters.c",
     "exceptions.cpp",
     "own_parts.c",
 )

@@ -1,5 +1,5 @@
-// Streams of C++ that threads read: two that read one stream without a lock race, and so do two that write what is read.
-// Behind a lock, and by the standard streams, there is no race.
+// Streams of C++ that threads read: two that read one stream without a lock race, and so do two of which one changes
+// what the other reads into. Behind a lock, and by the standard streams, there is no race.
 #include <atomic>
 #include <cstdio>
 #include <fstream>
@@ -8,7 +8,8 @@
 #include <sstream>
 #include <string>
 #include <thread>
-static std::istringstream numbers("1 2 3 4"), words("some words of a text"), lines("a line\nanother\n"), guarded("5 6 7 8");
+static std::istringstream numbers("1 2 3 4"), words("some words of a text"), lines("a line\nanother\n");
+static std::istringstream guarded("5 6 7 8");
 static std::istringstream letters("abcdefgh"), mine("10 2.5 word x\nrest of a line that is long\nmore\nlast 77 end\n"
                                  "a line for a text that has room\na line for a text that has no room\nend");
 static std::istringstream blank("  ");

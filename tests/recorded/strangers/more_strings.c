@@ -7,7 +7,8 @@
 #include <stdlib.h>
 #include <string.h>
 #include <strings.h>
-static char a[32], b[32], c[32], d[32], e[32], f[32], g[32], h[32], i[32], j[32], k[32], l[32], m[32], o[32], q[32], r[32];
+static char a[32], b[32], c[32], d[32], e[32], f[32], g[32], h[32], i[32], j[32], k[32], l[32], m[32], o[32];
+static char q[32], r[32];
 static char s[8] = "ab";
 static char *volatile copy;
 static __thread volatile size_t n;

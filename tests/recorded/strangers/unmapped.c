@@ -1,5 +1,5 @@
-/* Memory that is given back to the system or moved while a thread may still use it. What comes after a join, or in a part
- * that stays, is no race. */
+/* Memory that is given back to the system or moved while a thread may still use it. What comes after a join, or in a
+ * part that stays, is no race. */
 #define _GNU_SOURCE
 #include <pthread.h>
 #include <stdatomic.h>
