@@ -1,8 +1,9 @@
 //! What the program prints instead of doing a task: help, or why the arguments are refused.
 
 use crate::LIMITS;
+use crate::file_notes::is_plain;
 use crate::lines::{behind_line, first_line};
-use crate::notes::are_wanted;
+use crate::notes::{append_named, are_wanted};
 use crate::telling::{REFUSED, say, tell_replay};
 use client_scripts::{FromWrite, ReplayFault, write_all};
 use program_words::{Told, task_of};
@@ -14,6 +15,10 @@ use std::process::ExitCode;
 /// The note on refused arguments that name no command.
 const HELP: &[u8] =
     b"note: `racebench help` lists the commands, and `racebench help COMMAND` the options of one\n";
+
+/// The note on a file in the place of a command, after the file's name.
+const FILE: &[u8] =
+    b" is a file, not a command: `racebench triage FILE` lists the races of a trace";
 
 /// Why an empty text is refused: each block mentions it.
 pub(crate) const EMPTY_TEXT: &[u8] =
@@ -85,18 +90,29 @@ fn append_usage(
     Ok(())
 }
 
+/// Appends the notes on refused arguments that begin with this word, which is no command.
+fn append_commands(rt: &HostRuntime, out: &mut Vec<u8>, word: &str) -> Result<(), OutOfMemory> {
+    if is_plain(rt, word) {
+        append_named(out, word, FILE)?;
+    }
+    out.extend_from_slice(HELP)?;
+    Ok(())
+}
+
 /// Appends the notes on refused arguments, of which the first is the program's name.
-fn append_notes(out: &mut Vec<u8>, refusal: &[u8], words: &[String]) -> Result<(), OutOfMemory> {
+fn append_notes(
+    rt: &HostRuntime,
+    out: &mut Vec<u8>,
+    refusal: &[u8],
+    words: &[String],
+) -> Result<(), OutOfMemory> {
     let command = match words.get(1) {
         Some(word) if word.as_str() != "help" => word.as_str(),
         _ => "",
     };
     match help_of(*out.allocator(), command)? {
         Some(help) => append_usage(out, refusal, command, help.as_bytes()),
-        None => {
-            out.extend_from_slice(HELP)?;
-            Ok(())
-        }
+        None => append_commands(rt, out, command),
     }
 }
 
@@ -106,7 +122,7 @@ pub(crate) fn tell_refusal(rt: &HostRuntime, refusal: &[u8], words: &[String]) -
     say(rt, refusal);
     if are_wanted(rt) {
         let mut notes = Vec::new(rt.alloc());
-        if append_notes(&mut notes, refusal, words).is_ok() {
+        if append_notes(rt, &mut notes, refusal, words).is_ok() {
             say(rt, &notes);
         }
     }
