@@ -2,7 +2,9 @@
 ghost use Rattle.std.specs.Prelude.{◌≡◌};
 
 use crate::lines::{first_line, first_word, line_of};
-use crate::notes::{STANDARD_INPUT, append_command_notes, append_word_notes, are_wanted, usage_of};
+use crate::notes::{
+    STANDARD_INPUT, append_command_notes, append_name_form, append_word_notes, are_wanted, usage_of,
+};
 use crate::numbering::number_at;
 use crate::pieces::{before, from, lines_before};
 use crate::quoted::append_quote;
@@ -26,6 +28,8 @@ const BETWEEN: &[u8] = b": ";
 const BAD_WORD: u64 = 81;
 
 const BAD_CLIENT: u64 = 83;
+
+const BAD_NAME: u64 = 84;
 
 const BAD_QUESTION: u64 = 87;
 
@@ -202,6 +206,7 @@ fn append_cause_note(
             out.extend_from_slice(CLIENT)?;
             Ok(())
         }
+        BAD_NAME => append_name_form(out),
         BAD_QUESTION => {
             out.extend_from_slice(b"note: docs/FORMATS.md lists the questions\n")?;
             Ok(())

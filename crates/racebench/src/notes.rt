@@ -125,6 +125,12 @@ pub(crate) fn append_command_notes(out: &mut Vec<u8>, command: &[u8]) -> Result<
     append_usage_note(out, command)
 }
 
+/// Appends the note on a line that is refused for the name of a schedule.
+pub(crate) fn append_name_form(out: &mut Vec<u8>) -> Result<(), OutOfMemory> {
+    out.extend_from_slice(b"note: a name is 1 to 64 ASCII letters, digits, `_`, `-` or `.`\n")?;
+    Ok(())
+}
+
 /// Appends the note on a line of a script that does not begin with its client. `script` is the number of the script, if
 /// there are several; the lines of each are of one client.
 pub(crate) fn append_client_note(
@@ -148,7 +154,7 @@ pub(crate) fn append_client_note(
     )
 }
 
-/// Appends the notes on a refused line of a script: the line, and what is wrong with its command word.
+/// Appends the notes on a refused line of a script: the line, and what is wrong with its command word or its name.
 pub(crate) fn append_script_notes(
     out: &mut Vec<u8>,
     name: &str,
@@ -160,10 +166,11 @@ pub(crate) fn append_script_notes(
         return Ok(());
     };
     append_quote(out, name, refusal.line, line)?;
-    if refusal.why == ScriptCause::BadWord {
-        append_word_notes(out, line)?;
+    match refusal.why {
+        ScriptCause::BadWord => append_word_notes(out, line),
+        ScriptCause::BadName => append_name_form(out),
+        _ => Ok(()),
     }
-    Ok(())
 }
 
 /// Appends the notes on a refused line of the script of a joint text.
