@@ -101,11 +101,11 @@ pub fn write_merged_json<K: Sink>(
     ensures write { K.has_failed writer.new ≡ true → result ≡ Err (Replay Write) }
     ensures write_failed { result ≡ Err (Replay Write) → K.has_failed writer.new ≡ true }
 {
-    let (text, races) = match json_of(alloc, parts) {
+    let (json, races) = match json_of(alloc, parts) {
         Ok(made) => made,
         Err(fault) => return Err(fault),
     };
-    match write_text(writer, text.as_slice()) {
+    match write_text(writer, json.as_slice()) {
         Ok(()) => Ok(races),
         Err(fault) => Err(MergeFault::Replay(fault)),
     }

@@ -73,11 +73,11 @@ pub fn write_merged_sarif<'a, K: Sink>(
     ensures write { K.has_failed writer.new ≡ true → result ≡ Err (Replay Write) }
     ensures write_failed { result ≡ Err (Replay Write) → K.has_failed writer.new ≡ true }
 {
-    let (text, races) = match log_of(alloc, parts, rows, cells, log) {
+    let (sarif, races) = match log_of(alloc, parts, rows, cells, log) {
         Ok(made) => made,
         Err(fault) => return Err(fault),
     };
-    match write_text(writer, text.as_slice()) {
+    match write_text(writer, sarif.as_slice()) {
         Ok(()) => Ok(races),
         Err(fault) => Err(fault),
     }
@@ -111,11 +111,11 @@ pub fn write_merged_page<K: Sink>(
     ensures write { K.has_failed writer.new ≡ true → result ≡ Err (Replay Write) }
     ensures write_failed { result ≡ Err (Replay Write) → K.has_failed writer.new ≡ true }
 {
-    let (text, races) = match page_of(alloc, parts, apart) {
+    let (page, races) = match page_of(alloc, parts, apart) {
         Ok(made) => made,
         Err(fault) => return Err(fault),
     };
-    match write_text(writer, text.as_slice()) {
+    match write_text(writer, page.as_slice()) {
         Ok(()) => Ok(races),
         Err(fault) => Err(fault),
     }
