@@ -6,6 +6,7 @@ mod device;
 mod lines;
 mod log;
 mod memory;
+mod settling;
 mod steps;
 mod turns;
 

@@ -13,8 +13,7 @@ fn open_line(text: &[u8]) -> Option<usize>
     let [b' ', line @ ..] = text else {
         return None;
     };
-    let len = memchr(b'\n', line)?;
-    Some(len + 2)
+    Some(memchr(b'\n', line)? + 2)
 }
 
 /// Where the lines end that count.

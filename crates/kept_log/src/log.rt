@@ -3,12 +3,12 @@ ghost use Rattle.std.specs.Prelude.{◌≡◌, ◌≢◌, ◌≤◌, ◌<◌, �
 ghost use Rattle.kept_log.specs.Device.{Only, HasCause};
 ghost use Rattle.kept_log.specs.declared.device.DeviceError.{DeviceError};
 ghost use Rattle.kept_log.specs.declared.device.DeviceError.TheVariants.{Memory, Failed, Shorter};
-ghost use Rattle.kept_log.specs.Lines.{IsLine, IsEnd, lines_text};
-ghost use Rattle.kept_log.specs.Log.{EndsBehind, at_rest, lines_behind, head_of, lines_of, IsAtRest, IsKnown, IsLeft, lines_after, HasHead, LacksHead, HasNoLine, IsTextOf, rest_at, rest_of, StandsAt, StandsAfter, StandsIfHeaded, StandsForLog, BeginsWithLog, MayHaveBlock, lines_beyond, OthersLeave, IsKept, IsTooMuch, IsFoundOnce, IsDiskFailure, HasSameLines};
+ghost use Rattle.kept_log.specs.Lines.{IsLine, lines_text};
+ghost use Rattle.kept_log.specs.Log.{at_rest, head_of, lines_of, IsAtRest, IsKnown, IsLeft, lines_after, HasHead, LacksHead, HasNoLine, IsTextOf, rest_of, StandsIfHeaded, LeavesAfter, StandsForLog, BeginsWithLog, MayHaveBlock, lines_beyond, OthersLeave, IsKept, IsTooMuch, IsFoundOnce, IsDiskFailure, HasSameLines};
 ghost use Rattle.kept_log.specs.Moments.{LeavesOnly, LeavesAlso};
 
-use crate::lines::lines_end;
-use crate::steps::{cut_through, write_through};
+use crate::settling::settle;
+use crate::steps::write_through;
 use crate::{Block, Device, DeviceError};
 use std::alloc::Global;
 
@@ -42,59 +42,6 @@ pub struct KeptLog<D: Device> {
     pub device: D,
     pub start: usize,
     pub end: usize,
-}
-
-/// Cuts what stands behind a place, where no line counts, and closes the gate there.
-fn repair<D: Device>(device: &mut D, at: usize) -> Result<(), DeviceError>
-    requires within { at ≤ length (D.seen device.old) }
-    requires held { D.is_held device.old ≡ true }
-    requires durable { Only (D.seen device.old) (D.may_leave device.old) }
-    requires end { IsEnd (drop at (D.seen device.old)) }
-
-    ensures closed { OnOk result (D.seen device.new ≡ take at (D.seen device.old) ++ 33 ∷ []) }
-    ensures durable { OnOk result (Only (D.seen device.new) (D.may_leave device.new)) }
-    ensures view { EndsBehind (take at (D.seen device.old)) (D.seen device.new) }
-    ensures any_moment { LeavesOnly D.Device device.old device.new (EndsBehind (take at (D.seen device.old))) }
-    ensures held { D.is_held device.new ≡ true }
-    ensures found { D.found device.new ≡ D.found device.old }
-    ensures cause { HasCause (D.faults device.old) (D.faults device.new) result }
-    ensures not_shorter { IfErr result (λ why. why ≢ Shorter) }
-{
-    // The cut has to be on the disk first: behind a gate that is torn open, what was there would count.
-    cut_through(device, at)?;
-    write_through(device, at, b"!")
-}
-
-/// How long the text of the lines is that count behind a place. Behind them a closed gate stands, if need be by a
-/// repair. `text` is all that stands behind the place.
-fn settle<D: Device>(device: &mut D, at: usize, text: &[u8]) -> Result<usize, DeviceError>
-    requires within { at ≤ length (D.seen device.old) }
-    requires text { drop at (D.seen device.old) ≡ text.now }
-    requires fits { length (D.seen device.old) < 2 ^ 63 }
-    requires held { D.is_held device.old ≡ true }
-    requires durable { Only (D.seen device.old) (D.may_leave device.old) }
-
-    ensures lines { IfOk result (λ len. take len text.now ≡ lines_text (lines_behind at (D.seen device.old))) }
-    ensures len { IfOk result (λ len. len ≡ length (lines_text (lines_behind at (D.seen device.old)))) }
-    ensures within { IfOk result (λ len. at + len ≤ length (D.seen device.old)) }
-    ensures are_lines { OnOk result (All IsLine (lines_behind at (D.seen device.old))) }
-    ensures at_rest { OnOk result (D.seen device.new ≡ rest_at at (D.seen device.old)) }
-    ensures durable { OnOk result (Only (D.seen device.new) (D.may_leave device.new)) }
-
-    // A crash at any moment, and a failed call, leave the same lines.
-    ensures view { StandsAt at (D.seen device.old) (D.seen device.new) }
-    ensures any_moment { LeavesOnly D.Device device.old device.new (StandsAt at (D.seen device.old)) }
-    ensures held { D.is_held device.new ≡ true }
-    ensures found { D.found device.new ≡ D.found device.old }
-    ensures cause { HasCause (D.faults device.old) (D.faults device.new) result }
-    ensures not_shorter { IfErr result (λ why. why ≢ Shorter) }
-{
-    let end = lines_end(text);
-    if text[end..] == [b'!'] {
-        return Ok(end);
-    }
-    repair(device, at + end)?;
-    Ok(end)
 }
 
 /// Makes an empty file a log with this head and no lines. Its lock is held.
@@ -159,11 +106,10 @@ fn find<D: Device>(device: &mut D, head: &[u8], bytes: &[u8]) -> Result<usize, O
 
     ensures refused { IsErrOf result OpenError.Stranger → LacksHead head.now (D.seen device.old) }
     ensures stranger { LacksHead head.now (D.seen device.old) → device.new ≡ device.old }
-    ensures view { HasHead head.now (D.seen device.old) → StandsAfter head.now (D.seen device.old) (D.seen
-        device.new) }
+    ensures view { StandsIfHeaded head.now (D.seen device.old) (D.seen device.new) }
 
     // A crash at any moment leaves what it might have left before, or the lines that are seen.
-    ensures any_moment { LeavesAlso D.Device device.old device.new (StandsAfter head.now (D.seen device.old)) }
+    ensures any_moment { LeavesAfter D.Device head.now device.old device.new }
 {
     if !bytes.starts_with(head) {
         return Err(OpenError::Stranger);
@@ -230,9 +176,8 @@ impl<D: Device> KeptLog<D> {
         ensures view { IfErr result (λ e. StandsIfHeaded head.now (D.seen device) (D.seen e.1)) }
 
         // A crash at any moment leaves what it might have left before, or the lines that are seen.
-        ensures any_moment { IfOk result (λ r. LeavesAlso D.Device device r.0.device (StandsAfter head.now
-            (D.seen device))) }
-        ensures any_moment_err { IfErr result (λ e. LeavesAlso D.Device device e.1 (StandsAfter head.now (D.seen device))) }
+        ensures any_moment { IfOk result (λ r. LeavesAfter D.Device head.now device r.0.device) }
+        ensures any_moment_err { IfErr result (λ e. LeavesAfter D.Device head.now device e.1) }
     {
         match find(&mut device, head, bytes) {
             Ok(len) => {
