@@ -1,5 +1,6 @@
 -- The head of a log's file. The format is this project's own; the digest is SHA-256 of FIPS 180-4.
-use Rattle.std.specs.Prelude.{◌≡◌, ℕ, List, ◌++◌, codes, flat_map, length}
+use Rattle.std.specs.Prelude.{◌≡◌, ℕ, List, ◌++◌, Bool, true, ◌&&◌, ◌||◌, nat_le, codes, flat_map, length}
+use Rattle.std.specs.List.{list_all}
 use Rattle.rapid_text.specs.Recording.{Recording}
 use Rattle.rapid_text.specs.Canonical.{canonical_text}
 use Rattle.sha2.specs.Sha256.{sha256}
@@ -11,12 +12,17 @@ use Rattle.hex.specs.Hex.{encode_lower}
 abbrev pub head_text : Recording → List ℕ
 head_text trace = codes "racebench log 1 " ++ encode_lower (sha256 (canonical_text trace)) ++ codes "\n"
 
--- The bytes begin like the file of a log: with the name of the format, 64 bytes without a line feed, and a line feed.
+-- whether the byte is a digit of a digest: from `0` to `9`, or from `a` to `f`
+abbrev pub is_digest_digit : ℕ → Bool
+is_digest_digit c = (nat_le 48 c && nat_le c 57) || (nat_le 97 c && nat_le c 102)
+
+-- The bytes begin like the file of a log: with the name of the format, the 64 digits of a digest, and a line feed.
 -- `text` is what comes after that.
 pub record IsHeaded (bytes text : List ℕ) : Type 0 where
   pub digest : List ℕ
   pub size : length digest ≡ 64
   pub line : IsLine digest
+  pub digits : list_all is_digest_digit digest ≡ true
   pub split : bytes ≡ codes "racebench log 1 " ++ digest ++ codes "\n" ++ text
 
 -- the lines that count in the text after the head, as a script

@@ -1,6 +1,7 @@
 //! The head of a log's file: its first line, which names the format and the trace.
 ghost use Rattle.std.specs.Prelude.{◌≡◌, ℕ, List, IfOk, IfNone, IfSome};
-ghost use Rattle.kept_session.specs.Heads.{head_text, IsHeaded};
+ghost use Rattle.std.specs.List.{list_all};
+ghost use Rattle.kept_session.specs.Heads.{head_text, is_digest_digit, IsHeaded};
 
 use event_index::Indexed;
 use memchr::memchr;
@@ -34,6 +35,20 @@ pub fn head_of(alloc: Global, indexed: &Indexed) -> Result<Vec<u8>, OutOfMemory>
     Ok(head)
 }
 
+/// Whether the byte is a digit of a digest: from `0` to `9`, or from `a` to `f`.
+fn is_digit(byte: u8) -> bool
+    ensures { result ≡ is_digest_digit byte }
+{
+    byte.is_ascii_digit() || (byte >= b'a' && byte <= b'f')
+}
+
+/// Whether all bytes are digits of a digest.
+fn are_digits(word: &[u8]) -> bool
+    ensures { result ≡ list_all is_digest_digit word.now }
+{
+    word.iter().all(|byte| is_digit(*byte))
+}
+
 /// The text after the head of a log's file, whatever its trace is. Returns None if the file has no head.
 pub(crate) fn behind_head(bytes: &[u8]) -> Option<&[u8]>
     ensures some { IfSome result (λ text. IsHeaded bytes.now text.now) }
@@ -45,6 +60,9 @@ pub(crate) fn behind_head(bytes: &[u8]) -> Option<&[u8]>
     let line = &bytes[FORMAT.len()..];
     let end = memchr(b'\n', line)?;
     if end != DIGITS {
+        return None;
+    }
+    if !are_digits(&line[..DIGITS]) {
         return None;
     }
     Some(&line[DIGITS + 1..])
