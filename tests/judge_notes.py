@@ -21,6 +21,11 @@ TWICE = "both numbers are event 0: a pair has two events"
 # The notes on a joint text: what is read from a terminal, and that there is no script.
 READING = "note: type a trace, a line `---` and a script, or see `racebench help`\n"
 NO_SCRIPT = "note: there is no line `---`, so there is no script\n"
+# The note on locks that are held before a window.
+LATE = "note: more locks are held there than a later window may begin with: pass an earlier event to `--window`\n"
+# The notes on a trace with too many threads, and on an event that no window has room for.
+WIDE = "note: a trace has at most 256 threads; `triage --windows` reads more, in windows of at most 256\n"
+CROWDED = "note: a window has at most 256 threads, and those that hold a lock where it begins count\n"
 # What is run, what comes on standard error in any case, and the notes after it.
 RUNS = [
     (["info", "none"], "racebench: read failed\n", "note: none does not exist\n"),
@@ -31,6 +36,21 @@ RUNS = [
     (["info", "good"], "", ""),
     (["info", "shut"], "racebench: read failed\n", "note: shut may not be read: permission denied\n"),
     (["info", "in/good"], "racebench: read failed\n", "note: in/good may not be read: permission denied\n"),
+    (
+        ["cut", "comes", "--windows", "100", "--window", "5200"],
+        "racebench: trace line 4551: 7 too many events\n",
+        f"note: line 4551 of comes is `T0|fork(T151)|2`\n{LATE}",
+    ),
+    (
+        ["info", "wide"],
+        "racebench: trace line 257: 8 too many names\n",
+        f"note: line 257 of wide is `T257|w(x)|2`\n{WIDE}",
+    ),
+    (
+        ["cut", "wide", "--windows", "100", "--window", "256"],
+        "racebench: trace line 257: 8 too many names\n",
+        f"note: line 257 of wide is `T257|w(x)|2`\n{CROWDED}",
+    ),
     # Standard input has nothing; what the file of that name has is not told.
     (["explain", "-", "0", "1"], "racebench: no such pair\n", ""),
     (
@@ -179,6 +199,10 @@ def make_files(program):
     running.write("good", "T1|w(x)|1\n")
     running.write("shut", "T1|w(x)|1\n")
     running.write("-", "T1|r(x)|1\nT2|r(x)|2\n")
+    # More locks are held than a window may begin with after threads that come and go.
+    held = "".join(f"T0|acq(l{lock})|1\n" for lock in range(4_100))
+    running.write("comes", held + "".join(f"T0|fork(T{n})|2\nT{n}|w(x)|3\nT0|join(T{n})|4\n" for n in range(1, 401)))
+    running.write("wide", "".join(f"T{n}|acq(l{n})|1\n" for n in range(1, 257)) + "T257|w(x)|2\n")
     os.chmod("shut", 0)
     os.mkdir("in", 0o700 if os.geteuid() == 0 else 0)
     os.mkdir("held")

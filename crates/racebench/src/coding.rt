@@ -122,10 +122,8 @@ fn lines_at(
     places: &[&[u8]],
 ) -> Result<Vec<SourceLine>, ReplayFault> {
     let mut lines = Vec::new(rt.alloc());
-    match add_files(rt, &mut lines, root, places) {
-        Ok(()) => Ok(lines),
-        Err(refused) => Err(refused),
-    }
+    add_files(rt, &mut lines, root, places)?;
+    Ok(lines)
 }
 
 /// Adds the lines at these places, file by file.
@@ -180,8 +178,7 @@ fn append_path(out: &mut Vec<u8>, root: &[u8], file: &[u8]) -> Result<(), OutOfM
     if !file.starts_with(b"/") {
         out.extend_from_slice(root)?;
     }
-    out.extend_from_slice(file)?;
-    Ok(())
+    Ok(out.extend_from_slice(file)?)
 }
 
 /// Adds the lines at these places of the file at this path, if it can be read.

@@ -6,8 +6,9 @@ use crate::folders::{Folder, folder_at};
 use crate::input::input_at;
 use crate::pieces::Pieces;
 use crate::quoted::append_number;
-use crate::telling::{tell_files, tell_past_end, tell_replay};
+use crate::telling::{tell_past_end, tell_replay, tell_windows};
 use crate::telling_paths::{tell_full, tell_unlisted, tell_unwritten};
+use crate::trace_notes::{LATE, held_note};
 use crate::windows::Windows;
 use crate::write_notes::cause_of;
 use calls::{BenchFault, cut_window};
@@ -30,7 +31,15 @@ pub(crate) fn cut_of_file(rt: &HostRuntime, task: &CutTask<'_>) -> ExitCode
 {
     match cut_by(rt, task) {
         Ok(status) => status,
-        Err(fault) => tell_files(rt, fault, &[task.trace]),
+        Err(fault) => tell_windows(rt, fault, task.trace, held_note_of(task)),
+    }
+}
+
+/// The note on too many held locks.
+fn held_note_of(task: &CutTask<'_>) -> &'static [u8] {
+    match task.into {
+        Some(_) => held_note(task.most),
+        None => LATE,
     }
 }
 
@@ -81,10 +90,8 @@ fn is_too_wide(printed: &Result<ExitCode, BenchFault>) -> bool {
 /// than can be kept.
 fn events_if_whole(pieces: &mut Pieces) -> Result<Option<u64>, ReplayFault> {
     let whole = pieces.span_kept(0, MAX_EVENTS)?;
-    if pieces.is_end(whole.end)? {
-        return Ok(Some(whole.events as u64));
-    }
-    Ok(None)
+    let is_whole = pieces.is_end(whole.end)?;
+    Ok(is_whole.then_some(whole.events as u64))
 }
 
 /// Prints a window of a trace that was read whole, and has this many events.
@@ -204,10 +211,9 @@ fn write_next(
     windows: &mut Windows,
     folder: &str,
 ) -> Result<Written, BenchFault> {
-    match windows.next(rt.alloc()) {
-        Ok(Some(window)) => Ok(write_window(rt, &window, folder)?),
-        Ok(None) => Ok(Written::Nothing),
-        Err(fault) => Err(fault),
+    match windows.next(rt.alloc())? {
+        Some(window) => Ok(write_window(rt, &window, folder)?),
+        None => Ok(Written::Nothing),
     }
 }
 

@@ -8,7 +8,9 @@ use crate::notes::{
     append_client_note, append_kind, append_named, append_script_notes, unread_words,
 };
 use crate::quoted::append_quote;
-use crate::trace_notes::{append_limit_note, append_rule_notes, append_trace_notes};
+use crate::trace_notes::{
+    append_limit_note, append_rule_notes, append_trace_notes, append_window_limit_note,
+};
 use crate::write_notes::append_standard_note;
 use calls::BenchFault;
 use client_scripts::{FromRead, ReadCause, ReplayFault, ScriptCause, ScriptRefusal, read_all};
@@ -42,10 +44,7 @@ fn bytes_again(rt: &HostRuntime, path: &str) -> Option<Vec<u8>> {
 /// The bytes of an open file, if it can be read whole.
 fn bytes_of(rt: &HostRuntime, file: File) -> Option<Vec<u8>> {
     let mut source = FromRead::new(file);
-    match read_all(rt.alloc(), &mut source) {
-        Ok(bytes) => Some(bytes),
-        Err(_) => None,
-    }
+    read_all(rt.alloc(), &mut source).ok()
 }
 
 /// Why a file was not found or not opened, in words.
@@ -194,6 +193,24 @@ pub(crate) fn append_file_notes(
     }
 }
 
+/// Appends the notes on a fault of the trace at this path, which is read in windows. `held` is the note on too many
+/// held locks.
+pub(crate) fn append_window_notes(
+    rt: &HostRuntime,
+    out: &mut Vec<u8>,
+    path: &str,
+    fault: &BenchFault,
+    held: &[u8],
+) -> Result<(), OutOfMemory> {
+    match fault {
+        BenchFault::Replay(ReplayFault::Text(refusal)) => {
+            append_trace_file_notes(rt, out, path, refusal)?;
+            append_window_limit_note(out, refusal, held)
+        }
+        fault => append_file_notes(rt, out, &[path], fault),
+    }
+}
+
 /// What a file should have held, if a line of it is refused.
 #[derive(Clone, Copy)]
 pub(crate) struct Form {
@@ -295,13 +312,12 @@ fn append_other_note_of(out: &mut Vec<u8>, path: &str, text: &[u8]) -> Result<()
     )
 }
 
+/// The note on a refused triage file, after the file's name.
+const TRIAGED: &[u8] = b" is the triage file; docs/TRIAGE.md has its form";
+
 /// Appends the note on a refused triage file.
 pub(crate) fn append_triaged_note(out: &mut Vec<u8>, path: &str) -> Result<(), OutOfMemory> {
-    append_named(
-        out,
-        path,
-        b" is the triage file; docs/TRIAGE.md has its form",
-    )
+    append_named(out, path, TRIAGED)
 }
 
 /// The path of the input with this number, counted from 1; empty if there is none.

@@ -61,10 +61,8 @@ pub(crate) struct Report<'a> {
 /// next call returns it.
 fn batch(alloc: Global, windows: &mut Windows, width: u32) -> Result<Vec<Window>, BenchFault> {
     let mut batch = Vec::new(alloc);
-    match fill(alloc, windows, width, &mut batch) {
-        Ok(()) => Ok(batch),
-        Err(fault) => Err(fault),
-    }
+    fill(alloc, windows, width, &mut batch)?;
+    Ok(batch)
 }
 
 /// Adds the next windows to a batch.
@@ -147,8 +145,7 @@ impl Report<'_> {
 /// Appends the path of a trace as one word of a shell. For standard input it is `-`.
 fn append_trace(out: &mut Vec<u8>, path: &str) -> Result<(), OutOfMemory> {
     if is_standard(path) {
-        out.extend_from_slice(path.as_bytes())?;
-        return Ok(());
+        return Ok(out.extend_from_slice(path.as_bytes())?);
     }
     append_shell_word(out, path.as_bytes())
 }

@@ -274,10 +274,8 @@ fn tell_entries(
     path: &str,
 ) -> Result<(), OutOfMemory> {
     let rows = rows_of(rt.alloc(), parts)?;
-    match cells_of(rt.alloc(), &rows) {
-        Ok(cells) => tell_entries_of(rt, &rows, &cells, entries, path),
-        Err(refused) => Err(refused),
-    }
+    let cells = cells_of(rt.alloc(), &rows)?;
+    tell_entries_of(rt, &rows, &cells, entries, path)
 }
 
 /// Prints the same, from these rows and cells.

@@ -136,10 +136,9 @@ fn work_checked<R: Threads + Wait + Sync + Clone + Send + Drop + 'static>(
     requires { IsWithin LIMITS task.now }
 {
     if filters_by_nothing(task) {
-        tell_refusal(rt, EMPTY_TEXT, words)
-    } else {
-        work(rt, starts, task)
+        return tell_refusal(rt, EMPTY_TEXT, words);
     }
+    work(rt, starts, task)
 }
 
 /// Reads the arguments, and does the task that they name.

@@ -99,10 +99,8 @@ fn tell_merge(rt: &HostRuntime, fault: MergeFault, file: u32, paths: &[&str]) ->
 /// Takes in the parts of the files at these paths. A fault comes with the number of its file.
 fn read_parts(rt: &HostRuntime, paths: &[&str]) -> Result<Parts, (MergeFault, u32)> {
     let mut parts = Parts::new(rt.alloc());
-    match take_in(rt, &mut parts, paths) {
-        Ok(()) => Ok(parts),
-        Err(fault) => Err(fault),
-    }
+    take_in(rt, &mut parts, paths)?;
+    Ok(parts)
 }
 
 /// Takes these files into the parts.

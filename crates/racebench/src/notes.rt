@@ -62,8 +62,7 @@ pub(crate) fn append_named(out: &mut Vec<u8>, name: &str, words: &[u8]) -> Resul
     out.extend_from_slice(b"note: ")?;
     append_path(out, name)?;
     out.extend_from_slice(words)?;
-    out.extend_from_slice(b"\n")?;
-    Ok(())
+    Ok(out.extend_from_slice(b"\n")?)
 }
 
 /// Appends a note that says what kind of file an input looks like, and then these words.

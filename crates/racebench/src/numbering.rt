@@ -92,6 +92,5 @@ fn append_counts(out: &mut Vec<u8>, line: &[u8], gone: u64) -> Result<(), OutOfM
     let (apart, behind) = number_at(from(line, APART.len()));
     out.extend_from_slice(APART)?;
     append_number(out, apart.saturating_sub(gone))?;
-    out.extend_from_slice(behind)?;
-    Ok(())
+    Ok(out.extend_from_slice(behind)?)
 }

@@ -60,10 +60,8 @@ pub(crate) fn before(bytes: &[u8], at: usize) -> &[u8] {
 /// Where the first line from `from_place` on ends. No line ends between there and `looked`, so the search begins there.
 fn line_end(bytes: &[u8], from_place: usize, looked: usize) -> Option<usize> {
     let start = from_place.max(looked);
-    match memchr(b'\n', from(bytes, start)) {
-        Some(at) => Some(start.saturating_add(at).saturating_add(1)),
-        None => None,
-    }
+    let at = memchr(b'\n', from(bytes, start))?;
+    Some(start.saturating_add(at).saturating_add(1))
 }
 
 /// Where the line with this number ends, counted from 1; the end of the last line if there are fewer. 0 for number 0.

@@ -135,8 +135,7 @@ fn append_several(
     out.extend_from_slice(b"note: ")?;
     append_word(out, word)?;
     append_places(out, b" names several locations: ", indexed, flags, b"")?;
-    out.extend_from_slice(b"\n")?;
-    Ok(())
+    Ok(out.extend_from_slice(b"\n")?)
 }
 
 /// Appends these words and the places of the events with a flag, each once, four at most. Only places whose file ends

@@ -31,8 +31,7 @@ pub(crate) fn append_name(out: &mut Vec<u8>, name: &str) -> Result<(), OutOfMemo
 /// Appends the path of a file for a note. An empty path gets a name.
 pub(crate) fn append_path(out: &mut Vec<u8>, path: &str) -> Result<(), OutOfMemory> {
     if path.is_empty() {
-        out.extend_from_slice(b"the empty path")?;
-        return Ok(());
+        return Ok(out.extend_from_slice(b"the empty path")?);
     }
     append_name(out, path)
 }

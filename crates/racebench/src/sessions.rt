@@ -139,10 +139,9 @@ fn is_missing(rt: &HostRuntime, path: &str) -> bool {
 
 /// The fault if the log can't be opened for reading and writing: not written if it can be read, else not read.
 fn unopened(rt: &HostRuntime, path: &str) -> SessionFault {
-    if File::open(rt, path).is_ok() {
-        unwritten()
-    } else {
-        unread()
+    match File::open(rt, path) {
+        Ok(_) => unwritten(),
+        Err(_) => unread(),
     }
 }
 

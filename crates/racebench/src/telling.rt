@@ -3,7 +3,7 @@ ghost use Rattle.std.specs.Prelude.{◌≡◌, ◌≢◌, ◌<◌, MatchResult};
 ghost use Rattle.std.specs.Process.{exit_status};
 ghost use Rattle.calls.specs.declared.fault.BenchFault.TheVariants.{TooManyScripts};
 
-use crate::file_notes::{append_file_notes, is_plain};
+use crate::file_notes::{append_file_notes, append_window_notes, is_plain};
 use crate::notes::{append_joint_notes, are_wanted};
 use crate::pair_notes::{append_no_event, append_pair_note};
 use calls::pair::{PairFault, pair_fault_text};
@@ -58,6 +58,16 @@ pub(crate) fn append_fault(out: &mut Vec<u8>, fault: &Fault) -> Result<(), OutOf
     Ok(())
 }
 
+/// Appends the line that reports a fault. Returns whether notes on it are wanted.
+pub(crate) fn append_noted(
+    rt: &HostRuntime,
+    out: &mut Vec<u8>,
+    fault: &Fault,
+) -> Result<bool, OutOfMemory> {
+    append_fault(out, fault)?;
+    Ok(are_wanted(rt))
+}
+
 /// Writes these lines and returns this status. If memory ran out while they were made, reports that instead.
 pub(crate) fn end(
     rt: &HostRuntime,
@@ -103,8 +113,7 @@ fn append_in_joint(
     kept: &[u8],
     is_whole: bool,
 ) -> Result<(), OutOfMemory> {
-    append_fault(out, &Fault::Bench(BenchFault::from(fault)))?;
-    if are_wanted(rt) {
+    if append_noted(rt, out, &Fault::Bench(BenchFault::from(fault)))? {
         append_joint_notes(rt, out, kept, is_whole, &fault)?;
     }
     Ok(())
@@ -131,8 +140,7 @@ fn append_in_files(
     fault: &BenchFault,
     paths: &[&str],
 ) -> Result<(), OutOfMemory> {
-    append_fault(out, &Fault::Bench(*fault))?;
-    if are_wanted(rt) {
+    if append_noted(rt, out, &Fault::Bench(*fault))? {
         append_file_notes(rt, out, paths, fault)?;
     }
     Ok(())
@@ -155,6 +163,29 @@ pub(crate) fn tell_files(rt: &HostRuntime, fault: BenchFault, paths: &[&str]) ->
 {
     let mut lines = Vec::new(rt.alloc());
     let made = append_in_files(rt, &mut lines, &fault, paths);
+    end(rt, &lines, made, status_of(&fault))
+}
+
+/// Appends the line that reports a fault of the trace at this path, and its notes. It is read in windows.
+fn append_in_windows(
+    rt: &HostRuntime,
+    out: &mut Vec<u8>,
+    fault: &BenchFault,
+    path: &str,
+    held: &[u8],
+) -> Result<(), OutOfMemory> {
+    if append_noted(rt, out, &Fault::Bench(*fault))? {
+        append_window_notes(rt, out, path, fault, held)?;
+    }
+    Ok(())
+}
+
+/// Reports a fault of the trace at this path, which is read in windows. `held` is the note on too many held locks.
+pub(crate) fn tell_windows(rt: &HostRuntime, fault: BenchFault, path: &str, held: &[u8]) -> ExitCode
+    ensures { 0 < exit_status result }
+{
+    let mut lines = Vec::new(rt.alloc());
+    let made = append_in_windows(rt, &mut lines, &fault, path, held);
     end(rt, &lines, made, status_of(&fault))
 }
 
@@ -237,8 +268,7 @@ fn append_past_end(
     event: u32,
     events: u64,
 ) -> Result<(), OutOfMemory> {
-    append_fault(out, &Fault::Bench(BenchFault::NoSuchEvent))?;
-    if are_wanted(rt) {
+    if append_noted(rt, out, &Fault::Bench(BenchFault::NoSuchEvent))? {
         append_no_event(out, event, events)?;
     }
     Ok(())

@@ -2,9 +2,9 @@
 ghost use Rattle.std.specs.Prelude.{◌<◌};
 ghost use Rattle.std.specs.Process.{exit_status};
 
-use crate::notes::{append_named, are_wanted};
+use crate::notes::append_named;
 use crate::quoted::append_name;
-use crate::telling::{Fault, append_fault, end};
+use crate::telling::{Fault, append_noted, end};
 use crate::write_notes::{append_log_write_note, append_write_note};
 use calls::BenchFault;
 use client_scripts::{ReadCause, ReplayFault};
@@ -61,8 +61,7 @@ fn append_unwritten(
     name: &str,
     cause: &[u8],
 ) -> Result<(), OutOfMemory> {
-    append_fault(out, &UNWRITTEN)?;
-    if are_wanted(rt) {
+    if append_noted(rt, out, &UNWRITTEN)? {
         append_write_note(out, name, cause)?;
     }
     Ok(())
@@ -79,8 +78,7 @@ pub(crate) fn tell_unwritten(rt: &HostRuntime, name: &str, cause: &[u8]) -> Exit
 
 /// Appends the line that reports a failed write of a log, and the note that names the log, and the likely cause.
 fn append_unlogged(rt: &HostRuntime, out: &mut Vec<u8>, path: &str) -> Result<(), OutOfMemory> {
-    append_fault(out, &UNWRITTEN)?;
-    if are_wanted(rt) {
+    if append_noted(rt, out, &UNWRITTEN)? {
         append_log_write_note(rt, out, path)?;
     }
     Ok(())
@@ -97,8 +95,7 @@ pub(crate) fn tell_unlogged(rt: &HostRuntime, path: &str) -> ExitCode
 
 /// Appends the line that reports that a folder was not read, and the note that names it.
 fn append_unlisted(rt: &HostRuntime, out: &mut Vec<u8>, path: &str) -> Result<(), OutOfMemory> {
-    append_fault(out, &Fault::Bench(BenchFault::from(UNREAD)))?;
-    if are_wanted(rt) {
+    if append_noted(rt, out, &Fault::Bench(BenchFault::from(UNREAD)))? {
         append_named(out, path, b" is not a folder that can be read")?;
     }
     Ok(())

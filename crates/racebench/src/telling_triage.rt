@@ -3,10 +3,9 @@ ghost use Rattle.std.specs.Prelude.{◌<◌};
 ghost use Rattle.std.specs.Process.{exit_status};
 
 use crate::file_notes::{CONFIRMED, append_form_notes, append_triaged_note};
-use crate::notes::are_wanted;
 use crate::quoted::append_name;
 use crate::seen::{BACK, UNMET};
-use crate::telling::{Fault, append_fault, end, say, tell, tell_files};
+use crate::telling::{Fault, append_noted, end, say, tell, tell_files};
 use calls::BenchFault;
 use calls::triage::{ConfirmedFault, TriageFault, TriagedFault};
 use program_words::TriageTask;
@@ -32,8 +31,7 @@ fn append_in_confirmed(
     line: u64,
     path: &str,
 ) -> Result<(), OutOfMemory> {
-    append_fault(out, &Fault::Confirmed(ConfirmedFault::Line(line)))?;
-    if are_wanted(rt) {
+    if append_noted(rt, out, &Fault::Confirmed(ConfirmedFault::Line(line)))? {
         append_form_notes(rt, out, path, line, CONFIRMED)?;
     }
     Ok(())
@@ -85,21 +83,20 @@ fn append_in_triaged(
     fault: TriagedFault,
     path: &str,
 ) -> Result<(), OutOfMemory> {
-    append_fault(out, &Fault::Triaged(fault))?;
-    if are_wanted(rt) {
+    if append_noted(rt, out, &Fault::Triaged(fault))? {
         append_triaged_note(out, path)?;
     }
     Ok(())
 }
 
+/// The report that the clock has no date.
+const DATELESS: &[u8] = b"racebench: the clock has no date: pass one with `--today`\n";
+
 /// Reports that the clock has no date.
 pub(crate) fn tell_dateless(rt: &HostRuntime) -> ExitCode
     ensures { 0 < exit_status result }
 {
-    say(
-        rt,
-        b"racebench: the clock has no date: pass one with `--today`\n",
-    );
+    say(rt, DATELESS);
     ExitCode::FAILURE
 }
 

@@ -95,8 +95,7 @@ fn append_commands(rt: &HostRuntime, out: &mut Vec<u8>, word: &str) -> Result<()
     if is_plain(rt, word) {
         append_named(out, word, FILE)?;
     }
-    out.extend_from_slice(HELP)?;
-    Ok(())
+    Ok(out.extend_from_slice(HELP)?)
 }
 
 /// Appends the notes on refused arguments, of which the first is the program's name.

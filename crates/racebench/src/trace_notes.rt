@@ -5,7 +5,7 @@ use crate::lines::{first_line, is_divider, line_of};
 use crate::notes::append_kind;
 use crate::pieces::{from, start_of_event};
 use crate::quoted::{append_event, append_quote};
-use rapid_text::{OutOfMemory, TextCause, TextRefusal};
+use rapid_text::{MAX_EVENTS, OutOfMemory, TextCause, TextRefusal};
 
 /// Appends the note on what kind of file a refused trace looks like.
 fn append_likeness(out: &mut Vec<u8>, name: &str, text: &[u8]) -> Result<(), OutOfMemory> {
@@ -31,6 +31,41 @@ pub(crate) fn append_limit_note(
     match refusal.why {
         TextCause::TooManyEvents => out.extend_from_slice(LONG)?,
         TextCause::TooManyNames => out.extend_from_slice(WIDE)?,
+        _ => {}
+    }
+    Ok(())
+}
+
+/// The note on held locks, if all windows are made: they are too small beside so many locks.
+const HELD: &[u8] =
+    b"note: more locks are held than a window of so few events may begin with: pass a larger number to `--windows`\n";
+
+/// The note on held locks, if one window is printed that begins after them.
+pub(crate) const LATE: &[u8] =
+    b"note: more locks are held there than a later window may begin with: pass an earlier event to `--window`\n";
+
+/// The note on an event that alone needs more threads than a window may have.
+const CROWDED: &[u8] =
+    b"note: a window has at most 256 threads, and those that hold a lock where it begins count\n";
+
+/// The note on held locks, if all windows are made and have at most `most` events. Empty if no larger number can be
+/// passed.
+pub(crate) fn held_note(most: u32) -> &'static [u8] {
+    if most as usize >= MAX_EVENTS {
+        return b"";
+    }
+    HELD
+}
+
+/// Appends the note on the limit of windows that a refused line passes. `held` is the note on held locks.
+pub(crate) fn append_window_limit_note(
+    out: &mut Vec<u8>,
+    refusal: &TextRefusal,
+    held: &[u8],
+) -> Result<(), OutOfMemory> {
+    match refusal.why {
+        TextCause::TooManyEvents => out.extend_from_slice(held)?,
+        TextCause::TooManyNames => out.extend_from_slice(CROWDED)?,
         _ => {}
     }
     Ok(())

@@ -181,8 +181,7 @@ fn triage_followed<R: Threads + Wait + Sync>(
     task: &TriageTask<'_>,
 ) -> ExitCode {
     match confirmed_at(rt, task.confirmed) {
-        Ok(Some(confirmed)) => list_decided(rt, starts, task, Some(confirmed.as_slice())),
-        Ok(None) => list_decided(rt, starts, task, None),
+        Ok(confirmed) => list_decided(rt, starts, task, confirmed.as_deref()),
         Err(fault) => tell_confirmed(rt, fault, task),
     }
 }

@@ -10,9 +10,10 @@ use crate::judging_windows::{Report, Stop, judge_all};
 use crate::leaving::{Decided, read_decided, tell_decided, wanted_in};
 use crate::pieces::Pieces;
 use crate::printing_windows::print_report;
-use crate::telling::{say, tell_files, tell_replay};
+use crate::telling::{say, tell_replay, tell_windows};
 use crate::telling_paths::tell_folder;
 use crate::telling_triage::tell_triage;
+use crate::trace_notes::held_note;
 use crate::windows::Windows;
 use calls::triage::TriageFault;
 use calls::{BenchFault, MergeFault, Parts};
@@ -33,12 +34,12 @@ fn is_of_trace(stop: Stop) -> bool {
 }
 
 /// Reports why no more windows were judged.
-fn tell_stop(rt: &HostRuntime, stop: Stop, task: &TriageTask<'_>) -> ExitCode
+fn tell_stop(rt: &HostRuntime, stop: Stop, report: &Report<'_>) -> ExitCode
     ensures { 0 < exit_status result }
 {
     match stop {
-        Stop::Trace(fault) => tell_files(rt, fault, &[task.trace]),
-        Stop::Window(fault) => tell_triage(rt, fault, &[task.trace]),
+        Stop::Trace(fault) => { tell_windows(rt, fault, report.task.trace, held_note(report.most)) }
+        Stop::Window(fault) => tell_triage(rt, fault, &[report.task.trace]),
         Stop::Part => {
             say(
                 rt,
@@ -106,7 +107,7 @@ fn list_report<R: Threads + Sync>(
     match judge_all(rt, starts, windows, report) {
         Ok(()) => print_judged(rt, windows, report),
         Err(stop) if is_of_trace(stop) => print_stopped(rt, windows, report, stop),
-        Err(stop) => tell_stop(rt, stop, report.task),
+        Err(stop) => tell_stop(rt, stop, report),
     }
 }
 
@@ -117,24 +118,24 @@ fn print_judged(rt: &HostRuntime, windows: &Windows, report: &Report<'_>) -> Exi
             windows.tell_mark(rt, report.task.trace);
             status_after(rt, report, races)
         }
-        Err(fault) => tell_unprinted(rt, fault, report.task),
+        Err(fault) => tell_unprinted(rt, fault, report),
     }
 }
 
 /// Prints the report up to where the trace was refused, and then reports why.
 fn print_stopped(rt: &HostRuntime, windows: &Windows, report: &Report<'_>, stop: Stop) -> ExitCode {
     match print_report(rt, windows, report) {
-        Ok(_) => tell_stop(rt, stop, report.task),
-        Err(fault) => tell_unprinted(rt, fault, report.task),
+        Ok(_) => tell_stop(rt, stop, report),
+        Err(fault) => tell_unprinted(rt, fault, report),
     }
 }
 
 /// Reports why the report was not printed.
-fn tell_unprinted(rt: &HostRuntime, fault: MergeFault, task: &TriageTask<'_>) -> ExitCode
+fn tell_unprinted(rt: &HostRuntime, fault: MergeFault, report: &Report<'_>) -> ExitCode
     ensures { 0 < exit_status result }
 {
     match fault {
         MergeFault::Replay(fault) => tell_replay(rt, fault),
-        _ => tell_stop(rt, Stop::Part, task),
+        _ => tell_stop(rt, Stop::Part, report),
     }
 }

@@ -279,10 +279,8 @@ impl Windows {
         spans: Spans,
     ) -> Result<Option<Window>, BenchFault> {
         let covered = window.to.saturating_sub(window.from) as usize;
-        match self.go_past(alloc, covered, spans) {
-            Ok(()) => Ok(Some(window)),
-            Err(fault) => Err(fault),
-        }
+        self.go_past(alloc, covered, spans)?;
+        Ok(Some(window))
     }
 
     // Goes past the lines that the next window does not have. `covered` is how many events the window has.
@@ -334,8 +332,7 @@ impl Windows {
         if covered >= spans.first.events {
             return Ok(spans.first.end);
         }
-        let half = half_of(covered).max(1);
-        Ok(self.pieces.span(0, half)?.end)
+        Ok(self.pieces.span(0, half_of(covered).max(1))?.end)
     }
 
     // Goes past the lines before this index.

@@ -66,10 +66,8 @@ impl Windows {
     // a trace may have.
     pub(super) fn told_wide(&self, end: usize) -> BenchFault {
         let lines = lines_before(self.pieces.bytes(), end);
-        refused_line(
-            lines_of(&self.front).saturating_add(lines),
-            TextCause::TooManyNames,
-        )
+        let line = lines_of(&self.front).saturating_add(lines);
+        refused_line(line, TextCause::TooManyNames)
     }
 
     // The fault of these lines, which have too many threads, if they have only one event.
