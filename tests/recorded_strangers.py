@@ -36,6 +36,8 @@ COMPILED = {
     "shared_tasks.cpp": ["-fopenmp"],
     "task_kinds.cpp": ["-fopenmp"],
     "doacross.c": ["-fopenmp"],
+    "sines.c": ["-lm"],
+    "wide_loops.c": ["-O2"],
     "task_events.c": ["-fopenmp"],
 }
 # Those with OpenMP, of which the recorder knows the one of GCC.
@@ -46,12 +48,16 @@ EACH_COMPILER = (
     "conversions.c",
     "cut_texts.c",
     "links.cpp",
+    "trees.cpp",
     "lists.cpp",
     "ostreams.cpp",
     "istreams.cpp",
     "last_letters.c",
     "exceptions.cpp",
     "own_parts.c",
+    "sines.c",
+    "wide_loops.c",
+    "chars.cpp",
 )
 CALLED = {"exits.c": ("exit", "quick", "under", "abort", "crash", "kill")}
 # Those whose locks are let go by the threads that took them.

@@ -13,6 +13,8 @@
 #include "searches.c"
 #include "numbers.c"
 #include "containers.c"
+#include "trees.c"
+#include "chars.c"
 #include "ostreams.c"
 #include "istreams.c"
 #include "exits.c"

@@ -43,6 +43,25 @@ FILLS(double, frexp, (double v, int *to), (v, to), , to, sizeof *to)
 FILLS(float, frexpf, (float v, int *to), (v, to), , to, sizeof *to)
 FILLS(double, modf, (double v, double *to), (v, to), , to, sizeof *to)
 FILLS(float, modff, (float v, float *to), (v, to), , to, sizeof *to)
+FILLS(long double, frexpl, (long double v, int *to), (v, to), , to, sizeof *to)
+FILLS(long double, modfl, (long double v, long double *to), (v, to), , to, sizeof *to)
+FILLS(double, remquo, (double v, double by, int *to), (v, by, to), , to, sizeof *to)
+FILLS(float, remquof, (float v, float by, int *to), (v, by, to), , to, sizeof *to)
+FILLS(long double, remquol, (long double v, long double by, int *to), (v, by, to), , to, sizeof *to)
+FILLS(double, lgamma_r, (double v, int *to), (v, to), , to, sizeof *to)
+FILLS(float, lgammaf_r, (float v, int *to), (v, to), , to, sizeof *to)
+FILLS(long double, lgammal_r, (long double v, int *to), (v, to), , to, sizeof *to)
+
+/* These three are no weak names, so that the library of numbers is linked. */
+#define SINE_AND_COSINE(name, type) \
+    extern void __real_##name(type, type *, type *); \
+    void __wrap_##name(type v, type *sine, type *cosine) { \
+        WRITES(sine, sizeof *sine), WRITES(cosine, sizeof *cosine); \
+        __real_##name(v, sine, cosine); \
+    }
+SINE_AND_COSINE(sincos, double)
+SINE_AND_COSINE(sincosf, float)
+SINE_AND_COSINE(sincosl, long double)
 
 /* ---- numbers of chance whose state is the caller's ---- */
 

@@ -99,21 +99,21 @@ DELETE(WEAK, _ZdaPvmSt11align_val_t, "_ZdaPvmSt11align_val_t", (void *block, siz
 DELETE(WEAK, _ZdlPvRKSt9nothrow_t, "_ZdlPvRKSt9nothrow_t", (void *block, const void *t), (block, t))
 DELETE(WEAK, _ZdaPvRKSt9nothrow_t, "_ZdaPvRKSt9nothrow_t", (void *block, const void *t), (block, t))
 
-/* A block that stays where it is keeps its name; one that moves is copied. Both ways are as many ticks: whether it
- * moves is the library's choice. */
+/* A block that stays where it is keeps its name; one that moves is copied. Both ways are as many ticks, and both give
+ * the block back: whether it moves is the library's choice, and the old pointer is no good either way. */
 void *realloc(void *block, size_t n) {
     size_t before = block ? malloc_usable_size(block) : 0;
     if (!IDLE && block) keep_turn();
     void *p = __libc_realloc(block, n);
-    if (p && p == block) {
-        put(RESIZED, (u64)p, n, PC);
-        pass_silently(PC), pass_silently(PC);
-        return p;
-    }
     if (block && (p || !n)) {
         if (p) put(READ, (u64)block, before < n ? before : n, PC);
         else pass_silently(PC);
         put(FREED, (u64)block, 0, PC);
+    }
+    if (p && p == block) {
+        put(RESIZED, (u64)p, n, PC);
+        pass_silently(PC);
+        return p;
     }
     got(p, n, PC);
     if (block && p) put(WRITE, (u64)p, before < n ? before : n, PC);

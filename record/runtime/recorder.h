@@ -75,6 +75,10 @@ extern void *__libc_malloc(size_t), *__libc_calloc(size_t, size_t), *__libc_real
     *__libc_memalign(size_t, size_t);
 extern void __libc_free(void *);
 
+/* Sets of signals in the C library, below the recorder's. */
+extern int __real_pthread_sigmask(int, const sigset_t *, sigset_t *), __real_sigemptyset(sigset_t *),
+    __real_sigfillset(sigset_t *), __real_sigaddset(sigset_t *, int);
+
 /* callers.c: where the program called what led here. */
 static u64 caller_in_program(u64 pc), site_of_call(u64 site);
 static u64 main_start, main_size;

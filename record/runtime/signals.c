@@ -45,7 +45,7 @@ static int is_put_off(int number, siginfo_t *info, void *context) {
     long answer = syscall(SYS_rt_tgsigqueueinfo, syscall(SYS_getpid), syscall(SYS_gettid), number, info);
     errno = error;
     if (answer) return 0;
-    sigaddset(&((ucontext_t *)context)->uc_sigmask, number);
+    __real_sigaddset(&((ucontext_t *)context)->uc_sigmask, number);
     put_off |= 1ull << (number - 1);
     return 1;
 }
@@ -85,7 +85,7 @@ static int set_handler(int number, const struct sigaction *wanted, struct sigact
     return answer;
 }
 
-int sigaction(int number, const struct sigaction *wanted, struct sigaction *before) {
+static int set_handler_inside(int number, const struct sigaction *wanted, struct sigaction *before) {
     u8 outer = inside;
     inside = 1;
     int answer = set_handler(number, wanted, before);
@@ -93,11 +93,50 @@ int sigaction(int number, const struct sigaction *wanted, struct sigaction *befo
     return answer;
 }
 
+/* A handler may call this too. */
+int sigaction(int number, const struct sigaction *wanted, struct sigaction *before) {
+    u64 pc = PC;
+    if (wanted) access_(READ, wanted, sizeof *wanted, pc);
+    int answer = set_handler_inside(number, wanted, before);
+    if (before) wrote(before, answer ? 0 : sizeof *before, pc);
+    return answer;
+}
+
 /* As signal() of the C library: a call that is interrupted goes on, and the handler stays. */
 sighandler_t signal(int number, sighandler_t handler) {
     struct sigaction wanted = {.sa_flags = SA_RESTART}, before;
     wanted.sa_handler = handler;
-    sigemptyset(&wanted.sa_mask);
-    sigaddset(&wanted.sa_mask, number);
-    return handler == SIG_ERR || sigaction(number, &wanted, &before) ? SIG_ERR : before.sa_handler;
+    __real_sigemptyset(&wanted.sa_mask);
+    __real_sigaddset(&wanted.sa_mask, number);
+    return handler == SIG_ERR || set_handler_inside(number, &wanted, &before) ? SIG_ERR : before.sa_handler;
 }
+
+/* ---- sets of signals: the C library keeps them in a word ---- */
+
+enum { SIGNAL_WORD = 8 };
+
+#define CHANGES_MASK(name) \
+    extern int __real_##name(int, const sigset_t *, sigset_t *); \
+    int __wrap_##name(int how, const sigset_t *set, sigset_t *before) { \
+        if (set) access_(READ, set, SIGNAL_WORD, PC); \
+        int answer = __real_##name(how, set, before); \
+        if (before) wrote(before, answer ? 0 : SIGNAL_WORD, PC); \
+        return answer; \
+    }
+CHANGES_MASK(sigprocmask)
+CHANGES_MASK(pthread_sigmask)
+
+#define OF_SET(name, given, passed_on, goes_over) \
+    extern int __real_##name given; \
+    int __wrap_##name given { \
+        goes_over; \
+        return __real_##name passed_on; \
+    }
+#define READS_SET access_(READ, set, SIGNAL_WORD, PC)
+#define WRITES_SET access_(WRITE, set, SIGNAL_WORD, PC)
+OF_SET(sigpending, (sigset_t * set), (set), WRITES_SET)
+OF_SET(sigemptyset, (sigset_t * set), (set), WRITES_SET)
+OF_SET(sigfillset, (sigset_t * set), (set), WRITES_SET)
+OF_SET(sigaddset, (sigset_t * set, int n), (set, n), (READS_SET, WRITES_SET))
+OF_SET(sigdelset, (sigset_t * set, int n), (set, n), (READS_SET, WRITES_SET))
+OF_SET(sigismember, (const sigset_t *set, int n), (set, n), READS_SET)

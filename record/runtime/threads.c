@@ -78,8 +78,8 @@ static void end_of_thread(void *round) {
     if (k < PTHREAD_DESTRUCTOR_ITERATIONS && pthread_setspecific(last_turn, (void *)(k + 1)) == 0) return;
     if (me < MOST_THREADS && on && !in_library[me]) take();
     sigset_t all;
-    sigfillset(&all);
-    pthread_sigmask(SIG_SETMASK, &all, NULL);
+    __real_sigfillset(&all);
+    __real_pthread_sigmask(SIG_SETMASK, &all, NULL);
     if (me < MOST_THREADS) {
         if (on && !in_library[me]) take(), leave_robust_mutexes();
         gone[me] = 1;
@@ -112,7 +112,7 @@ static void *child_body(void *p) {
         in_library[me] = 1;
         __atomic_store_n(&came[me], 1, SC);
         inside = 0;
-        pthread_sigmask(SIG_SETMASK, &c.mask, NULL);
+        __real_pthread_sigmask(SIG_SETMASK, &c.mask, NULL);
         return c.body(c.argument);
     }
     /* The maker goes on when this thread waits for its turn, so that the order of turns follows from the seed alone. */
@@ -121,7 +121,7 @@ static void *child_body(void *p) {
     wait_in_line();
     inside = 0;
     own_stack();
-    pthread_sigmask(SIG_SETMASK, &c.mask, NULL);
+    __real_pthread_sigmask(SIG_SETMASK, &c.mask, NULL);
     return c.body(c.argument);
 }
 
@@ -133,8 +133,8 @@ static int is_detached(const pthread_attr_t *attributes) {
 /* A thread that begins has no signals until it has its number and its turn. `mask` is the one that it gets then. */
 static void hold_signals(const pthread_attr_t *attributes, sigset_t *mask, sigset_t *before) {
     sigset_t all;
-    sigfillset(&all);
-    pthread_sigmask(SIG_SETMASK, &all, before);
+    __real_sigfillset(&all);
+    __real_pthread_sigmask(SIG_SETMASK, &all, before);
     if (!attributes || pthread_attr_getsigmask_np(attributes, mask)) *mask = *before;
 }
 
@@ -162,7 +162,7 @@ static int create(pthread_t *id, const pthread_attr_t *attributes, void *(*body)
     if (!answer)
         while (!__atomic_load_n(&came[number], SC)) syscall(SYS_sched_yield);
     inside = 0;
-    pthread_sigmask(SIG_SETMASK, &before, NULL);
+    __real_pthread_sigmask(SIG_SETMASK, &before, NULL);
     if (answer) {
         __libc_free(c);
         __atomic_fetch_sub(&living, 1, SC);

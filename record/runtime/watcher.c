@@ -81,11 +81,11 @@ static void watch(void) {
     if (__atomic_exchange_n(&there, 1, __ATOMIC_SEQ_CST)) return;
     pthread_t id;
     sigset_t all, before;
-    sigfillset(&all);
-    pthread_sigmask(SIG_SETMASK, &all, &before);
+    __real_sigfillset(&all);
+    __real_pthread_sigmask(SIG_SETMASK, &all, &before);
     u8 was = inside;
     inside = 1;
     if (!begin_beside(&looker_id, looker)) begin_beside(&id, watcher);
     inside = was;
-    pthread_sigmask(SIG_SETMASK, &before, NULL);
+    __real_pthread_sigmask(SIG_SETMASK, &before, NULL);
 }

@@ -7,10 +7,6 @@
         if (!real) real = (type(*) given)next(#name, NULL); \
         return OUTSIDE(real passed_on); \
     }
-WAITS(int, ppoll, (struct pollfd * f, nfds_t n, const struct timespec *t, const sigset_t *s), (f, n, t, s))
-WAITS(int, select, (int n, fd_set *r, fd_set *w, fd_set *e, struct timeval *t), (n, r, w, e, t))
-WAITS(int, pselect, (int n, fd_set *r, fd_set *w, fd_set *e, const struct timespec *t, const sigset_t *s),
-      (n, r, w, e, t, s))
 WAITS(int, nanosleep, (const struct timespec *t, struct timespec *rest), (t, rest))
 WAITS(int, clock_nanosleep, (clockid_t c, int g, const struct timespec *t, struct timespec *rest), (c, g, t, rest))
 WAITS(int, usleep, (useconds_t t), (t))
@@ -37,6 +33,61 @@ int sched_yield(void) {
 
 void thrd_yield(void) { sched_yield(); }
 
+/* ---- calls that ask for some of many descriptors: they read what they are asked for, and write what is there ---- */
+
+static void reads_polled(const struct pollfd *f, nfds_t n, u64 pc) { access_(READ, f, n * sizeof *f, pc); }
+
+static void wrote_polled(const struct pollfd *f, nfds_t n, int answer, u64 pc) {
+    for (nfds_t i = 0; i < n; i++) wrote(&f[i].revents, answer < 0 ? 0 : sizeof f[i].revents, pc);
+}
+
+int ppoll(struct pollfd *f, nfds_t n, const struct timespec *t, const sigset_t *s) {
+    REAL(ppoll, int, struct pollfd *, nfds_t, const struct timespec *, const sigset_t *);
+    u64 pc = PC;
+    reads_polled(f, n, pc);
+    int answer = OUTSIDE(real(f, n, t, s));
+    wrote_polled(f, n, answer, pc);
+    return answer;
+}
+
+/* The sets of a select, how many bytes each has for its descriptors, and the place of the call. */
+struct selected {
+    fd_set *of[3];
+    size_t size;
+    u64 pc;
+};
+
+static void reads_selected(const struct selected *all) {
+    for (int k = 0; k < 3; k++)
+        if (all->of[k]) access_(READ, all->of[k], all->size, all->pc);
+}
+
+static int wrote_selected(const struct selected *all, int answer) {
+    for (int k = 0; k < 3; k++)
+        if (all->of[k]) wrote(all->of[k], answer < 0 ? 0 : all->size, all->pc);
+    return answer;
+}
+
+#define SELECTED(n, r, w, e) \
+    (struct selected) { {r, w, e}, (n) > 0 ? ((size_t)(n) + NFDBITS - 1) / NFDBITS * sizeof(fd_mask) : 0, PC }
+
+int select(int n, fd_set *r, fd_set *w, fd_set *e, struct timeval *t) {
+    REAL(select, int, int, fd_set *, fd_set *, fd_set *, struct timeval *);
+    struct selected all = SELECTED(n, r, w, e);
+    reads_selected(&all);
+    if (t) access_(READ, t, sizeof *t, all.pc);
+    int answer = wrote_selected(&all, OUTSIDE(real(n, r, w, e, t)));
+    if (t) wrote(t, sizeof *t, all.pc);
+    return answer;
+}
+
+int pselect(int n, fd_set *r, fd_set *w, fd_set *e, const struct timespec *t, const sigset_t *s) {
+    REAL(pselect, int, int, fd_set *, fd_set *, fd_set *, const struct timespec *, const sigset_t *);
+    struct selected all = SELECTED(n, r, w, e);
+    reads_selected(&all);
+    return wrote_selected(&all, OUTSIDE(real(n, r, w, e, t, s)));
+}
+
 /* The first eight descriptors of a poll, a byte each. */
 static u64 mask_of(const struct pollfd *f, nfds_t n) {
     u64 mask = 0;
@@ -60,9 +111,11 @@ static int poll_again(int (*real)(struct pollfd *, nfds_t, int), struct pollfd *
 int poll(struct pollfd *f, nfds_t n, int t) {
     REAL(poll, int, struct pollfd *, nfds_t, int);
     if (IDLE) return real(f, n, t);
+    reads_polled(f, n, PC);
     struct tick_entry *e = world_expected(ANSWER, PC);
     int answer = e && n <= 8 ? poll_again(real, f, n, e) : OUTSIDE(real(f, n, t)), error = errno;
     put_answer(ANSWER, answer < 0 ? (u64)error : mask_of(f, n), (u64)answer, PC);
+    wrote_polled(f, n, answer, PC);
     errno = error;
     return answer;
 }
@@ -89,6 +142,7 @@ int epoll_ctl(int f, int what, int of, struct epoll_event *e) {
 
 static int polled(int f, const struct epoll_event *all, int n, u64 pc) {
     int error = errno;
+    wrote(all, n > 0 ? (u64)n * sizeof *all : 0, pc);
     for (int i = 0; i < n; i++) meet(WENT_ON, OF_CHANNEL, watched(f, &all[i]), 1, pc);
     errno = error;
     return n;
