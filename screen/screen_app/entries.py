@@ -40,14 +40,15 @@ def schedule_of(part: list[str]) -> str:
 def told_batch(entry: Entry, trace: Trace) -> Told:
     parts = entry.parts()
     words = {part[0] for part in parts}
+    is_of_one = len(set(map(schedule_of, parts))) == 1
     told: Told = {"n": len(parts), "name": schedule_of(parts[0])}
-    if words == {"add"} and len({part[1] for part in parts}) == 1:
+    if words == {"add"} and is_of_one:
         events = [int(part[2]) for part in parts]
         told["run"] = [events[0], events[-1]]
         told["threads"] = list(dict.fromkeys(trace.thread[event] for event in events))
     elif [part[0] for part in parts] == ["new", "adopt"]:
         told["took"] = int(parts[1][2])
-    elif words == {"swap"}:
+    elif words == {"swap"} and is_of_one:
         told["swaps"] = True
     return told
 

@@ -97,10 +97,13 @@ export async function undoLatest() {
   return act("undo", isLatest ? { entries: made.slice(0, UNDONE) } : {});
 }
 
+const tookBack = (undone) => `took back ${many(undone, "entry", "entries")}`;
+
 function outcome(what, told, given) {
   if (told.changed) return changed(told.changed);
   if (told.rests) return rests(told.rests.entry, told.undone);
-  if (told.undone > 1 && !isRefused(told)) return `took back ${many(told.undone, "entry", "entries")}`;
+  if (told.undone && isRefused(told)) return [`${tookBack(told.undone)}; `, bad(said(told.answer))];
+  if (told.undone > 1) return tookBack(told.undone);
   if (told.why) return refused(told, given.event);
   if (what === "run") return ran(told);
   if (what === "swap") return moved(told);
@@ -110,7 +113,7 @@ function outcome(what, told, given) {
 // Of a group some may be taken back.
 function rests(entry, undone) {
   feed.jump(entry.i);
-  return [undone ? `took back ${many(undone, "entry", "entries")}; ` : null, bad("not taken back: "), "entry ",
+  return [undone ? `${tookBack(undone)}; ` : null, bad("not taken back: "), "entry ",
     feed.link(entry.i), " of ", who(entry.c), " rests on it ", el("span", "dim", `(${entry.w.slice(0, 80)})`)];
 }
 

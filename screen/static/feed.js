@@ -3,7 +3,7 @@ import { $, el, fill, button, linked, count, many } from "./make.js";
 import { ask } from "./net.js";
 import { part } from "./morph.js";
 import { later } from "./queue.js";
-import { state, tag, who, short } from "./words.js";
+import { state, tag, who, short, clientName } from "./words.js";
 import { reveal } from "./frame.js";
 import * as schedules from "./schedules.js";
 
@@ -179,7 +179,7 @@ function groupLine(group) {
   const [first, last] = [group.entries[0].i, group.entries.at(-1).i];
   const isFlashed = flashed !== null && first <= flashed && flashed <= last;
   const isFresh = first >= state.marked && group.c !== state.client;
-  const sign = [last, group.dead && group.entries.map((entry) => entry.u), isFlashed, isFresh, state.names[group.c]];
+  const sign = [last, group.dead && group.entries.map((entry) => entry.u), isFlashed, isFresh, clientName(group.c)];
   return part(`entry-${first}`, JSON.stringify(sign), () => drawn(group, first, last, isFlashed, isFresh));
 }
 

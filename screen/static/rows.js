@@ -98,7 +98,7 @@ export function rows(win, cursor) {
     const [isOn, isFirst] = [row.p === cursor, before !== row.t];
     const classes = isOn ? " on" : "";
     before = row.t;
-    const about = [row, isOn, isFirst, isNew(row), state.names[row.by], win.source?.[row.l]];
+    const about = [row, isOn, isFirst, isNew(row), clientName(row.by), win.source?.[row.l]];
     const sign = JSON.stringify(about) + base;
     return part(`at-${row.p}`, sign, () => finish(
       row.b ? block(row, classes) : single(row, win.source, isFirst, classes), row, isOn));

@@ -1,6 +1,6 @@
 // What is looked at: a schedule, a witness, or why a pair has none; and the aim, which is the race that is open.
 import { $, el, fill, button, many } from "./make.js";
-import { ask } from "./net.js";
+import { ask, isOpen } from "./net.js";
 import { state, who, short, isDone, isRefused } from "./words.js";
 import { act, actOn, awaited, bad, say as tell } from "./act.js";
 import { asked } from "./dialogs.js";
@@ -59,8 +59,15 @@ addEventListener("popstate", (event) => {
 const rememberView = (view) =>
   remember(view.schedule ? { schedule: view.schedule, aim: state.aim } : { pair: view.witness });
 
+// Without a connection nothing else can be fetched, so what is shown stays.
+function isLost() {
+  if (!isOpen()) tell(bad("not connected"));
+  return !isOpen();
+}
+
 // A schedule that is opened as it was before has the aim that it had, or none.
 export async function open(view, { end = true, isAsItWas = false, isSame = false } = {}) {
+  if (isLost()) return;
   looks++;
   none = sought = null;
   state.view = view;
@@ -137,6 +144,7 @@ export async function clearAim() {
 
 // A race of the list: its witness, or the explanation why it has none.
 export async function openPair(pair) {
+  if (isLost()) return;
   const mine = ++looks;
   await aimAt(pair);
   if (mine === looks) await look(pair, mine);
@@ -147,13 +155,13 @@ async function look(pair, mine) {
   reveal("centre");
   bar();
   const told = await ask("witness", { pair });
-  if (mine !== looks) return;
+  if (mine !== looks || told.lost) return;
   if (!told.none && !told.mistake && !told.gone) {
     await open({ witness: told.pair, pair: told });
     return;
   }
   const text = await ask("explain", { pair });
-  if (mine !== looks) return;
+  if (mine !== looks || text.lost) return;
   close();
   remember({ pair });
   none = told.none ?? told.mistake ?? told.gone;

@@ -42,7 +42,20 @@ function cut(text, most) {
 
 export const threadName = (thread) => state.threads[thread]?.[0] ?? String(thread);
 export const threadShort = (thread) => cut(threadName(thread), THREAD);
-export const clientName = (client) => (client === state.client ? "you" : state.names[client] ?? String(client));
+
+// Whether a name alone does not say whose it is: it is long, so it may be cut, or another client has it too, or it
+// looks like what the page itself says.
+const isUnclear = (name) => [...name].length > END || /^(\d+|you)$/.test(name) ||
+  Object.values(state.names).filter((other) => other === name).length > 1;
+
+// The name of a client, and before it the number if the name is unclear.
+function called(client) {
+  if (client === state.client) return [null, "you"];
+  const name = state.names[client] ?? String(client);
+  return [client in state.names && isUnclear(name) ? String(client) : null, name];
+}
+export const clientName = (client) => called(client).filter(Boolean).join(" ");
+
 export function tag(thread) {
   const made = nameOf(threadShort(thread), `thread ${hue(thread)}`);
   made.title = threadName(thread);
@@ -50,7 +63,9 @@ export function tag(thread) {
 }
 
 export function who(client) {
-  const made = named(`who${client === state.client ? " me" : ""}`, clientName(client));
+  const [number, name] = called(client);
+  const made = el("span", `who${client === state.client ? " me" : ""}`,
+    number ? [el("span", "", number), " "] : null, named("whole", name));
   made.title = ["client", client, state.names[client]].filter(Boolean).join(" ");
   return made;
 }

@@ -126,6 +126,30 @@ async def test_own_steps_are_no_others(program):
         same(told, {"answer": NOT_SENT, "made": [], "moved": 0, **changed(10)})
 
 
+async def test_own_steps_that_were_shown(program):
+    """They are in what the page showed, so they do not count again."""
+    async with Alone(program) as alone:
+        shown = alone.shown([1, 4])
+        await alone.other("swap A 0")
+        told = await steps.move(shown, 2, 1)
+        same((told, alone.events()), ({"answer": "6: done", "made": [6], "moved": 1}, [1, 0, 3, 2]))
+
+
+async def test_what_another_does_after_the_step(program):
+    """It is no matter of the step, even if the schedule of that name is another one by now."""
+    async with Alone(program) as alone:
+        ask = alone.bench.session.ask
+
+        async def among(*lines):
+            await alone.other("swap A 0")
+            answers = await ask(*lines)
+            await alone.other("drop A", "new A", "add A 5")
+            return answers
+
+        alone.bench.session.ask = among
+        same((await steps.back(alone.shown()), alone.events()), ({"answer": "6: done", "made": [6]}, [5]))
+
+
 async def test_a_step_that_does_not_say_what_it_saw(program):
     """It is for the schedule as it is when the step is asked for."""
     async with Alone(program) as alone:
@@ -167,6 +191,16 @@ async def test_a_refusal_that_is_about_other_events(program):
     async with Alone(between(program, swap_A_1="swap A 2"), calls, text) as alone:
         told = await steps.move(alone.shown(), 1, 1)
         same(told, {"answer": NOT_SENT, "made": [], "moved": 0, **changed(5)})
+
+
+async def test_what_is_told_of_a_batch(program):
+    """What it does to one schedule is a run or a move. What it does to two is neither."""
+    swaps = "batch swap A 0 ; swap B 0", "batch swap A 0 ; swap A 1"
+    calls = "new A", "new B", "batch add A 0 ; add B 0", "batch add A 1 ; add A 2", "batch add B 1 ; add B 2", *swaps
+    async with Alone(program, calls) as alone:
+        told = alone.bench.mirror.told(2, 5)
+        same([(one.get("run"), one.get("swaps")) for one in told],
+             [(None, None), ([1, 2], None), ([1, 2], None), (None, None), (None, True)])
 
 
 # A trace in which T1 may not move over its own events, and T2 may.
@@ -223,6 +257,16 @@ async def test_how_far_a_run_goes(program):
         same((told["undone"], told["made"], told["rests"]["entry"]["i"], told["rests"]["name"]), (0, [], 2, "A"))
         told = await steps.undo(alone.bench, [])
         same((told["answer"], told["undone"], told["made"]), ("6: undone 2", 1, [6]))
+        told = await steps.undo(alone.bench, [1, 0])  # of several answers the last is told
+        same(told, {"answer": "8: undone 0", "undone": 2, "made": [7, 8]})
+
+
+async def test_a_missed_write_that_is_there(program):
+    """Another write came after it. No run of one thread helps, so none is told."""
+    calls = ("new A", "add A 0", "add A 2")
+    async with Alone(program, calls, "T0|w(x)|a:0\nT2|r(x)|c:0\nT1|w(x)|b:0\n") as alone:
+        why = (await steps.add(alone.bench, "A", 1))["why"]
+        same((why["about"]["e"], why["has"]["e"], "help" in why, "steps" in why), (0, 2, False, False))
 
 
 async def test_a_run_while_another_drops_the_schedule(program):
@@ -232,6 +276,15 @@ async def test_a_run_while_another_drops_the_schedule(program):
         told = await steps.Run(alone.bench, "A").to(1, None)
         same(told, {"added": 0, "entries": [], "answer": "refused 70 at 0 42 no such schedule"})
         same(logged(), ["1 new A", "2 drop A"])
+
+
+async def test_a_move_while_another_drops_the_schedule(program):
+    """The part of it that may be made is refused too, and that is told."""
+    calls = ("new A", "add A 0", "add A 1", "add A 2", "add A 4", "add A 3")
+    async with Alone(between(program, swap_A_3="drop A"), calls, ORDERED) as alone:
+        told = await steps.move(alone.shown(n=6), 4, -3)
+        same(told, {"moved": 0, "made": [], "answer": "refused 42 no such schedule"})
+        same(logged()[6:], ["2 drop A"])
 
 
 async def test_a_witness_that_is_entered(program):
@@ -244,3 +297,6 @@ async def test_a_witness_that_is_entered(program):
         same((told["answer"].startswith("refused "), len(logged())), (True, 3))
         told = await steps.enter(alone.bench, "D", alone.bench.trace.events_of[0], None)
         same(told, {"answer": "4: done", "entries": [3, 4]})
+        twice = alone.bench.trace.events_of[0] * 2  # no schedule has an event twice
+        told = await steps.enter(alone.bench, "E", twice, None)
+        same((told["answer"].startswith("refused 70 at 1 "), told["entries"]), (True, [5]))

@@ -509,6 +509,19 @@ async def test_proposals_of_a_long_log(program):
         is_clean(page, screen)
 
 
+async def test_proposals_while_another_does_much(program):
+    """More comes at once than the page is told: what is proposed stays listed."""
+    traces.write("trace", traces.COUNT)
+    await session(program, 2, "new A\npropose 7 12 0 2 3 4 5 6 1 8 9 10 11\n")
+    async with Screen(program, "trace", "log") as screen, Browser() as browser:
+        page = await browser.page(screen.link)
+        await page.until(f"{PROPOSALS} === 'p0'")
+        await session(program, 2, "add A 0\nback A\n" * 4000)
+        await page.until("document.getElementById('feed-count').textContent === '8,002'")
+        same(await page.run(PROPOSALS), "p0")
+        is_clean(page, screen)
+
+
 # What the server tells of a log that grows to so many entries while it is looked at.
 GROWS = """import("/feed.js").then((feed) => {
   for (let n = 300; n <= 9000; n += 300) {

@@ -306,7 +306,7 @@ async def test_names_of_clients(program):
         await other.until("document.querySelector('.sched .who')?.textContent === 'Ada'")
         same(await other.run("document.getElementById('live').textContent"), "● client 2, \\u{202e}Grace <b>")
         traces.write("log.names", "1 Ada Lovelace\n")
-        await other.until("document.querySelector('.sched .who')?.textContent === 'Ada Lovelace'")
+        await other.until("document.querySelector('.sched .who')?.textContent === '1 Ada Lovelace'")
         is_clean(page, one)
         is_clean(other, two)
 
@@ -378,7 +378,7 @@ async def test_names_from_right_to_left_and_blanks(program):
         await session(program, 2, "add A 0\nadd A 2\n")
         await session(program, 3, "add A 1\nadd A 3\n")
         await page.until(f"{ROWS} === 4")
-        where = "#at-0 .name", ".race .variable", "#feed .entry .who"
+        where = "#at-0 .name", ".race .variable", "#feed .entry .who .whole"
         for selector in where:
             await page.until(f"({LEFTWARD})({json.dumps(selector)}) === 'true,true'", what=selector)
         await page.until(f"{MERGED} === ''", what=f"blanks as they are: {await page.run(MERGED)}")

@@ -352,6 +352,44 @@ async def test_long_names_of_clients(program):
         is_clean(page, screen)
 
 
+# Of each client's mark in the news: its text, and whether all of its number and some of its name are in sight.
+MARKS = """[...document.querySelectorAll('.away-line .who')].map((mark) => {
+  const [box, first] = [mark, mark.firstChild].map((one) => one.getBoundingClientRect());
+  const name = mark.lastChild;
+  const isSeen = first.right <= box.right && name.offsetWidth >= Math.min(name.scrollWidth, 30);
+  return `${mark.textContent} ${isSeen}`;
+}).join()"""
+
+
+async def test_clients_whose_names_look_alike(program):
+    """Before a name that may be cut stands its number, and before one that another client has too."""
+    traces.write("trace", traces.COUNT)
+    long = "Engineer Alexandra Sm"
+    names = {2: f"{long}ith", 3: f"{long}ythe", 4: "Sam", 5: "Sam", 6: "4", 7: "you", 8: "Catherine"}
+    traces.write("log.names", "".join(f"{client} {name}\n" for client, name in names.items()))
+    async with Screen(program, "trace", "log", "--client", "9") as screen, Browser() as browser:
+        page = await browser.page(screen.link)
+        await new(page, 3)
+        for clients, told in (
+            ((5, 4, 3, 2), f"2 {long}ith true,3 {long}ythe true,4 Sam true,5 Sam true"),
+            ((10, 8, 7, 6), "6 4 true,7 you true,Catherine true,10 true"),
+        ):
+            for client in clients:
+                await session(program, client, f"new S{client}\n")
+            for width in (1440, 1000, 768, 360):
+                await page.size(width, 900)
+                if width < 980:
+                    await page.click("#tabs button", 2)
+                await page.until(f"innerWidth === {width} && {MARKS} === {told!r}")
+            await page.key("s")
+        titles = "document.querySelector('#schedule-S4').title"
+        same(await page.run(titles), "S4: 0 events, made by 4 Sam in entry 2, last changed by 4 Sam in entry 2")
+        traces.write("log.names", "4 Sam\n5 Samantha\n")  # now the name says whose it is
+        await page.until("document.querySelector('#schedule-S4 .who').textContent === 'Sam'")
+        await page.until("document.querySelector('#entry-2 .who').textContent === 'Sam'")
+        is_clean(page, screen)
+
+
 # What is in sight when the page is scrolled to its end: the foot of the schedule, and the next events in a list of
 # more than one line.
 FOOT = """(() => { scrollTo(0, 1e9);

@@ -32,7 +32,7 @@ def modules():
         print("chromium is not here: what needs a browser is not tested (apt-get install chromium)")
         return
     yield from ("framed", "table", "look", "live", "hands", "corners", "narrow", "sight", "busy", "questions", "back")
-    yield from ("guards", "said", "reached", "chance", "meanwhile", "noticed", "anew")
+    yield from ("guards", "said", "reached", "chance", "meanwhile", "noticed", "anew", "missed")
     yield from ("tired", "big")
 
 
