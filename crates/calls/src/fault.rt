@@ -1,8 +1,9 @@
 //! Why a command of the program stopped, the text of that fault, and how faults of other crates become this one.
-ghost use Rattle.std.specs.Prelude.{◌≡◌, ◌++◌, OnOk, OnErr};
+ghost use Rattle.std.specs.Prelude.{◌≡◌, OnErr};
 ghost use Rattle.client_scripts.specs.Messages.{words_in};
 ghost use Rattle.calls.specs.BenchFaultTexts.{bench_fault_words, script_refusal_words, words_in_script};
 ghost use Rattle.calls.specs.ScriptInputs.{refused_as};
+ghost use Rattle.rapid_text.specs.Appended.{Appended};
 
 use client_scripts::{ReplayFault, ScriptCause, ScriptRefusal, fault_text, script_words};
 use rapid_text::OutOfMemory;
@@ -132,7 +133,7 @@ fn append_in_script(
     line: u64,
     words: Option<&'static str>,
 ) -> Result<(), OutOfMemory>
-    ensures ok { OnOk result (out.new.items ≡ out.old.items ++ words_in_script place line (words_in words.entry)) }
+    ensures ok { Appended result out.old out.new (words_in_script place line (words_in words.entry)) }
     ensures err { OnErr result (out.new.items ≡ out.old.items) }
 {
     match words {
@@ -153,7 +154,7 @@ fn append_in_script(
 
 /// Appends the text of a refused script, which names the script and the line.
 fn append_refusal(out: &mut Vec<u8>, place: u32, refusal: &ScriptRefusal) -> Result<(), OutOfMemory>
-    ensures ok { OnOk result (out.new.items ≡ out.old.items ++ script_refusal_words place refusal.now) }
+    ensures ok { Appended result out.old out.new (script_refusal_words place refusal.now) }
     ensures err { OnErr result (out.new.items ≡ out.old.items) }
 {
     append_in_script(out, place, refusal.line, script_words(refusal.why))
@@ -161,7 +162,7 @@ fn append_refusal(out: &mut Vec<u8>, place: u32, refusal: &ScriptRefusal) -> Res
 
 /// Appends the text of a fault, without a line end. If memory runs out, `out` stays as it was.
 pub fn bench_fault_text(fault: &BenchFault, out: &mut Vec<u8>) -> Result<(), OutOfMemory>
-    ensures ok { OnOk result (out.new.items ≡ out.old.items ++ bench_fault_words fault.now) }
+    ensures ok { Appended result out.old out.new (bench_fault_words fault.now) }
     ensures err { OnErr result (out.new.items ≡ out.old.items) }
 {
     match fault {

@@ -2,6 +2,7 @@
 ghost use Rattle.std.specs.Prelude.{◌≡◌, ◌≤◌, ◌<◌, ◌+◌, ◌-◌, ◌++◌, ℕ, suc, List, [], length, map, replicate, slice_get, slice_set, All, vec_len, IfOk, IfErr, IsOk, OnOk, Option, Some, None};
 ghost use Rattle.std.specs.Arc.{arc_value};
 ghost use Rattle.inverse_log.specs.Log.{Benched};
+ghost use Rattle.rapid_text.specs.Appended.{Appended};
 ghost use Rattle.workspace_lock.specs.Seating.{Site, SeatView, Closes, Opened, fresh_rows};
 ghost use Rattle.report.specs.Log.{log_text};
 ghost use Rattle.client_scripts.specs.declared.fault.ReplayFault.TheVariants.{OutOfMemory as NoMemory};
@@ -166,7 +167,7 @@ fn append_log(seats: Seats, out: &mut Vec<u8>) -> Result<(), OutOfMemory>
 
 /// Appends the log of a bench, and drops the bench.
 fn append_log_of(bench: Bench, out: &mut Vec<u8>) -> Result<(), OutOfMemory>
-    ensures { OnOk result (out.new.items ≡ out.old.items ++ log_text bench.log) }
+    ensures { Appended result out.old out.new (log_text bench.log) }
 {
     let outcome = report::log(&bench, out);
     drop(bench);

@@ -1,7 +1,8 @@
 //! Prints faults.
-ghost use Rattle.std.specs.Prelude.{◌≡◌, ◌++◌, IfOk, OnOk, OnErr};
+ghost use Rattle.std.specs.Prelude.{◌≡◌, OnErr};
 ghost use Rattle.client_scripts.specs.FaultTexts.{fault_words, located_words, text_cause_words, rule_cause_words, script_cause_words};
 ghost use Rattle.client_scripts.specs.Messages.{message_bytes, words_in};
+ghost use Rattle.rapid_text.specs.Appended.{Appended};
 
 use crate::fault::{ReadCause, ReplayFault};
 use rapid_text::{OutOfMemory, TextCause};
@@ -112,7 +113,7 @@ pub(crate) fn message_of(fault: &ReplayFault) -> Message
 
 /// Appends a message. If memory runs out, `out` stays as it was.
 fn append_message(out: &mut Vec<u8>, message: Message) -> Result<(), OutOfMemory>
-    ensures ok { OnOk result (out.new.items ≡ out.old.items ++ message_bytes message) }
+    ensures ok { Appended result out.old out.new (message_bytes message) }
     ensures err { OnErr result (out.new.items ≡ out.old.items) }
 {
     match message {
@@ -132,7 +133,7 @@ fn append_message(out: &mut Vec<u8>, message: Message) -> Result<(), OutOfMemory
 
 /// Appends the text of a fault, without a line feed. If memory runs out, `out` stays as it was.
 pub fn fault_text(fault: &ReplayFault, out: &mut Vec<u8>) -> Result<(), OutOfMemory>
-    ensures ok { OnOk result (out.new.items ≡ out.old.items ++ fault_words fault.now) }
+    ensures ok { Appended result out.old out.new (fault_words fault.now) }
     ensures err { OnErr result (out.new.items ≡ out.old.items) }
 {
     append_message(out, message_of(fault))

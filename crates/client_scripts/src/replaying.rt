@@ -1,5 +1,5 @@
 //! Replays a script on a trace: reads both, makes the script's calls, and writes a line for each answer.
-ghost use Rattle.std.specs.Prelude.{◌≡◌, ◌≢◌, ◌⊎◌, ◌++◌, ◌<◌, ◌≤◌, ℕ, List, [], length, true, false, is_err, is_ok, IfErr, IfOk, IfSome, OnOk, OnErr, Ok, Err};
+ghost use Rattle.std.specs.Prelude.{◌≡◌, ◌≢◌, ◌⊎◌, ◌<◌, ◌≤◌, ℕ, List, [], length, true, false, is_err, is_ok, IfErr, IfOk, IfSome, OnOk, OnErr, Ok, Err};
 ghost use Rattle.std.specs.Io.KnownBytes.{Appends};
 ghost use Rattle.inverse_log.specs.Answer.{answer_of, log_after};
 ghost use Rattle.client_scripts.specs.Replay.{AppendsPart, IsReplay, IsShort, answer_text, of_joint, of_two};
@@ -8,6 +8,7 @@ ghost use Rattle.client_scripts.specs.Traces.{trace_of};
 ghost use Rattle.client_scripts.specs.declared.fault.ReadCause.{ReadCause};
 ghost use Rattle.client_scripts.specs.declared.fault.ReadCause.TheVariants.{Device};
 ghost use Rattle.client_scripts.specs.declared.fault.ReplayFault.TheVariants.{Write, Read};
+ghost use Rattle.rapid_text.specs.Appended.{Appended};
 ghost use Rattle.script_language.specs.Scripts.{IsScript};
 ghost use Rattle.dependence.specs.Limits.{client_limit};
 
@@ -37,8 +38,7 @@ fn make_plain(
     requires low { 1 ≤ client }
     requires high { client ≤ client_limit }
     ensures trace { bench.new.trace ≡ bench.old.trace }
-    ensures text { OnOk result
-        (out.new.items ≡ out.old.items ++ answer_text bench.old.trace (answer_of bench.old.trace bench.old.log client call.now)) }
+    ensures text { Appended result out.old out.new (answer_text bench.old.trace (answer_of bench.old.trace bench.old.log client call.now)) }
     ensures accepted { IfOk result (λ accepted. accepted ≡ is_ok (answer_of bench.old.trace bench.old.log client call.now)) }
     ensures log { OnOk result (bench.new.log ≡ log_after bench.old.trace bench.old.log client call.now) }
 {
@@ -64,8 +64,7 @@ fn tell_answer(
     requires low { 1 ≤ client }
     requires high { client ≤ client_limit }
     ensures trace { bench.new.trace ≡ bench.old.trace }
-    ensures text { OnOk result
-        (out.new.items ≡ out.old.items ++ answer_text bench.old.trace (answer_of bench.old.trace bench.old.log client call.now)) }
+    ensures text { Appended result out.old out.new (answer_text bench.old.trace (answer_of bench.old.trace bench.old.log client call.now)) }
     ensures accepted { IfOk result (λ accepted. accepted ≡ is_ok (answer_of bench.old.trace bench.old.log client call.now)) }
     ensures log { OnOk result (bench.new.log ≡ log_after bench.old.trace bench.old.log client call.now) }
 {

@@ -1,6 +1,7 @@
 //! Makes the calls of a script through a seat of a shared bench.
-ghost use Rattle.std.specs.Prelude.{◌≡◌, ◌++◌, OnOk, OnErr};
+ghost use Rattle.std.specs.Prelude.{◌≡◌, OnOk, OnErr};
 ghost use Rattle.client_scripts.specs.Seats.{RunsScript, StopsInScript, seat_text};
+ghost use Rattle.rapid_text.specs.Appended.{Appended};
 
 use event_index::Indexed;
 use inverse_log::Reply;
@@ -15,7 +16,7 @@ fn append_answer(
     answer: &Result<Reply, SeatRefusal>,
     out: &mut Vec<u8>,
 ) -> Result<(), OutOfMemory>
-    ensures ok { OnOk result (out.new.items ≡ out.old.items ++ seat_text indexed.now answer.now) }
+    ensures ok { Appended result out.old out.new (seat_text indexed.now answer.now) }
     ensures err { OnErr result (out.new.items ≡ out.old.items) }
 {
     match answer {

@@ -1,5 +1,6 @@
 //! An access: its line of the trace, and the locks that its thread holds before it.
-ghost use Rattle.std.specs.Prelude.{◌≡◌, ◌<◌, ◌++◌, length, slice_index_or, [], OnOk, codes};
+ghost use Rattle.std.specs.Prelude.{◌<◌, length, slice_index_or, [], codes};
+ghost use Rattle.rapid_text.specs.Appended.{Appended};
 ghost use Rattle.rapid_text.specs.Canonical.{name_at};
 ghost use Rattle.explain_report.specs.Accesses.{access_text, held_locks, lock_line, lock_lines, numbered_access, pair_text};
 
@@ -16,7 +17,7 @@ pub(crate) fn append_pair(
     first: u32,
     second: u32,
 ) -> Result<(), OutOfMemory>
-    ensures { OnOk result (out.new.items ≡ out.old.items ++ pair_text analysis.now first second) }
+    ensures { Appended result out.old out.new (pair_text analysis.now first second) }
 {
     append_numbered_access(out, analysis, first)?;
     append_numbered_access(out, analysis, second)?;
@@ -30,7 +31,7 @@ fn append_numbered_access(
     analysis: &Analysis<'_>,
     event: u32,
 ) -> Result<(), OutOfMemory>
-    ensures { OnOk result (out.new.items ≡ out.old.items ++ numbered_access analysis.now event) }
+    ensures { Appended result out.old out.new (numbered_access analysis.now event) }
 {
     if event >= analysis.indexed().len() {
         return Ok(());
@@ -43,7 +44,7 @@ fn append_numbered_access(
 /// Appends two blanks and the canonical line of the event, and a line for each lock that its thread holds before it.
 fn append_access(out: &mut Vec<u8>, analysis: &Analysis<'_>, event: u32) -> Result<(), OutOfMemory>
     requires event { event < length analysis.now.events }
-    ensures { OnOk result (out.new.items ≡ out.old.items ++ access_text analysis.now event) }
+    ensures { Appended result out.old out.new (access_text analysis.now event) }
 {
     append_words(out, b"  ")?;
     append_event(out, analysis.indexed(), event)?;
@@ -54,7 +55,7 @@ fn append_access(out: &mut Vec<u8>, analysis: &Analysis<'_>, event: u32) -> Resu
 /// Appends a line for each lock that the event's thread holds before it.
 fn append_held(out: &mut Vec<u8>, analysis: &Analysis<'_>, event: u32) -> Result<(), OutOfMemory>
     requires event { event < length analysis.now.events }
-    ensures { OnOk result (out.new.items ≡ out.old.items ++ lock_lines analysis.now (held_locks analysis.now event)) }
+    ensures { Appended result out.old out.new (lock_lines analysis.now (held_locks analysis.now event)) }
 {
     let locks = analysis.locks_held(*out.allocator(), event)?;
     append_locks(out, analysis.indexed(), locks.as_slice())?;
@@ -63,7 +64,7 @@ fn append_held(out: &mut Vec<u8>, analysis: &Analysis<'_>, event: u32) -> Result
 
 /// Appends a line for each of the locks.
 fn append_locks(out: &mut Vec<u8>, indexed: &Indexed, locks: &[u32]) -> Result<(), OutOfMemory>
-    ensures { OnOk result (out.new.items ≡ out.old.items ++ lock_lines indexed.now locks.now) }
+    ensures { Appended result out.old out.new (lock_lines indexed.now locks.now) }
 {
     for lock in locks {
         append_lock_line(out, indexed, *lock)?;
@@ -73,7 +74,7 @@ fn append_locks(out: &mut Vec<u8>, indexed: &Indexed, locks: &[u32]) -> Result<(
 
 /// Appends the line of a lock.
 fn append_lock_line(out: &mut Vec<u8>, indexed: &Indexed, lock: u32) -> Result<(), OutOfMemory>
-    ensures { OnOk result (out.new.items ≡ out.old.items ++ lock_line indexed.now lock) }
+    ensures { Appended result out.old out.new (lock_line indexed.now lock) }
 {
     append_words(out, b"    holds ")?;
     append_lock(out, indexed, lock)?;

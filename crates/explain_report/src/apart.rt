@@ -4,6 +4,7 @@ ghost use Rattle.explain_report.specs.Chains.{line_at};
 ghost use Rattle.explain_report.specs.Sections.{IsSectionTold, section_text, until_text};
 ghost use Rattle.explain_report.specs.Told.{IsForcedTold, IsGuardedTold, IsUndecidedTold};
 ghost use Rattle.explain_report.specs.Verdicts.{forced_head, guarded_head, undecided_head};
+ghost use Rattle.rapid_text.specs.Appended.{Appended};
 
 use crate::accesses::append_pair;
 use crate::chains::append_chains;
@@ -20,7 +21,7 @@ pub(crate) fn append_forced_head(
     first: u32,
     second: u32,
 ) -> Result<(), OutOfMemory>
-    ensures { OnOk result (out.new.items ≡ out.old.items ++ forced_head first second) }
+    ensures { Appended result out.old out.new (forced_head first second) }
 {
     append_words(out, b"apart: ")?;
     append_number(out, u64::from(first))?;
@@ -52,7 +53,7 @@ pub(crate) fn append_guarded_head(
     indexed: &Indexed,
     lock: u32,
 ) -> Result<(), OutOfMemory>
-    ensures { OnOk result (out.new.items ≡ out.old.items ++ guarded_head indexed.now lock) }
+    ensures { Appended result out.old out.new (guarded_head indexed.now lock) }
 {
     append_words(out, b"apart: both threads hold ")?;
     append_lock(out, indexed, lock)?;
@@ -106,7 +107,7 @@ fn append_held(
     acquire: u32,
 ) -> Result<(), OutOfMemory>
     requires { acquire < length indexed.now.events }
-    ensures { OnOk result (out.new.items ≡ out.old.items ++ section_text indexed.now event acquire) }
+    ensures { Appended result out.old out.new (section_text indexed.now event acquire) }
 {
     append_thread_of(out, indexed, event)?;
     append_words(out, b" holds it from ")?;
@@ -121,7 +122,7 @@ fn append_until(
     indexed: &Indexed,
     release: Option<u32>,
 ) -> Result<(), OutOfMemory>
-    ensures { OnOk result (out.new.items ≡ out.old.items ++ until_text indexed.now release) }
+    ensures { Appended result out.old out.new (until_text indexed.now release) }
 {
     match release {
         Some(event) => append_release(out, indexed, event),
@@ -130,7 +131,7 @@ fn append_until(
 }
 
 fn append_release(out: &mut Vec<u8>, indexed: &Indexed, event: u32) -> Result<(), OutOfMemory>
-    ensures { OnOk result (out.new.items ≡ out.old.items ++ (codes "  to " ++ line_at indexed.now event)) }
+    ensures { Appended result out.old out.new (codes "  to " ++ line_at indexed.now event) }
 {
     append_words(out, b"  to ")?;
     append_line(out, indexed, event)?;
@@ -139,7 +140,7 @@ fn append_release(out: &mut Vec<u8>, indexed: &Indexed, event: u32) -> Result<()
 
 /// Appends the line with which an undecided pair begins.
 pub(crate) fn append_undecided_head(out: &mut Vec<u8>) -> Result<(), OutOfMemory>
-    ensures { OnOk result (out.new.items ≡ out.old.items ++ undecided_head) }
+    ensures { Appended result out.old out.new undecided_head }
 {
     append_words(
         out,

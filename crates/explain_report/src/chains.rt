@@ -3,6 +3,7 @@ ghost use Rattle.std.specs.Prelude.{◌≡◌, ◌++◌, ◌∷◌, List, ℕ, B
 ghost use Rattle.explain_report.specs.Chains.{AreTold, GoesOn, cause_text, chain_text, holding, is_later, later_text, lock_name, reason_text, step_text, steps_text};
 ghost use Rattle.must_order.specs.declared.chains.Reason.TheVariants.{Written};
 ghost use Rattle.must_order.specs.declared.chains.Step.{Step as StepValue};
+ghost use Rattle.rapid_text.specs.Appended.{Appended};
 
 use crate::event_lines::{append_line, append_lock_of, append_thread_of, op_of};
 use crate::pieces::{append_indent, append_number, append_words};
@@ -133,7 +134,7 @@ fn append_holding(
     depth: u32,
     takes: bool,
 ) -> Result<(), OutOfMemory>
-    ensures { OnOk result (out.new.items ≡ out.old.items ++ cause_text indexed.now depth chain.now (holding takes)) }
+    ensures { Appended result out.old out.new (cause_text indexed.now depth chain.now (holding takes)) }
 {
     append_indent(out, depth)?;
     append_words(out, b"for ")?;
@@ -159,7 +160,7 @@ fn append_chain(
     chain: &Chain,
     depth: u32,
 ) -> Result<(), OutOfMemory>
-    ensures { OnOk result (out.new.items ≡ out.old.items ++ chain_text analysis.now depth chain.now) }
+    ensures { Appended result out.old out.new (chain_text analysis.now depth chain.now) }
 {
     append_indent(out, depth)?;
     append_line(out, analysis.indexed(), chain.first)?;
@@ -174,7 +175,7 @@ fn append_steps(
     steps: &[Step],
     depth: u32,
 ) -> Result<(), OutOfMemory>
-    ensures { OnOk result (out.new.items ≡ out.old.items ++ steps_text analysis.now depth None steps.now) }
+    ensures { Appended result out.old out.new (steps_text analysis.now depth None steps.now) }
 {
     let mut later = None;
     for step in steps {
@@ -224,7 +225,7 @@ fn append_later(
     later: Option<u32>,
     depth: u32,
 ) -> Result<(), OutOfMemory>
-    ensures { OnOk result (out.new.items ≡ out.old.items ++ later_text indexed.now depth later) }
+    ensures { Appended result out.old out.new (later_text indexed.now depth later) }
 {
     match later {
         Some(event) => append_later_line(out, indexed, event, depth),
@@ -238,7 +239,7 @@ fn append_later_line(
     event: u32,
     depth: u32,
 ) -> Result<(), OutOfMemory>
-    ensures { OnOk result (out.new.items ≡ out.old.items ++ later_text indexed.now depth (Some event)) }
+    ensures { Appended result out.old out.new (later_text indexed.now depth (Some event)) }
 {
     append_indent(out, depth)?;
     append_words(out, b"  and later in its thread\n")?;
@@ -254,7 +255,7 @@ fn append_step(
     step: Step,
     depth: u32,
 ) -> Result<(), OutOfMemory>
-    ensures { OnOk result (out.new.items ≡ out.old.items ++ step_text analysis.now depth step) }
+    ensures { Appended result out.old out.new (step_text analysis.now depth step) }
 {
     append_indent(out, depth)?;
     append_reason(out, analysis, step)?;
@@ -265,7 +266,7 @@ fn append_step(
 
 /// Appends the reason of the step. For a read that races with the write that it reads, adds a note.
 fn append_reason(out: &mut Vec<u8>, analysis: &Analysis<'_>, step: Step) -> Result<(), OutOfMemory>
-    ensures { OnOk result (out.new.items ≡ out.old.items ++ reason_text analysis.now step.from step.to step.reason) }
+    ensures { Appended result out.old out.new (reason_text analysis.now step.from step.to step.reason) }
 {
     match step.reason {
         Reason::Later => append_words(out, b"  and later in its thread\n"),
@@ -284,7 +285,7 @@ pub(crate) fn append_written(
     first: u32,
     second: u32,
 ) -> Result<(), OutOfMemory>
-    ensures { OnOk result (out.new.items ≡ out.old.items ++ reason_text analysis.now first second Written) }
+    ensures { Appended result out.old out.new (reason_text analysis.now first second Written) }
 {
     append_words(out, b"  is read by")?;
     append_race_note(out, analysis, first, second)?;
@@ -294,7 +295,7 @@ pub(crate) fn append_written(
 
 /// Appends that a section ends of the lock that the event `acquire` acquires.
 fn append_ended(out: &mut Vec<u8>, indexed: &Indexed, acquire: u32) -> Result<(), OutOfMemory>
-    ensures { OnOk result (out.new.items ≡ out.old.items ++ (codes "  ends a section of " ++ lock_name indexed.now acquire ++ codes " that comes before the one of\n")) }
+    ensures { Appended result out.old out.new (codes "  ends a section of " ++ lock_name indexed.now acquire ++ codes " that comes before the one of\n") }
 {
     append_words(out, b"  ends a section of ")?;
     append_lock_of(out, indexed, acquire)?;

@@ -1,5 +1,6 @@
 //! The lines of events.
-ghost use Rattle.std.specs.Prelude.{◌≡◌, ◌<◌, ◌++◌, [], length, slice_index_or, All, OnOk, IfSome, codes};
+ghost use Rattle.std.specs.Prelude.{◌≡◌, ◌<◌, ◌++◌, [], length, slice_index_or, All, IfSome, codes};
+ghost use Rattle.rapid_text.specs.Appended.{Appended};
 ghost use Rattle.rapid_text.specs.Canonical.{event_text, name_at, op_text};
 ghost use Rattle.rapid_text.specs.Recording.{IsNamed, IsNamedOp};
 ghost use Rattle.event_index.specs.Events.{op_at, thread_at};
@@ -17,7 +18,7 @@ pub(crate) fn append_event(
     event: u32,
 ) -> Result<(), OutOfMemory>
     requires { event < length indexed.now.events }
-    ensures { OnOk result (out.new.items ≡ out.old.items ++ event_line indexed.now event) }
+    ensures { Appended result out.old out.new (event_line indexed.now event) }
 {
     let raw = indexed.trace().raw();
     append_found(out, raw, raw.event(event), raw.location(event))?;
@@ -32,7 +33,7 @@ fn append_found(
     location: &[u8],
 ) -> Result<(), OutOfMemory>
     requires { IsNamed trace.now event }
-    ensures { OnOk result (out.new.items ≡ out.old.items ++ event_text trace.now event location.now) }
+    ensures { Appended result out.old out.new (event_text trace.now event location.now) }
 {
     out.extend_from_slice(trace.thread_name(event.thread))?;
     out.push(b'|')?;
@@ -46,7 +47,7 @@ fn append_found(
 /// Appends an operation as `word(name)`.
 fn append_operation(out: &mut Vec<u8>, trace: &RawTrace, op: Op) -> Result<(), OutOfMemory>
     requires { IsNamedOp trace.now op }
-    ensures { OnOk result (out.new.items ≡ out.old.items ++ op_text trace.now op) }
+    ensures { Appended result out.old out.new (op_text trace.now op) }
 {
     match op {
         Op::Read(variable) => append_call(out, b"r", trace.variable_name(variable)),
@@ -60,7 +61,7 @@ fn append_operation(out: &mut Vec<u8>, trace: &RawTrace, op: Op) -> Result<(), O
 
 /// Appends `word(name)`.
 fn append_call(out: &mut Vec<u8>, word: &[u8], name: &[u8]) -> Result<(), OutOfMemory>
-    ensures { OnOk result (out.new.items ≡ out.old.items ++ (word.now ++ codes "(" ++ name.now ++ codes ")")) }
+    ensures { Appended result out.old out.new (word.now ++ codes "(" ++ name.now ++ codes ")") }
 {
     out.extend_from_slice(word)?;
     out.push(b'(')?;
@@ -76,7 +77,7 @@ pub(crate) fn append_numbered(
     event: u32,
 ) -> Result<(), OutOfMemory>
     requires { event < length indexed.now.events }
-    ensures { OnOk result (out.new.items ≡ out.old.items ++ numbered_line indexed.now event) }
+    ensures { Appended result out.old out.new (numbered_line indexed.now event) }
 {
     append_number(out, u64::from(event))?;
     append_words(out, b"  ")?;
@@ -91,7 +92,7 @@ pub(crate) fn append_events(
     events: &[u32],
 ) -> Result<(), OutOfMemory>
     requires { All (λ e. e < length indexed.now.events) events.now }
-    ensures { OnOk result (out.new.items ≡ out.old.items ++ event_lines indexed.now events.now) }
+    ensures { Appended result out.old out.new (event_lines indexed.now events.now) }
 {
     for event in events {
         append_event(out, indexed, *event)?;
@@ -106,7 +107,7 @@ pub(crate) fn append_all_numbered(
     events: &[u32],
 ) -> Result<(), OutOfMemory>
     requires { All (λ e. e < length indexed.now.events) events.now }
-    ensures { OnOk result (out.new.items ≡ out.old.items ++ numbered_lines indexed.now events.now) }
+    ensures { Appended result out.old out.new (numbered_lines indexed.now events.now) }
 {
     for event in events {
         append_numbered(out, indexed, *event)?;
@@ -120,7 +121,7 @@ pub(crate) fn append_line(
     indexed: &Indexed,
     event: u32,
 ) -> Result<(), OutOfMemory>
-    ensures { OnOk result (out.new.items ≡ out.old.items ++ line_at indexed.now event) }
+    ensures { Appended result out.old out.new (line_at indexed.now event) }
 {
     if event < indexed.len() {
         append_numbered(out, indexed, event)?;
@@ -134,7 +135,7 @@ pub(crate) fn append_thread(
     indexed: &Indexed,
     thread: u32,
 ) -> Result<(), OutOfMemory>
-    ensures { OnOk result (out.new.items ≡ out.old.items ++ name_at indexed.now.threads thread) }
+    ensures { Appended result out.old out.new (name_at indexed.now.threads thread) }
 {
     let raw = indexed.trace().raw();
     if thread < raw.threads() {
@@ -149,7 +150,7 @@ pub(crate) fn append_thread_of(
     indexed: &Indexed,
     event: u32,
 ) -> Result<(), OutOfMemory>
-    ensures { OnOk result (out.new.items ≡ out.old.items ++ thread_name indexed.now event) }
+    ensures { Appended result out.old out.new (thread_name indexed.now event) }
 {
     match thread_of(indexed, event) {
         Some(thread) => append_thread(out, indexed, thread),
@@ -163,7 +164,7 @@ pub(crate) fn append_lock(
     indexed: &Indexed,
     lock: u32,
 ) -> Result<(), OutOfMemory>
-    ensures { OnOk result (out.new.items ≡ out.old.items ++ name_at indexed.now.locks lock) }
+    ensures { Appended result out.old out.new (name_at indexed.now.locks lock) }
 {
     let raw = indexed.trace().raw();
     if lock < raw.locks() {
@@ -178,7 +179,7 @@ pub(crate) fn append_lock_of(
     indexed: &Indexed,
     event: u32,
 ) -> Result<(), OutOfMemory>
-    ensures { OnOk result (out.new.items ≡ out.old.items ++ lock_name indexed.now event) }
+    ensures { Appended result out.old out.new (lock_name indexed.now event) }
 {
     match op_of(indexed, event) {
         Some(Op::Acquire(lock)) => append_lock(out, indexed, lock),

@@ -1,14 +1,15 @@
 //! Words, numbers and blanks.
-ghost use Rattle.std.specs.Prelude.{◌≡◌, ◌++◌, OnOk, decimal};
+ghost use Rattle.std.specs.Prelude.{◌≡◌, decimal};
 ghost use Rattle.explain_report.specs.Chains.{indent_text};
 ghost use Rattle.explain_report.specs.Verdicts.{count_text, plural};
+ghost use Rattle.rapid_text.specs.Appended.{Appended};
 
 use itoa::Buffer;
 use rapid_text::OutOfMemory;
 
 /// Appends the words.
 pub(crate) fn append_words(out: &mut Vec<u8>, words: &[u8]) -> Result<(), OutOfMemory>
-    ensures { OnOk result (out.new.items ≡ out.old.items ++ words.now) }
+    ensures { Appended result out.old out.new words.now }
 {
     out.extend_from_slice(words)?;
     Ok(())
@@ -16,7 +17,7 @@ pub(crate) fn append_words(out: &mut Vec<u8>, words: &[u8]) -> Result<(), OutOfM
 
 /// Appends the number in decimal digits.
 pub(crate) fn append_number(out: &mut Vec<u8>, number: u64) -> Result<(), OutOfMemory>
-    ensures { OnOk result (out.new.items ≡ out.old.items ++ decimal number) }
+    ensures { Appended result out.old out.new (decimal number) }
 {
     let mut digits = Buffer::new();
     out.extend_from_slice(digits.format(number).as_bytes())?;
@@ -25,7 +26,7 @@ pub(crate) fn append_number(out: &mut Vec<u8>, number: u64) -> Result<(), OutOfM
 
 /// Appends the number and the words, in the plural unless the number is 1.
 pub(crate) fn append_count(out: &mut Vec<u8>, number: u64, words: &[u8]) -> Result<(), OutOfMemory>
-    ensures { OnOk result (out.new.items ≡ out.old.items ++ count_text number words.now) }
+    ensures { Appended result out.old out.new (count_text number words.now) }
 {
     append_number(out, number)?;
     append_words(out, b" ")?;
@@ -43,7 +44,7 @@ fn plural_of(number: u64) -> &'static [u8]
 
 /// Appends two blanks for each step of depth.
 pub(crate) fn append_indent(out: &mut Vec<u8>, depth: u32) -> Result<(), OutOfMemory>
-    ensures { OnOk result (out.new.items ≡ out.old.items ++ indent_text depth) }
+    ensures { Appended result out.old out.new (indent_text depth) }
 {
     for _step in 0..depth {
         append_words(out, b"  ")?;

@@ -1,6 +1,7 @@
 //! Finds the links of a chain that race themselves: a write and a read of what it wrote.
-ghost use Rattle.std.specs.Prelude.{◌≡◌, ◌++◌, OnOk, find};
+ghost use Rattle.std.specs.Prelude.{◌≡◌, find};
 ghost use Rattle.explain_report.specs.Chains.{CandidatesAreTold, is_candidate, is_raced, is_written, race_note, raced_step};
+ghost use Rattle.rapid_text.specs.Appended.{Appended};
 
 use crate::pieces::{append_number, append_words};
 use must_order::{Analysis, Chain, Reason, Step};
@@ -28,7 +29,7 @@ pub(crate) fn append_race_note(
     first: u32,
     second: u32,
 ) -> Result<(), OutOfMemory>
-    ensures { OnOk result (out.new.items ≡ out.old.items ++ race_note analysis.now.events first second) }
+    ensures { Appended result out.old out.new (race_note analysis.now.events first second) }
 {
     if !is_race(analysis, first, second) {
         return Ok(());

@@ -2,6 +2,7 @@
 ghost use Rattle.std.specs.Prelude.{◌≡◌, ◌++◌, List, ℕ, OnOk, OnErr, length};
 ghost use Rattle.explain_report.specs.Told.{IsRaceTold, IsTold, race_words};
 ghost use Rattle.explain_report.specs.Verdicts.{how_text, race_head, verdict_head};
+ghost use Rattle.rapid_text.specs.Appended.{Appended};
 
 use crate::accesses::append_pair;
 use crate::apart::{
@@ -102,7 +103,7 @@ pub fn append_head(
     first: u32,
     second: u32,
 ) -> Result<(), OutOfMemory>
-    ensures { OnOk result (out.new.items ≡ out.old.items ++ verdict_head indexed.now verdict.now first second) }
+    ensures { Appended result out.old out.new (verdict_head indexed.now verdict.now first second) }
 {
     match *verdict {
         Verdict::Race {
@@ -118,7 +119,7 @@ pub fn append_head(
 
 /// Appends that the pair is a race, and the number of events in its schedule.
 fn append_race_head(out: &mut Vec<u8>, how: How, events: u64) -> Result<(), OutOfMemory>
-    ensures { OnOk result (out.new.items ≡ out.old.items ++ race_head how events) }
+    ensures { Appended result out.old out.new (race_head how events) }
 {
     append_words(out, how_words(how))?;
     append_words(out, b": after ")?;

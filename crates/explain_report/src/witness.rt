@@ -1,7 +1,8 @@
 //! Prints a schedule that shows a pair.
-ghost use Rattle.std.specs.Prelude.{◌≡◌, ◌<◌, ◌++◌, [], ◌∷◌, length, All, OnOk, OnErr, codes};
+ghost use Rattle.std.specs.Prelude.{◌≡◌, ◌<◌, ◌++◌, [], ◌∷◌, length, All, OnErr, codes};
 ghost use Rattle.explain_report.specs.EventLines.{event_lines};
 ghost use Rattle.explain_report.specs.Witnesses.{add_line, add_lines, witness_lines};
+ghost use Rattle.rapid_text.specs.Appended.{Appended};
 
 use crate::event_lines::{append_all_numbered, append_events};
 use crate::pieces::{append_number, append_words};
@@ -31,7 +32,7 @@ pub fn witness_text(
     requires events { All (λ e. e < length indexed.now.events) events.now }
     requires first { first < length indexed.now.events }
     requires second { second < length indexed.now.events }
-    ensures ok { OnOk result (out.new.items ≡ out.old.items ++ witness_lines indexed.now events.now first second form) }
+    ensures ok { Appended result out.old out.new (witness_lines indexed.now events.now first second form) }
     ensures err { OnErr result (out.new.items ≡ out.old.items) }
 {
     let mut text = Vec::new(*out.allocator());
@@ -51,7 +52,7 @@ fn append_witness(
     requires events { All (λ e. e < length indexed.now.events) events.now }
     requires first { first < length indexed.now.events }
     requires second { second < length indexed.now.events }
-    ensures { OnOk result (out.new.items ≡ out.old.items ++ witness_lines indexed.now events.now first second form) }
+    ensures { Appended result out.old out.new (witness_lines indexed.now events.now first second form) }
 {
     match form {
         Form::Events => append_all_numbered(out, indexed, events),
@@ -62,7 +63,7 @@ fn append_witness(
 
 /// Appends a script that builds the schedule.
 fn append_script(out: &mut Vec<u8>, events: &[u32]) -> Result<(), OutOfMemory>
-    ensures { OnOk result (out.new.items ≡ out.old.items ++ (codes "1 new S\n" ++ add_lines events.now ++ codes "1 races S\n")) }
+    ensures { Appended result out.old out.new (codes "1 new S\n" ++ add_lines events.now ++ codes "1 races S\n") }
 {
     append_words(out, b"1 new S\n")?;
     append_adds(out, events)?;
@@ -72,7 +73,7 @@ fn append_script(out: &mut Vec<u8>, events: &[u32]) -> Result<(), OutOfMemory>
 
 /// Appends the lines that append the events to the schedule.
 fn append_adds(out: &mut Vec<u8>, events: &[u32]) -> Result<(), OutOfMemory>
-    ensures { OnOk result (out.new.items ≡ out.old.items ++ add_lines events.now) }
+    ensures { Appended result out.old out.new (add_lines events.now) }
 {
     for event in events {
         append_add(out, *event)?;
@@ -82,7 +83,7 @@ fn append_adds(out: &mut Vec<u8>, events: &[u32]) -> Result<(), OutOfMemory>
 
 /// Appends the line that appends the event.
 fn append_add(out: &mut Vec<u8>, event: u32) -> Result<(), OutOfMemory>
-    ensures { OnOk result (out.new.items ≡ out.old.items ++ add_line event) }
+    ensures { Appended result out.old out.new (add_line event) }
 {
     append_words(out, b"1 add S ")?;
     append_number(out, u64::from(event))?;
@@ -101,7 +102,7 @@ fn append_trace(
     requires events { All (λ e. e < length indexed.now.events) events.now }
     requires first { first < length indexed.now.events }
     requires second { second < length indexed.now.events }
-    ensures { OnOk result (out.new.items ≡ out.old.items ++ (event_lines indexed.now events.now ++ event_lines indexed.now (first ∷ second ∷ []))) }
+    ensures { Appended result out.old out.new (event_lines indexed.now events.now ++ event_lines indexed.now (first ∷ second ∷ [])) }
 {
     append_events(out, indexed, events)?;
     append_events(out, indexed, &[first, second])?;

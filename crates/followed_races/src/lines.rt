@@ -1,5 +1,6 @@
 //! The lines of a text that `record/confirm` wrote.
 ghost use Rattle.std.specs.Prelude.{◌≡◌, ◌≤◌, ◌++◌, ◌∷◌, [], length, None, Some, IfErr, IfOk, IfSome, IsUtf8, OnErr, OnOk};
+ghost use Rattle.rapid_text.specs.Appended.{Appended, IfFound};
 ghost use Rattle.serde_json.specs.Data.{Data};
 ghost use Rattle.serde_json.specs.Read.{read};
 ghost use Rattle.serde_json.specs.View.{view};
@@ -93,7 +94,7 @@ fn read_on<'a>(
 
 /// Adds the entry.
 fn keep(found: &mut Vec<Followed>, entry: Followed) -> Result<(), OutOfMemory>
-    ensures ok { OnOk result (found.new.items ≡ found.old.items ++ entry ∷ []) }
+    ensures ok { Appended result found.old found.new (entry ∷ []) }
     ensures err { OnErr result (found.new.items ≡ found.old.items) }
 {
     found.push(entry)?;
@@ -128,7 +129,7 @@ fn told_in(alloc: Global, line: &[u8]) -> Result<Option<Followed>, OutOfMemory>
 
 /// Parses a text as JSON. Returns None if it is not JSON.
 fn value_of(alloc: Global, text: &[u8]) -> Result<Option<Value>, OutOfMemory>
-    ensures some { IfOk result (λ found. IfSome found (λ value. IsUtf8 text.now × (read text.now ≡ Some (view value)))) }
+    ensures some { IfFound result (λ value. IsUtf8 text.now × (read text.now ≡ Some (view value))) }
     ensures none { IfOk result (λ found. found ≡ None → IsUtf8 text.now → read text.now ≡ None) }
 {
     match Value::from_slice(alloc, text) {

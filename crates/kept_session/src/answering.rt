@@ -2,6 +2,7 @@
 ghost use Rattle.std.specs.Prelude.{◌≡◌, ◌≢◌, ℕ, ◌≤◌, ◌++◌, ◌∷◌, [], List, IsTrue, OnOk, IfOk, IfSome, Ok, Some};
 ghost use Rattle.inverse_log.specs.declared.call.Call.TheVariants.{Undo, UndoAt};
 ghost use Rattle.inverse_log.specs.declared.reply.Reply.TheVariants.{Undone};
+ghost use Rattle.rapid_text.specs.Appended.{Appended, AppendedOne};
 ghost use Rattle.script_language.specs.Scripts.{script_line_reading};
 ghost use Rattle.script_language.specs.declared.refusal.ScriptCause.TheVariants.{OutOfMemory as NoMemory};
 ghost use Rattle.rapid_text.specs.Reading.{is_line_feed};
@@ -135,7 +136,7 @@ fn make_call(
 /// Appends what is wrong with the line with this number.
 fn append_fault(out: &mut Vec<u8>, number: u64, why: ScriptCause) -> Result<(), OutOfMemory>
     requires { why ≢ NoMemory }
-    ensures { OnOk result (out.new.items ≡ out.old.items ++ line_fault number why) }
+    ensures { Appended result out.old out.new (line_fault number why) }
 {
     match script_words(why) {
         Some(words) => append_pieces(
@@ -184,7 +185,7 @@ fn answer_reading(
 
 /// Appends that the question with this number has a fault.
 fn append_faulty(out: &mut Vec<u8>, number: u64) -> Result<(), OutOfMemory>
-    ensures { OnOk result (out.new.items ≡ out.old.items ++ question_fault number) }
+    ensures { Appended result out.old out.new (question_fault number) }
 {
     append_pieces(
         out,
@@ -203,7 +204,7 @@ fn answer_asked(
     asked: &Result<Question, ScriptCause>,
     out: &mut Vec<u8>,
 ) -> Result<(), OutOfMemory>
-    ensures { OnOk result ((text : List ℕ) × (out.new.items ≡ out.old.items ++ text) × IsAsked bench.now.trace bench.now.log number asked.now text) }
+    ensures { AppendedOne result out.old out.new (λ text. IsAsked bench.now.trace bench.now.log number asked.now text) }
 {
     match asked {
         Ok(question) => answer_question(bench, question, out),

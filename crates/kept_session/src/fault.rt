@@ -1,10 +1,11 @@
 //! The faults that end a session before its input ends, and their texts.
-ghost use Rattle.std.specs.Prelude.{◌≡◌, ◌≢◌, ◌++◌, OnOk, OnErr};
+ghost use Rattle.std.specs.Prelude.{◌≡◌, ◌≢◌, OnErr};
 ghost use Rattle.client_scripts.specs.declared.fault.ReadCause.TheVariants.{Device as DeviceFailed};
 ghost use Rattle.client_scripts.specs.declared.fault.ReplayFault.TheVariants.{Read, Write, OutOfMemory as NoMemory};
 ghost use Rattle.kept_log.specs.declared.device.DeviceError.TheVariants.{Memory, Failed, Shorter};
 ghost use Rattle.kept_session.specs.declared.fault.SessionFault.TheVariants.{Replay, LogLine};
 ghost use Rattle.kept_session.specs.FaultTexts.{session_fault_words};
+ghost use Rattle.rapid_text.specs.Appended.{Appended};
 
 use client_scripts::{ReadCause, ReplayFault, fault_text};
 use kept_log::{AppendError, DeviceError, OpenError};
@@ -118,7 +119,7 @@ impl From<AppendError> for SessionFault {
 
 /// Appends the text of a fault, without a line feed. If memory runs out, `out` stays as it was.
 pub fn session_fault_text(fault: &SessionFault, out: &mut Vec<u8>) -> Result<(), OutOfMemory>
-    ensures ok { OnOk result (out.new.items ≡ out.old.items ++ session_fault_words fault.now) }
+    ensures ok { Appended result out.old out.new (session_fault_words fault.now) }
     ensures err { OnErr result (out.new.items ≡ out.old.items) }
 {
     match fault {

@@ -1,6 +1,6 @@
 //! Prints the lines that count in the file of a log.
 ghost use Rattle.std.specs.Io.KnownBytes.{Appends};
-ghost use Rattle.std.specs.Prelude.{◌≡◌, ◌≢◌, ◌++◌, true, false, flat_map, ℕ, List, Err, IfErr, IfSome, OnOk};
+ghost use Rattle.std.specs.Prelude.{◌≡◌, ◌≢◌, true, false, flat_map, ℕ, List, Err, IfErr, IfSome, OnOk};
 ghost use Rattle.client_scripts.specs.Joint.{ended};
 ghost use Rattle.client_scripts.specs.Replay.{AppendsPart, IsUnreadable};
 ghost use Rattle.client_scripts.specs.declared.fault.ReadCause.TheVariants.{Device as DeviceFailed, TooLong};
@@ -9,6 +9,7 @@ ghost use Rattle.kept_log.specs.Lines.{kept_lines};
 ghost use Rattle.kept_session.specs.Faults.{IsPrintFault};
 ghost use Rattle.kept_session.specs.Heads.{IsHeaded, script_in};
 ghost use Rattle.kept_session.specs.declared.fault.SessionFault.TheVariants.{Replay, LogLine};
+ghost use Rattle.rapid_text.specs.Appended.{Appended};
 
 use crate::fault::{LOG_INPUT, SessionFault};
 use crate::head::behind_head;
@@ -19,7 +20,7 @@ use std::alloc::Global;
 
 /// Appends the lines that count in a text, as a script.
 fn append_lines(out: &mut Vec<u8>, text: &[u8]) -> Result<(), OutOfMemory>
-    ensures { OnOk result (out.new.items ≡ out.old.items ++ flat_map ended (kept_lines text.now)) }
+    ensures { Appended result out.old out.new (flat_map ended (kept_lines text.now)) }
 {
     let mut rest = text;
     while let Some((line, others)) = first_line(rest) {

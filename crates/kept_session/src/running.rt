@@ -10,6 +10,7 @@ ghost use Rattle.kept_session.specs.Sessions.{number_behind};
 ghost use Rattle.kept_session.specs.Steps.{IsKeepFault, IsPieceHalted, IsPieceTaken, IsTurnWritten};
 ghost use Rattle.kept_session.specs.Views.{lines_in, trace_of};
 ghost use Rattle.kept_session.specs.declared.fault.SessionFault.TheVariants.{Replay};
+ghost use Rattle.rapid_text.specs.Appended.{Appended};
 
 use crate::fault::{LINES_INPUT, SessionFault};
 use crate::session::Session;
@@ -70,7 +71,7 @@ fn answer_begun<D: Device + Drop, K: Sink>(
 /// Keeps bytes of a line that has no end yet.
 fn keep_begun(pending: &mut Pending, bytes: &[u8]) -> Result<(), SessionFault>
     ensures number { pending.new.number ≡ pending.old.number }
-    ensures begun { OnOk result (pending.new.begun.items ≡ pending.old.begun.items ++ bytes.now) }
+    ensures begun { Appended result pending.old.begun pending.new.begun bytes.now }
     ensures fault { IfErr result (IsKeepFault (pending.old.begun.items ++ bytes.now)) }
 {
     if bytes.len() > LIMIT.saturating_sub(pending.begun.len()) {

@@ -1,5 +1,6 @@
 //! A trace with its orders.
 ghost use Rattle.std.specs.Prelude.{◌≡◌, ◌≢◌, ◌<◌, ◌↔◌, ℕ, None, IfSome, length, IsTrue, IfOk};
+ghost use Rattle.rapid_text.specs.Appended.{IfFound};
 ghost use Rattle.shb_clocks.specs.Candidates.{IsCandidatePair};
 ghost use Rattle.must_order.specs.Chains.{AreReasons};
 ghost use Rattle.must_order.specs.Held.{IsHeldFrom, AreHeldAt, IsGuard, HasNoGuard};
@@ -140,7 +141,7 @@ impl<'a> Analysis<'a> {
     ) -> Result<Option<Vec<Chain>>, OutOfMemory>
         requires first { first < length self.now.events }
         requires second { second < length self.now.events }
-        ensures some { IfOk result (λ r. IfSome r (λ cs. AreReasons self.now.events first second cs.items)) }
+        ensures some { IfFound result (λ cs. AreReasons self.now.events first second cs.items) }
         ensures none { IfOk result (λ chains. chains ≡ None → ¬ IsMustBefore self.now.events first second) }
         ensures exact { IfOk result (λ chains. IsMustBefore self.now.events first second → chains ≢ None) }
     {

@@ -6,6 +6,7 @@ ghost use Rattle.must_order.specs.Kinds.{IsKind};
 ghost use Rattle.must_order.specs.MustBefore.{IsForced, IsHeldBefore, IsMustBefore, IsSharedBefore};
 ghost use Rattle.must_order.specs.Sections.{AreSections};
 ghost use Rattle.must_order.specs.Telling.{TellsMust, width_of};
+ghost use Rattle.rapid_text.specs.Appended.{IfFound};
 ghost use Rattle.shb_clocks.specs.SharedRows.{len_of, count_of};
 
 use crate::chains::Chain;
@@ -151,7 +152,7 @@ impl Must {
         requires trace { self.now ≡ indexed.now }
         requires first { first < length self.now.events }
         requires second { second < length self.now.events }
-        ensures some { IfOk result (λ r. IfSome r (λ cs. AreReasons self.now.events first second cs.items)) }
+        ensures some { IfFound result (λ cs. AreReasons self.now.events first second cs.items) }
         ensures none { IfOk result (λ chains. chains ≡ None → ¬ IsMustBefore self.now.events first second) }
         ensures exact { IfOk result (λ chains. IsMustBefore self.now.events first second → chains ≢ None) }
     {

@@ -1,6 +1,7 @@
 //! Sorts classes by their variables, so that a walk over those of one variable goes through memory in one direction.
-ghost use Rattle.std.specs.Prelude.{◌≡◌, ◌≤◌, ◌<◌, ℕ, All, IfOk, IfSome, Some, length, slice_get, slice_index};
+ghost use Rattle.std.specs.Prelude.{◌≡◌, ◌≤◌, ◌<◌, ℕ, All, IfOk, Some, length, slice_get, slice_index};
 ghost use Rattle.race_groups.specs.Building.{AreAlike, AreElements, IsRenumbered};
+ghost use Rattle.rapid_text.specs.Appended.{IfFound};
 
 use crate::class::Class;
 use crate::classes::{is_at, variable_of};
@@ -23,7 +24,7 @@ pub(crate) fn grouped(
     members: &[Vec<u32>],
 ) -> Result<Option<Regrouped>, OutOfMemory>
     requires { All (λ c. c < length infos.now) numbers.now }
-    ensures { IfOk result (λ found. IfSome found (λ made. IsRenumbered numbers.now infos.now made.numbers.items made.infos.items)) }
+    ensures { IfFound result (λ made. IsRenumbered numbers.now infos.now made.numbers.items made.infos.items) }
 {
     let order = order_of(alloc, infos, members)?;
     let made = picked(alloc, infos, order.as_slice())?;
@@ -85,9 +86,9 @@ fn renumbered(
     places: &[u32],
 ) -> Result<Option<Vec<u32>>, OutOfMemory>
     requires within { All (λ c. c < length infos.now) numbers.now }
-    ensures len { IfOk result (λ found. IfSome found (λ after. length after.items ≡ length numbers.now)) }
-    ensures same { IfOk result (λ found. IfSome found (λ after. AreAlike numbers.now infos.now after.items made.now (length numbers.now))) }
-    ensures few { IfOk result (λ found. IfSome found (λ after. length made.now ≤ length infos.now)) }
+    ensures len { IfFound result (λ after. length after.items ≡ length numbers.now) }
+    ensures same { IfFound result (λ after. AreAlike numbers.now infos.now after.items made.now (length numbers.now)) }
+    ensures few { IfFound result (λ after. length made.now ≤ length infos.now) }
 {
     if made.len() > infos.len() {
         return Ok(None);

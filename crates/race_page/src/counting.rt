@@ -1,6 +1,7 @@
 //! The table of the eleven counts of the whole trace.
-ghost use Rattle.std.specs.Prelude.{◌≡◌, ◌++◌, OnOk, decimal};
+ghost use Rattle.std.specs.Prelude.{decimal};
 ghost use Rattle.race_page.specs.Counts.{count_line, counts_text, kind_lines, meaning_text, pair_lines, place_lines, trace_lines, word_text};
+ghost use Rattle.rapid_text.specs.Appended.{Appended};
 
 use itoa::Buffer;
 use race_triage::Totals;
@@ -45,7 +46,7 @@ pub(crate) const APART: &[u8] = b"pairs of places whose pairs of events are all 
 
 /// Appends the table of these counts.
 pub(crate) fn append_counts(out: &mut Vec<u8>, totals: &Totals) -> Result<(), OutOfMemory>
-    ensures { OnOk result (out.new.items ≡ out.old.items ++ counts_text totals.now) }
+    ensures { Appended result out.old out.new (counts_text totals.now) }
 {
     out.extend_from_slice(COUNTS_BEGIN)?;
     append_trace(out, totals)?;
@@ -57,7 +58,7 @@ pub(crate) fn append_counts(out: &mut Vec<u8>, totals: &Totals) -> Result<(), Ou
 
 /// Appends the table lines on the trace.
 fn append_trace(out: &mut Vec<u8>, totals: &Totals) -> Result<(), OutOfMemory>
-    ensures { OnOk result (out.new.items ≡ out.old.items ++ trace_lines totals.now) }
+    ensures { Appended result out.old out.new (trace_lines totals.now) }
 {
     append_line(out, b"events", totals.events, b"lines of the trace")?;
     append_line(out, b"threads", totals.threads, b"threads of the trace")
@@ -65,7 +66,7 @@ fn append_trace(out: &mut Vec<u8>, totals: &Totals) -> Result<(), OutOfMemory>
 
 /// Appends the table lines on pairs of events.
 fn append_pairs(out: &mut Vec<u8>, totals: &Totals) -> Result<(), OutOfMemory>
-    ensures { OnOk result (out.new.items ≡ out.old.items ++ pair_lines totals.now) }
+    ensures { Appended result out.old out.new (pair_lines totals.now) }
 {
     append_line(out, b"pairs", totals.pairs, PAIRS)?;
     append_kinds(out, totals)
@@ -73,7 +74,7 @@ fn append_pairs(out: &mut Vec<u8>, totals: &Totals) -> Result<(), OutOfMemory>
 
 /// Appends the table lines on the kinds of pairs of events.
 fn append_kinds(out: &mut Vec<u8>, totals: &Totals) -> Result<(), OutOfMemory>
-    ensures { OnOk result (out.new.items ≡ out.old.items ++ kind_lines totals.now) }
+    ensures { Appended result out.old out.new (kind_lines totals.now) }
 {
     append_line(out, b"candidates", totals.candidates, CANDIDATES)?;
     append_line(out, b"open", totals.open_pairs, OPEN)?;
@@ -83,7 +84,7 @@ fn append_kinds(out: &mut Vec<u8>, totals: &Totals) -> Result<(), OutOfMemory>
 
 /// Appends the table lines on pairs of locations.
 fn append_places(out: &mut Vec<u8>, totals: &Totals) -> Result<(), OutOfMemory>
-    ensures { OnOk result (out.new.items ≡ out.old.items ++ place_lines totals.now) }
+    ensures { Appended result out.old out.new (place_lines totals.now) }
 {
     append_line(out, b"places", totals.places, PLACES)?;
     append_line(out, b"races", totals.races, RACES)?;
@@ -98,7 +99,7 @@ fn append_line(
     number: u64,
     meaning: &[u8],
 ) -> Result<(), OutOfMemory>
-    ensures { OnOk result (out.new.items ≡ out.old.items ++ count_line word.now number meaning.now) }
+    ensures { Appended result out.old out.new (count_line word.now number meaning.now) }
 {
     append_word(out, word)?;
     append_number(out, number)?;
@@ -107,7 +108,7 @@ fn append_line(
 
 /// Appends the beginning of a table line, up to its number.
 fn append_word(out: &mut Vec<u8>, word: &[u8]) -> Result<(), OutOfMemory>
-    ensures { OnOk result (out.new.items ≡ out.old.items ++ word_text word.now) }
+    ensures { Appended result out.old out.new (word_text word.now) }
 {
     out.extend_from_slice(b"<tr><th scope=\"row\">")?;
     out.extend_from_slice(word)?;
@@ -117,7 +118,7 @@ fn append_word(out: &mut Vec<u8>, word: &[u8]) -> Result<(), OutOfMemory>
 
 /// Appends the end of a table line, after its number.
 fn append_meaning(out: &mut Vec<u8>, meaning: &[u8]) -> Result<(), OutOfMemory>
-    ensures { OnOk result (out.new.items ≡ out.old.items ++ meaning_text meaning.now) }
+    ensures { Appended result out.old out.new (meaning_text meaning.now) }
 {
     out.extend_from_slice(b"</td><td>")?;
     out.extend_from_slice(meaning)?;
@@ -127,7 +128,7 @@ fn append_meaning(out: &mut Vec<u8>, meaning: &[u8]) -> Result<(), OutOfMemory>
 
 /// Appends a number in decimal digits.
 fn append_number(out: &mut Vec<u8>, number: u64) -> Result<(), OutOfMemory>
-    ensures { OnOk result (out.new.items ≡ out.old.items ++ decimal number) }
+    ensures { Appended result out.old out.new (decimal number) }
 {
     let mut digits = Buffer::new();
     out.extend_from_slice(digits.format(number).as_bytes())?;

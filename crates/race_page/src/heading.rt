@@ -1,7 +1,8 @@
 //! The beginning of a page. Its first line says how many races there are, in which file, and what was left out.
-ghost use Rattle.std.specs.Prelude.{◌≡◌, ◌++◌, ◌∷◌, None, IfSome, OnOk, decimal};
+ghost use Rattle.std.specs.Prelude.{◌≡◌, ◌++◌, ◌∷◌, None, IfSome, decimal};
 ghost use Rattle.race_page.specs.Heads.{HasNoSlash, IsFileOf, heading_text, page_begin, race_word, races_words, title_text};
 ghost use Rattle.race_page.specs.declared.merged_head.LeftOut.{LeftOut};
+ghost use Rattle.rapid_text.specs.Appended.{Appended};
 
 use crate::merged_head::{LeftOut, append_left};
 use crate::style::{BODY, TOP};
@@ -36,7 +37,7 @@ pub(crate) fn append_begin(
     file: &[u8],
     left: LeftOut,
 ) -> Result<(), OutOfMemory>
-    ensures { OnOk result (out.new.items ≡ out.old.items ++ page_begin races file.now left) }
+    ensures { Appended result out.old out.new (page_begin races file.now left) }
 {
     out.extend_from_slice(TOP)?;
     append_title(out, races, file, left)?;
@@ -51,7 +52,7 @@ fn append_title(
     file: &[u8],
     left: LeftOut,
 ) -> Result<(), OutOfMemory>
-    ensures { OnOk result (out.new.items ≡ out.old.items ++ title_text races file.now left) }
+    ensures { Appended result out.old out.new (title_text races file.now left) }
 {
     out.extend_from_slice(b"<title>")?;
     append_races(out, races)?;
@@ -69,7 +70,7 @@ fn append_heading(
     file: &[u8],
     left: LeftOut,
 ) -> Result<(), OutOfMemory>
-    ensures { OnOk result (out.new.items ≡ out.old.items ++ heading_text races file.now left) }
+    ensures { Appended result out.old out.new (heading_text races file.now left) }
 {
     out.extend_from_slice(b"<header>\n<h1>")?;
     append_races(out, races)?;
@@ -83,7 +84,7 @@ fn append_heading(
 
 /// Appends the number of races, in words: `No races`, `1 race`, `2 races`.
 pub(crate) fn append_races(out: &mut Vec<u8>, races: u64) -> Result<(), OutOfMemory>
-    ensures { OnOk result (out.new.items ≡ out.old.items ++ races_words races) }
+    ensures { Appended result out.old out.new (races_words races) }
 {
     if races == 0 {
         append_bytes(out, b"No races")
@@ -94,7 +95,7 @@ pub(crate) fn append_races(out: &mut Vec<u8>, races: u64) -> Result<(), OutOfMem
 
 /// Appends the number of races, if it is not 0.
 fn append_some(out: &mut Vec<u8>, races: u64) -> Result<(), OutOfMemory>
-    ensures { OnOk result (out.new.items ≡ out.old.items ++ decimal races ++ race_word races) }
+    ensures { Appended result out.old out.new (decimal races ++ race_word races) }
 {
     let mut digits = Buffer::new();
     out.extend_from_slice(digits.format(races).as_bytes())?;
@@ -110,7 +111,7 @@ fn word_of(races: u64) -> &'static [u8]
 
 /// Appends these bytes.
 fn append_bytes(out: &mut Vec<u8>, bytes: &[u8]) -> Result<(), OutOfMemory>
-    ensures { OnOk result (out.new.items ≡ out.old.items ++ bytes.now) }
+    ensures { Appended result out.old out.new bytes.now }
 {
     out.extend_from_slice(bytes)?;
     Ok(())

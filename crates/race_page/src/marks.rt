@@ -1,7 +1,8 @@
 //! A writer of markup: the page's own bytes, numbers, and escaped texts, one after another.
-ghost use Rattle.std.specs.Prelude.{◌≡◌, ◌++◌, OnOk, decimal};
+ghost use Rattle.std.specs.Prelude.{decimal};
 ghost use Rattle.markup.specs.Escaped.{escaped};
 ghost use Rattle.race_page.specs.Marks.{mark_text, marks_text};
+ghost use Rattle.rapid_text.specs.Appended.{Appended};
 
 use itoa::Buffer;
 use markup::escape;
@@ -20,7 +21,7 @@ pub(crate) enum Mark<'a> {
 
 /// Appends these marks, in order.
 pub(crate) fn append_marks(out: &mut Vec<u8>, marks: &[Mark<'_>]) -> Result<(), OutOfMemory>
-    ensures { OnOk result (out.new.items ≡ out.old.items ++ marks_text marks.now) }
+    ensures { Appended result out.old out.new (marks_text marks.now) }
 {
     for mark in marks {
         append_mark(out, *mark)?;
@@ -30,7 +31,7 @@ pub(crate) fn append_marks(out: &mut Vec<u8>, marks: &[Mark<'_>]) -> Result<(), 
 
 /// Appends one mark.
 fn append_mark(out: &mut Vec<u8>, mark: Mark<'_>) -> Result<(), OutOfMemory>
-    ensures { OnOk result (out.new.items ≡ out.old.items ++ mark_text mark.entry) }
+    ensures { Appended result out.old out.new (mark_text mark.entry) }
 {
     match mark {
         Mark::Own(bytes) => append_own(out, bytes),
@@ -41,7 +42,7 @@ fn append_mark(out: &mut Vec<u8>, mark: Mark<'_>) -> Result<(), OutOfMemory>
 
 /// Appends the page's own markup.
 fn append_own(out: &mut Vec<u8>, bytes: &[u8]) -> Result<(), OutOfMemory>
-    ensures { OnOk result (out.new.items ≡ out.old.items ++ bytes.now) }
+    ensures { Appended result out.old out.new bytes.now }
 {
     out.extend_from_slice(bytes)?;
     Ok(())
@@ -49,7 +50,7 @@ fn append_own(out: &mut Vec<u8>, bytes: &[u8]) -> Result<(), OutOfMemory>
 
 /// Appends a number in decimal digits.
 fn append_digits(out: &mut Vec<u8>, number: u64) -> Result<(), OutOfMemory>
-    ensures { OnOk result (out.new.items ≡ out.old.items ++ decimal number) }
+    ensures { Appended result out.old out.new (decimal number) }
 {
     let mut digits = Buffer::new();
     out.extend_from_slice(digits.format(number).as_bytes())?;
@@ -58,7 +59,7 @@ fn append_digits(out: &mut Vec<u8>, number: u64) -> Result<(), OutOfMemory>
 
 /// Appends a text, escaped so that it is no markup.
 fn append_escaped(out: &mut Vec<u8>, text: &[u8]) -> Result<(), OutOfMemory>
-    ensures { OnOk result (out.new.items ≡ out.old.items ++ escaped text.now) }
+    ensures { Appended result out.old out.new (escaped text.now) }
 {
     escape(text, out)?;
     Ok(())

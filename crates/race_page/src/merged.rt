@@ -1,7 +1,8 @@
 //! The page of a merged report: a row for each pair of locations, with what the parts say of it.
-ghost use Rattle.std.specs.Prelude.{◌≡◌, ◌++◌, IfOk, OnErr, OnOk, take};
+ghost use Rattle.std.specs.Prelude.{◌≡◌, IfOk, OnErr, take};
 ghost use Rattle.std.specs.List.{filter};
 ghost use Rattle.race_page.specs.Merged.{apart_section, has_rank, heading_of, kept_text, lead_text, left_text, merged_text, none_text, opening_text, section_text};
+ghost use Rattle.rapid_text.specs.Appended.{Appended};
 
 use crate::marks::{Mark, append_marks};
 use crate::merged_head::{LeftOut, append_begin};
@@ -40,7 +41,7 @@ pub fn merged_page(
     left: LeftOut,
     out: &mut Vec<u8>,
 ) -> Result<(), OutOfMemory>
-    ensures ok { OnOk result (out.new.items ≡ out.old.items ++ merged_text parts pairs.now apart left) }
+    ensures ok { Appended result out.old out.new (merged_text parts pairs.now apart left) }
     ensures err { OnErr result (out.new.items ≡ out.old.items) }
 {
     let mut text = Vec::new(*out.allocator());
@@ -57,7 +58,7 @@ fn append_page(
     apart: bool,
     left: LeftOut,
 ) -> Result<(), OutOfMemory>
-    ensures { OnOk result (out.new.items ≡ out.old.items ++ merged_text parts pairs.now apart left) }
+    ensures { Appended result out.old out.new (merged_text parts pairs.now apart left) }
 {
     append_races_of(out, parts, pairs, left)?;
     append_rank(out, parts, pairs, 1)?;
@@ -72,7 +73,7 @@ fn append_races_of(
     pairs: &[Pair<'_>],
     left: LeftOut,
 ) -> Result<(), OutOfMemory>
-    ensures { OnOk result (out.new.items ≡ out.old.items ++ lead_text parts (filter (has_rank 0) pairs.now) left) }
+    ensures { Appended result out.old out.new (lead_text parts (filter (has_rank 0) pairs.now) left) }
 {
     let races = of_rank(*out.allocator(), pairs, 0)?;
     append_lead(out, parts, races.as_slice(), left)
@@ -86,7 +87,7 @@ fn append_lead(
     races: &[Pair<'_>],
     left: LeftOut,
 ) -> Result<(), OutOfMemory>
-    ensures { OnOk result (out.new.items ≡ out.old.items ++ lead_text parts races.now left) }
+    ensures { Appended result out.old out.new (lead_text parts races.now left) }
 {
     append_begin(out, races.len() as u64, parts as u64, left)?;
     append_section(out, parts, races, 0)
@@ -99,7 +100,7 @@ fn append_apart(
     pairs: &[Pair<'_>],
     apart: bool,
 ) -> Result<(), OutOfMemory>
-    ensures { OnOk result (out.new.items ≡ out.old.items ++ apart_section apart parts pairs.now) }
+    ensures { Appended result out.old out.new (apart_section apart parts pairs.now) }
 {
     if apart {
         append_rank(out, parts, pairs, 2)
@@ -115,7 +116,7 @@ fn append_rank(
     pairs: &[Pair<'_>],
     rank: u8,
 ) -> Result<(), OutOfMemory>
-    ensures { OnOk result (out.new.items ≡ out.old.items ++ section_text rank parts (filter (has_rank rank) pairs.now)) }
+    ensures { Appended result out.old out.new (section_text rank parts (filter (has_rank rank) pairs.now)) }
 {
     let kept = of_rank(*out.allocator(), pairs, rank)?;
     append_section(out, parts, kept.as_slice(), rank)
@@ -142,7 +143,7 @@ fn append_section(
     kept: &[Pair<'_>],
     rank: u8,
 ) -> Result<(), OutOfMemory>
-    ensures { OnOk result (out.new.items ≡ out.old.items ++ section_text rank parts kept.now) }
+    ensures { Appended result out.old out.new (section_text rank parts kept.now) }
 {
     append_opening(out, rank)?;
     append_kept(out, parts, kept)?;
@@ -151,7 +152,7 @@ fn append_section(
 
 /// Appends the beginning of the section for this rank.
 fn append_opening(out: &mut Vec<u8>, rank: u8) -> Result<(), OutOfMemory>
-    ensures { OnOk result (out.new.items ≡ out.old.items ++ opening_text rank) }
+    ensures { Appended result out.old out.new (opening_text rank) }
 {
     append_marks(
         out,
@@ -177,7 +178,7 @@ fn heading_of(rank: u8) -> &'static [u8]
 /// Appends the rows of the first 2,000 of these pairs, and how many more there are.
 #[tactic(auto, unfolding(crate::specs::Merged::kept_text))]
 fn append_kept(out: &mut Vec<u8>, parts: usize, kept: &[Pair<'_>]) -> Result<(), OutOfMemory>
-    ensures { OnOk result (out.new.items ≡ out.old.items ++ kept_text parts kept.now) }
+    ensures { Appended result out.old out.new (kept_text parts kept.now) }
 {
     append_none(out, kept)?;
     append_rows(out, parts, first_of(kept))?;
@@ -186,7 +187,7 @@ fn append_kept(out: &mut Vec<u8>, parts: usize, kept: &[Pair<'_>]) -> Result<(),
 
 /// Appends `None.` if there are no pairs.
 fn append_none(out: &mut Vec<u8>, kept: &[Pair<'_>]) -> Result<(), OutOfMemory>
-    ensures { OnOk result (out.new.items ≡ out.old.items ++ none_text kept.now) }
+    ensures { Appended result out.old out.new (none_text kept.now) }
 {
     if kept.is_empty() {
         append_marks(out, &[Mark::Own(b"<p>None.</p>\n")])
@@ -204,7 +205,7 @@ fn first_of<'a, 'b>(kept: &'a [Pair<'b>]) -> &'a [Pair<'b>]
 
 /// Appends how many of `count` pairs have no row, if there are more than 2,000.
 fn append_left(out: &mut Vec<u8>, count: usize) -> Result<(), OutOfMemory>
-    ensures { OnOk result (out.new.items ≡ out.old.items ++ left_text count) }
+    ensures { Appended result out.old out.new (left_text count) }
 {
     if count > MOST_ROWS {
         append_marks(

@@ -1,7 +1,7 @@
 //! The beginning of a merged page: how many races there are, and how many pairs of locations were left out.
-ghost use Rattle.std.specs.Prelude.{◌≡◌, ◌++◌, OnOk};
 ghost use Rattle.race_page.specs.Heads.{hidden_text, known_text, left_text};
 ghost use Rattle.race_page.specs.MergedHead.{first_text, head_text, merged_begin, parts_text, title_text};
+ghost use Rattle.rapid_text.specs.Appended.{Appended};
 
 use crate::heading::append_races;
 use crate::marks::{Mark, append_marks};
@@ -25,7 +25,7 @@ pub(crate) fn append_begin(
     parts: u64,
     left: LeftOut,
 ) -> Result<(), OutOfMemory>
-    ensures { OnOk result (out.new.items ≡ out.old.items ++ merged_begin races parts left) }
+    ensures { Appended result out.old out.new (merged_begin races parts left) }
 {
     append_head(out, races, parts, left)?;
     append_first(out, races, parts, left)
@@ -33,7 +33,7 @@ pub(crate) fn append_begin(
 
 /// Appends the head of the page, with its title and style.
 fn append_head(out: &mut Vec<u8>, races: u64, parts: u64, left: LeftOut) -> Result<(), OutOfMemory>
-    ensures { OnOk result (out.new.items ≡ out.old.items ++ head_text races parts left) }
+    ensures { Appended result out.old out.new (head_text races parts left) }
 {
     append_marks(out, &[Mark::Own(TOP), Mark::Own(b"<title>")])?;
     append_title(out, races, parts, left)?;
@@ -42,7 +42,7 @@ fn append_head(out: &mut Vec<u8>, races: u64, parts: u64, left: LeftOut) -> Resu
 
 /// Appends the first line of the page.
 fn append_first(out: &mut Vec<u8>, races: u64, parts: u64, left: LeftOut) -> Result<(), OutOfMemory>
-    ensures { OnOk result (out.new.items ≡ out.old.items ++ first_text races parts left) }
+    ensures { Appended result out.old out.new (first_text races parts left) }
 {
     append_marks(out, &[Mark::Own(b"<header>\n<h1>")])?;
     append_title(out, races, parts, left)?;
@@ -51,7 +51,7 @@ fn append_first(out: &mut Vec<u8>, races: u64, parts: u64, left: LeftOut) -> Res
 
 /// Appends how many races there are in how many parts, and what was left out.
 fn append_title(out: &mut Vec<u8>, races: u64, parts: u64, left: LeftOut) -> Result<(), OutOfMemory>
-    ensures { OnOk result (out.new.items ≡ out.old.items ++ title_text races parts left) }
+    ensures { Appended result out.old out.new (title_text races parts left) }
 {
     append_races(out, races)?;
     append_parts(out, parts)?;
@@ -61,7 +61,7 @@ fn append_title(out: &mut Vec<u8>, races: u64, parts: u64, left: LeftOut) -> Res
 
 /// Appends ` in N parts`.
 fn append_parts(out: &mut Vec<u8>, parts: u64) -> Result<(), OutOfMemory>
-    ensures { OnOk result (out.new.items ≡ out.old.items ++ parts_text parts) }
+    ensures { Appended result out.old out.new (parts_text parts) }
 {
     append_marks(
         out,
@@ -75,7 +75,7 @@ fn append_parts(out: &mut Vec<u8>, parts: u64) -> Result<(), OutOfMemory>
 
 /// Appends how many pairs of locations were left out.
 pub(crate) fn append_left(out: &mut Vec<u8>, left: LeftOut) -> Result<(), OutOfMemory>
-    ensures { OnOk result (out.new.items ≡ out.old.items ++ left_text left) }
+    ensures { Appended result out.old out.new (left_text left) }
 {
     append_known(out, left.known)?;
     append_hidden(out, left.hidden)
@@ -83,7 +83,7 @@ pub(crate) fn append_left(out: &mut Vec<u8>, left: LeftOut) -> Result<(), OutOfM
 
 /// Appends how many known races were left out, if there is a number.
 fn append_known(out: &mut Vec<u8>, known: Option<u64>) -> Result<(), OutOfMemory>
-    ensures { OnOk result (out.new.items ≡ out.old.items ++ known_text known) }
+    ensures { Appended result out.old out.new (known_text known) }
 {
     match known {
         Some(count) => append_marks(
@@ -105,7 +105,7 @@ fn append_known(out: &mut Vec<u8>, known: Option<u64>) -> Result<(), OutOfMemory
 
 /// Appends how many pairs of locations the filters left out, if there is a number.
 fn append_hidden(out: &mut Vec<u8>, hidden: Option<u64>) -> Result<(), OutOfMemory>
-    ensures { OnOk result (out.new.items ≡ out.old.items ++ hidden_text hidden) }
+    ensures { Appended result out.old out.new (hidden_text hidden) }
 {
     match hidden {
         Some(count) => append_marks(

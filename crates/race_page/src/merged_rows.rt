@@ -1,5 +1,6 @@
 //! The rows of a merged page.
-ghost use Rattle.std.specs.Prelude.{◌≡◌, ◌++◌, OnOk};
+ghost use Rattle.std.specs.Prelude.{◌≡◌};
+ghost use Rattle.rapid_text.specs.Appended.{Appended};
 ghost use Rattle.serde_json.specs.View.{view};
 ghost use Rattle.explain_report.specs.places.Places.{before_arrow};
 ghost use Rattle.markup.specs.Escaped.{escaped};
@@ -20,7 +21,7 @@ pub(crate) fn append_rows(
     parts: usize,
     pairs: &[Pair<'_>],
 ) -> Result<(), OutOfMemory>
-    ensures { OnOk result (out.new.items ≡ out.old.items ++ rows_text parts pairs.now) }
+    ensures { Appended result out.old out.new (rows_text parts pairs.now) }
 {
     for pair in pairs {
         append_row(out, parts, *pair)?;
@@ -31,7 +32,7 @@ pub(crate) fn append_rows(
 /// Appends the row of a pair.
 #[tactic(auto, unfolding(crate::specs::MergedRows::pair_row))]
 fn append_row(out: &mut Vec<u8>, parts: usize, pair: Pair<'_>) -> Result<(), OutOfMemory>
-    ensures { OnOk result (out.new.items ≡ out.old.items ++ pair_row parts pair.entry) }
+    ensures { Appended result out.old out.new (pair_row parts pair.entry) }
 {
     append_said(out, parts, pair, pair.line)
 }
@@ -43,7 +44,7 @@ fn append_said(
     pair: Pair<'_>,
     line: &[u8],
 ) -> Result<(), OutOfMemory>
-    ensures { OnOk result (out.new.items ≡ out.old.items ++ shown_row parts pair.entry (data_in line.now)) }
+    ensures { Appended result out.old out.new (shown_row parts pair.entry (data_in line.now)) }
 {
     append_shown(out, parts, pair, &data_of(*out.allocator(), line)?)
 }
@@ -55,7 +56,7 @@ fn append_shown(
     pair: Pair<'_>,
     row: &Value,
 ) -> Result<(), OutOfMemory>
-    ensures { OnOk result (out.new.items ≡ out.old.items ++ shown_row parts pair.entry (view row.now)) }
+    ensures { Appended result out.old out.new (shown_row parts pair.entry (view row.now)) }
 {
     append_summary(out, pair.rank, row)?;
     append_table(out, row)?;
@@ -64,7 +65,7 @@ fn append_shown(
 
 /// Appends what a reader sees of a closed row.
 fn append_summary(out: &mut Vec<u8>, rank: u8, row: &Value) -> Result<(), OutOfMemory>
-    ensures { OnOk result (out.new.items ≡ out.old.items ++ summary_text rank (view row.now)) }
+    ensures { Appended result out.old out.new (summary_text rank (view row.now)) }
 {
     append_opening(out, row)?;
     append_outcome(out, rank, row)?;
@@ -73,7 +74,7 @@ fn append_summary(out: &mut Vec<u8>, rank: u8, row: &Value) -> Result<(), OutOfM
 
 /// Appends what comes before the outcome.
 fn append_opening(out: &mut Vec<u8>, row: &Value) -> Result<(), OutOfMemory>
-    ensures { OnOk result (out.new.items ≡ out.old.items ++ opening_text (view row.now)) }
+    ensures { Appended result out.old out.new (opening_text (view row.now)) }
 {
     append_marks(out, &[Mark::Own(b"<details>\n<summary><h3>")])?;
     append_uses(out, row)?;
@@ -82,14 +83,14 @@ fn append_opening(out: &mut Vec<u8>, row: &Value) -> Result<(), OutOfMemory>
 
 /// Appends the two events of a row.
 fn append_both(out: &mut Vec<u8>, row: &Value) -> Result<(), OutOfMemory>
-    ensures { OnOk result (out.new.items ≡ out.old.items ++ both_text (view row.now)) }
+    ensures { Appended result out.old out.new (both_text (view row.now)) }
 {
     append_events(out, event_in(row, 0), event_in(row, 1))
 }
 
 /// Appends the numbers of the two events.
 fn append_events(out: &mut Vec<u8>, first: u64, second: u64) -> Result<(), OutOfMemory>
-    ensures { OnOk result (out.new.items ≡ out.old.items ++ events_text first second) }
+    ensures { Appended result out.old out.new (events_text first second) }
 {
     append_marks(
         out,
@@ -105,7 +106,7 @@ fn append_events(out: &mut Vec<u8>, first: u64, second: u64) -> Result<(), OutOf
 
 /// Appends the variable, and what each access does.
 fn append_uses(out: &mut Vec<u8>, row: &Value) -> Result<(), OutOfMemory>
-    ensures { OnOk result (out.new.items ≡ out.old.items ++ uses_text (view row.now)) }
+    ensures { Appended result out.old out.new (uses_text (view row.now)) }
 {
     append_variable(out, row)?;
     append_use(out, row, 0)?;
@@ -115,7 +116,7 @@ fn append_uses(out: &mut Vec<u8>, row: &Value) -> Result<(), OutOfMemory>
 
 /// Appends the variable of the first access, if the row has this access.
 fn append_variable(out: &mut Vec<u8>, row: &Value) -> Result<(), OutOfMemory>
-    ensures { OnOk result (out.new.items ≡ out.old.items ++ first_text (view row.now)) }
+    ensures { Appended result out.old out.new (first_text (view row.now)) }
 {
     match access_in(row, 0) {
         Some(access) => append_name(out, access),
@@ -125,7 +126,7 @@ fn append_variable(out: &mut Vec<u8>, row: &Value) -> Result<(), OutOfMemory>
 
 /// Appends the name of the variable of an access.
 fn append_name(out: &mut Vec<u8>, access: &Value) -> Result<(), OutOfMemory>
-    ensures { OnOk result (out.new.items ≡ out.old.items ++ variable_text (view access.now)) }
+    ensures { Appended result out.old out.new (variable_text (view access.now)) }
 {
     append_marks(
         out,
@@ -139,7 +140,7 @@ fn append_name(out: &mut Vec<u8>, access: &Value) -> Result<(), OutOfMemory>
 
 /// Appends what an access does and at which place, if the row has this access.
 fn append_use(out: &mut Vec<u8>, row: &Value, place: usize) -> Result<(), OutOfMemory>
-    ensures { OnOk result (out.new.items ≡ out.old.items ++ use_text place (view row.now)) }
+    ensures { Appended result out.old out.new (use_text place (view row.now)) }
 {
     match access_in(row, place) {
         Some(access) => append_use_of(out, access),
@@ -149,7 +150,7 @@ fn append_use(out: &mut Vec<u8>, row: &Value, place: usize) -> Result<(), OutOfM
 
 /// Appends what this access does and at which place.
 fn append_use_of(out: &mut Vec<u8>, access: &Value) -> Result<(), OutOfMemory>
-    ensures { OnOk result (out.new.items ≡ out.old.items ++ use_of (view access.now)) }
+    ensures { Appended result out.old out.new (use_of (view access.now)) }
 {
     append_marks(
         out,
@@ -183,7 +184,7 @@ fn place_in(location: &[u8]) -> &[u8]
 
 /// Appends the outcome of a row with this rank.
 fn append_outcome(out: &mut Vec<u8>, rank: u8, row: &Value) -> Result<(), OutOfMemory>
-    ensures { OnOk result (out.new.items ≡ out.old.items ++ outcome_text rank (view row.now)) }
+    ensures { Appended result out.old out.new (outcome_text rank (view row.now)) }
 {
     match rank {
         0 => append_race(out, row),
@@ -194,7 +195,7 @@ fn append_outcome(out: &mut Vec<u8>, rank: u8, row: &Value) -> Result<(), OutOfM
 
 /// Appends how a race is shown, and the size of its schedule.
 fn append_race(out: &mut Vec<u8>, row: &Value) -> Result<(), OutOfMemory>
-    ensures { OnOk result (out.new.items ≡ out.old.items ++ race_text (view row.now)) }
+    ensures { Appended result out.old out.new (race_text (view row.now)) }
 {
     append_how(out, text_of(row, "how"))?;
     append_sizes(out, row)
@@ -202,21 +203,21 @@ fn append_race(out: &mut Vec<u8>, row: &Value) -> Result<(), OutOfMemory>
 
 /// Appends how a race is shown, as the row says it.
 fn append_how(out: &mut Vec<u8>, how: &[u8]) -> Result<(), OutOfMemory>
-    ensures { OnOk result (out.new.items ≡ out.old.items ++ escaped how.now) }
+    ensures { Appended result out.old out.new (escaped how.now) }
 {
     append_marks(out, &[Mark::Text(how)])
 }
 
 /// Appends the size of the row's schedule.
 fn append_sizes(out: &mut Vec<u8>, row: &Value) -> Result<(), OutOfMemory>
-    ensures { OnOk result (out.new.items ≡ out.old.items ++ sizes_text (view row.now)) }
+    ensures { Appended result out.old out.new (sizes_text (view row.now)) }
 {
     append_size(out, number_of(row, "events"), number_of(row, "threads"))
 }
 
 /// Appends the size of a schedule: its events and threads.
 fn append_size(out: &mut Vec<u8>, events: u64, threads: u64) -> Result<(), OutOfMemory>
-    ensures { OnOk result (out.new.items ≡ out.old.items ++ size_text events threads) }
+    ensures { Appended result out.old out.new (size_text events threads) }
 {
     append_marks(
         out,
@@ -231,7 +232,7 @@ fn append_size(out: &mut Vec<u8>, events: u64, threads: u64) -> Result<(), OutOf
 
 /// Appends how many pairs of events were tried.
 fn append_undecided(out: &mut Vec<u8>, row: &Value) -> Result<(), OutOfMemory>
-    ensures { OnOk result (out.new.items ≡ out.old.items ++ undecided_text (view row.now)) }
+    ensures { Appended result out.old out.new (undecided_text (view row.now)) }
 {
     append_marks(
         out,

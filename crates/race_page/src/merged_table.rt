@@ -1,5 +1,6 @@
 //! The table of the two accesses of a row of a merged page.
-ghost use Rattle.std.specs.Prelude.{◌≡◌, ◌++◌, OnOk};
+ghost use Rattle.std.specs.Prelude.{◌≡◌};
+ghost use Rattle.rapid_text.specs.Appended.{Appended};
 ghost use Rattle.serde_json.specs.Find.{as_str};
 ghost use Rattle.serde_json.specs.View.{view};
 ghost use Rattle.race_parts.specs.Texts.{text_in};
@@ -26,7 +27,7 @@ const TABLE_END: &[u8] = b"</tbody>
 
 /// Appends the table of both accesses.
 pub(crate) fn append_table(out: &mut Vec<u8>, row: &Value) -> Result<(), OutOfMemory>
-    ensures { OnOk result (out.new.items ≡ out.old.items ++ table_text (view row.now)) }
+    ensures { Appended result out.old out.new (table_text (view row.now)) }
 {
     append_marks(out, &[Mark::Own(TABLE_BEGIN)])?;
     append_access(out, row, 0)?;
@@ -36,7 +37,7 @@ pub(crate) fn append_table(out: &mut Vec<u8>, row: &Value) -> Result<(), OutOfMe
 
 /// Appends the table line of an access, 0 or 1, if the row has it.
 fn append_access(out: &mut Vec<u8>, row: &Value, place: usize) -> Result<(), OutOfMemory>
-    ensures { OnOk result (out.new.items ≡ out.old.items ++ access_row place (view row.now)) }
+    ensures { Appended result out.old out.new (access_row place (view row.now)) }
 {
     match access_in(row, place) {
         Some(access) => append_line(out, access),
@@ -46,7 +47,7 @@ fn append_access(out: &mut Vec<u8>, row: &Value, place: usize) -> Result<(), Out
 
 /// Appends the table line of an access.
 fn append_line(out: &mut Vec<u8>, access: &Value) -> Result<(), OutOfMemory>
-    ensures { OnOk result (out.new.items ≡ out.old.items ++ line_text (view access.now)) }
+    ensures { Appended result out.old out.new (line_text (view access.now)) }
 {
     append_event(out, access)?;
     append_held(out, access)?;
@@ -55,7 +56,7 @@ fn append_line(out: &mut Vec<u8>, access: &Value) -> Result<(), OutOfMemory>
 
 /// Appends the locks that the thread holds before the access.
 fn append_held(out: &mut Vec<u8>, access: &Value) -> Result<(), OutOfMemory>
-    ensures { OnOk result (out.new.items ≡ out.old.items ++ locks_text (view access.now)) }
+    ensures { Appended result out.old out.new (locks_text (view access.now)) }
 {
     append_locks(out, locks_of(access))?;
     Ok(())
@@ -63,7 +64,7 @@ fn append_held(out: &mut Vec<u8>, access: &Value) -> Result<(), OutOfMemory>
 
 /// Appends the table line of an access, up to the locks.
 fn append_event(out: &mut Vec<u8>, access: &Value) -> Result<(), OutOfMemory>
-    ensures { OnOk result (out.new.items ≡ out.old.items ++ event_text (view access.now)) }
+    ensures { Appended result out.old out.new (event_text (view access.now)) }
 {
     append_number(out, access)?;
     append_begin(out, access)?;
@@ -72,7 +73,7 @@ fn append_event(out: &mut Vec<u8>, access: &Value) -> Result<(), OutOfMemory>
 
 /// Appends the number of the event.
 fn append_number(out: &mut Vec<u8>, access: &Value) -> Result<(), OutOfMemory>
-    ensures { OnOk result (out.new.items ≡ out.old.items ++ number_text (view access.now)) }
+    ensures { Appended result out.old out.new (number_text (view access.now)) }
 {
     append_marks(
         out,
@@ -86,7 +87,7 @@ fn append_number(out: &mut Vec<u8>, access: &Value) -> Result<(), OutOfMemory>
 
 /// Appends the thread and the operation.
 fn append_begin(out: &mut Vec<u8>, access: &Value) -> Result<(), OutOfMemory>
-    ensures { OnOk result (out.new.items ≡ out.old.items ++ begin_text (view access.now)) }
+    ensures { Appended result out.old out.new (begin_text (view access.now)) }
 {
     append_marks(
         out,
@@ -100,7 +101,7 @@ fn append_begin(out: &mut Vec<u8>, access: &Value) -> Result<(), OutOfMemory>
 
 /// Appends the variable and the location.
 fn append_end(out: &mut Vec<u8>, access: &Value) -> Result<(), OutOfMemory>
-    ensures { OnOk result (out.new.items ≡ out.old.items ++ end_text (view access.now)) }
+    ensures { Appended result out.old out.new (end_text (view access.now)) }
 {
     append_marks(
         out,
@@ -129,7 +130,7 @@ fn locks_of(access: &Value) -> &[Value]
 
 /// Appends the names of the locks, or `none`.
 fn append_locks(out: &mut Vec<u8>, locks: &[Value]) -> Result<(), OutOfMemory>
-    ensures { OnOk result (out.new.items ≡ out.old.items ++ locks_cell locks.now) }
+    ensures { Appended result out.old out.new (locks_cell locks.now) }
 {
     if locks.is_empty() {
         append_marks(out, &[Mark::Own(b"none")])
@@ -140,7 +141,7 @@ fn append_locks(out: &mut Vec<u8>, locks: &[Value]) -> Result<(), OutOfMemory>
 
 /// Appends the name of each lock.
 fn append_names(out: &mut Vec<u8>, locks: &[Value]) -> Result<(), OutOfMemory>
-    ensures { OnOk result (out.new.items ≡ out.old.items ++ lock_names locks.now) }
+    ensures { Appended result out.old out.new (lock_names locks.now) }
 {
     for lock in locks {
         append_lock(out, lock)?;
@@ -150,7 +151,7 @@ fn append_names(out: &mut Vec<u8>, locks: &[Value]) -> Result<(), OutOfMemory>
 
 /// Appends the name of a lock.
 fn append_lock(out: &mut Vec<u8>, lock: &Value) -> Result<(), OutOfMemory>
-    ensures { OnOk result (out.new.items ≡ out.old.items ++ lock_text (view lock.now)) }
+    ensures { Appended result out.old out.new (lock_text (view lock.now)) }
 {
     append_marks(
         out,

@@ -1,6 +1,7 @@
 //! In how many parts a pair of a merged page is a race, undecided, apart, or not met.
-ghost use Rattle.std.specs.Prelude.{◌≡◌, ◌-◌, ◌++◌, OnOk};
+ghost use Rattle.std.specs.Prelude.{◌≡◌, ◌-◌};
 ghost use Rattle.race_page.specs.MergedTally.{counts_text, part_text, tally_text, unmet_of, unmet_text};
+ghost use Rattle.rapid_text.specs.Appended.{Appended};
 
 use crate::marks::{Mark, append_marks};
 use race_parts::Pair;
@@ -12,7 +13,7 @@ pub(crate) fn append_tally(
     parts: usize,
     pair: Pair<'_>,
 ) -> Result<(), OutOfMemory>
-    ensures { OnOk result (out.new.items ≡ out.old.items ++ tally_text parts pair.entry) }
+    ensures { Appended result out.old out.new (tally_text parts pair.entry) }
 {
     append_counts(out, pair)?;
     append_unmet_of(out, parts, pair)?;
@@ -21,14 +22,14 @@ pub(crate) fn append_tally(
 
 /// Appends in how many of `parts` parts the pair is not met.
 fn append_unmet_of(out: &mut Vec<u8>, parts: usize, pair: Pair<'_>) -> Result<(), OutOfMemory>
-    ensures { OnOk result (out.new.items ≡ out.old.items ++ unmet_of parts pair.entry) }
+    ensures { Appended result out.old out.new (unmet_of parts pair.entry) }
 {
     append_unmet(out, unmet_in(parts, pair))
 }
 
 /// Appends in how many parts the pair is a race, undecided, or apart.
 fn append_counts(out: &mut Vec<u8>, pair: Pair<'_>) -> Result<(), OutOfMemory>
-    ensures { OnOk result (out.new.items ≡ out.old.items ++ counts_text pair.entry) }
+    ensures { Appended result out.old out.new (counts_text pair.entry) }
 {
     append_marks(
         out,
@@ -55,7 +56,7 @@ fn unmet_in(parts: usize, pair: Pair<'_>) -> usize
 
 /// Appends in how many parts a pair is not met.
 fn append_unmet(out: &mut Vec<u8>, unmet: usize) -> Result<(), OutOfMemory>
-    ensures { OnOk result (out.new.items ≡ out.old.items ++ unmet_text unmet) }
+    ensures { Appended result out.old out.new (unmet_text unmet) }
 {
     append_marks(
         out,
@@ -69,7 +70,7 @@ fn append_unmet(out: &mut Vec<u8>, unmet: usize) -> Result<(), OutOfMemory>
 
 /// Appends the name of the part that has the row, and ends the row.
 fn append_part(out: &mut Vec<u8>, name: &[u8]) -> Result<(), OutOfMemory>
-    ensures { OnOk result (out.new.items ≡ out.old.items ++ part_text name.now) }
+    ensures { Appended result out.old out.new (part_text name.now) }
 {
     append_marks(
         out,

@@ -1,5 +1,6 @@
 //! What follows the first line of a page: pieces, and rows.
 ghost use Rattle.std.specs.Prelude.{◌≡◌, ◌++◌, ◌∷◌, [], OnOk, List, ℕ, codes, decimal};
+ghost use Rattle.rapid_text.specs.Appended.{Appended};
 ghost use Rattle.schedule.specs.Reordering.{IsCorrectReordering};
 ghost use Rattle.schedule.specs.Shows.{Shows};
 ghost use Rattle.race_page.specs.Own.{row_begin, row_text, seen_text};
@@ -172,7 +173,7 @@ fn append_drawn(
 
 /// Appends a row with these bytes in it.
 fn append_row(out: &mut Vec<u8>, shown: Shown, bytes: &[u8]) -> Result<(), OutOfMemory>
-    ensures { OnOk result (out.new.items ≡ out.old.items ++ row_text shown bytes.now) }
+    ensures { Appended result out.old out.new (row_text shown bytes.now) }
 {
     append_head(out, shown)?;
     out.extend_from_slice(bytes)?;
@@ -182,8 +183,7 @@ fn append_row(out: &mut Vec<u8>, shown: Shown, bytes: &[u8]) -> Result<(), OutOf
 
 /// Appends the beginning of a row, up to the word beside it.
 fn append_head(out: &mut Vec<u8>, shown: Shown) -> Result<(), OutOfMemory>
-    ensures { OnOk result (out.new.items ≡ out.old.items
-        ++ (row_begin shown.sort ++ decimal shown.first ++ codes "-" ++ decimal shown.second ++ codes "\">\n<summary>" ++ seen_text shown.seen)) }
+    ensures { Appended result out.old out.new (row_begin shown.sort ++ decimal shown.first ++ codes "-" ++ decimal shown.second ++ codes "\">\n<summary>" ++ seen_text shown.seen) }
 {
     out.extend_from_slice(row_begin_of(shown.sort))?;
     append_number(out, shown.first)?;
@@ -196,7 +196,7 @@ fn append_head(out: &mut Vec<u8>, shown: Shown) -> Result<(), OutOfMemory>
 
 /// Appends a number in decimal digits.
 fn append_number(out: &mut Vec<u8>, number: u32) -> Result<(), OutOfMemory>
-    ensures { OnOk result (out.new.items ≡ out.old.items ++ decimal number) }
+    ensures { Appended result out.old out.new (decimal number) }
 {
     let mut digits = Buffer::new();
     let written = digits.format(number);

@@ -1,7 +1,8 @@
 //! The only writer of a page's pieces. It writes the page's own markup, a closed list, or a number, or an escaped text.
-ghost use Rattle.std.specs.Prelude.{◌≡◌, ◌++◌, OnOk, OnErr};
+ghost use Rattle.std.specs.Prelude.{◌≡◌, OnErr};
 ghost use Rattle.markup.specs.Escaped.{escaped};
 ghost use Rattle.race_page.specs.Pages.{IsPiece};
+ghost use Rattle.rapid_text.specs.Appended.{Appended};
 
 use crate::own::{Part, Tag, begin_of, bytes_of, end_of};
 use itoa::Buffer;
@@ -143,7 +144,7 @@ impl Piece {
 
 /// Appends a text, escaped so that it is no markup.
 fn append_text(out: &mut Vec<u8>, text: &[u8]) -> Result<(), OutOfMemory>
-    ensures ok { OnOk result (out.new.items ≡ out.old.items ++ escaped text.now) }
+    ensures ok { Appended result out.old out.new (escaped text.now) }
     ensures err { OnErr result (out.new.items ≡ out.old.items) }
 {
     escape(text, out)?;

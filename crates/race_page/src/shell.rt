@@ -1,7 +1,8 @@
 //! A file name as one word of a shell.
-ghost use Rattle.std.specs.Prelude.{◌≡◌, ◌++◌, IfOk, OnErr, OnOk, flat_map};
+ghost use Rattle.std.specs.Prelude.{◌≡◌, IfOk, OnErr, flat_map};
 ghost use Rattle.std.specs.List.{list_all};
 ghost use Rattle.race_page.specs.Shell.{bare_or_quoted, folder_text, is_letter, is_plain, quoted_byte, quoted_text, shell_word};
+ghost use Rattle.rapid_text.specs.Appended.{Appended};
 
 use rapid_text::OutOfMemory;
 use std::alloc::Global;
@@ -9,7 +10,7 @@ use std::alloc::Global;
 /// Appends a name as one word of a shell, quoted if it has a byte that means something to the shell. A name that begins
 /// with a dash gets `./` before it, so that it is no option. If memory runs out, `out` stays as it was.
 pub fn append_shell_word(out: &mut Vec<u8>, name: &[u8]) -> Result<(), OutOfMemory>
-    ensures ok { OnOk result (out.new.items ≡ out.old.items ++ shell_word name.now) }
+    ensures ok { Appended result out.old out.new (shell_word name.now) }
     ensures err { OnErr result (out.new.items ≡ out.old.items) }
 {
     let word = word_of(*out.allocator(), name)?;
@@ -29,7 +30,7 @@ pub(crate) fn word_of(alloc: Global, name: &[u8]) -> Result<Vec<u8>, OutOfMemory
 
 /// Appends `./` if the name begins with a dash.
 fn append_folder(word: &mut Vec<u8>, name: &[u8]) -> Result<(), OutOfMemory>
-    ensures { OnOk result (word.new.items ≡ word.old.items ++ folder_text name.now) }
+    ensures { Appended result word.old word.new (folder_text name.now) }
 {
     if name.starts_with(b"-") {
         word.extend_from_slice(b"./")?;
@@ -39,7 +40,7 @@ fn append_folder(word: &mut Vec<u8>, name: &[u8]) -> Result<(), OutOfMemory>
 
 /// Appends a name, in quotes if it is empty or has a byte that means something to the shell.
 fn append_name(word: &mut Vec<u8>, name: &[u8]) -> Result<(), OutOfMemory>
-    ensures { OnOk result (word.new.items ≡ word.old.items ++ bare_or_quoted name.now) }
+    ensures { Appended result word.old word.new (bare_or_quoted name.now) }
 {
     if !name.is_empty() && are_plain(name) {
         append_bytes(word, name)
@@ -50,7 +51,7 @@ fn append_name(word: &mut Vec<u8>, name: &[u8]) -> Result<(), OutOfMemory>
 
 /// Appends a name in quotes.
 fn append_quoted(word: &mut Vec<u8>, name: &[u8]) -> Result<(), OutOfMemory>
-    ensures { OnOk result (word.new.items ≡ word.old.items ++ quoted_text name.now) }
+    ensures { Appended result word.old word.new (quoted_text name.now) }
 {
     append_bytes(word, b"'")?;
     append_within(word, name)?;
@@ -59,7 +60,7 @@ fn append_quoted(word: &mut Vec<u8>, name: &[u8]) -> Result<(), OutOfMemory>
 
 /// Appends what comes between the quotes.
 fn append_within(word: &mut Vec<u8>, name: &[u8]) -> Result<(), OutOfMemory>
-    ensures { OnOk result (word.new.items ≡ word.old.items ++ flat_map quoted_byte name.now) }
+    ensures { Appended result word.old word.new (flat_map quoted_byte name.now) }
 {
     for byte in name {
         append_byte(word, *byte)?;
@@ -69,7 +70,7 @@ fn append_within(word: &mut Vec<u8>, name: &[u8]) -> Result<(), OutOfMemory>
 
 /// Appends a byte between quotes. A quote ends the quotes, comes after a backslash, and begins them again: `'\''`.
 fn append_byte(word: &mut Vec<u8>, byte: u8) -> Result<(), OutOfMemory>
-    ensures { OnOk result (word.new.items ≡ word.old.items ++ quoted_byte byte) }
+    ensures { Appended result word.old word.new (quoted_byte byte) }
 {
     if byte == b'\'' {
         append_bytes(word, b"'\\''")
@@ -80,7 +81,7 @@ fn append_byte(word: &mut Vec<u8>, byte: u8) -> Result<(), OutOfMemory>
 
 /// Appends these bytes.
 fn append_bytes(word: &mut Vec<u8>, bytes: &[u8]) -> Result<(), OutOfMemory>
-    ensures { OnOk result (word.new.items ≡ word.old.items ++ bytes.now) }
+    ensures { Appended result word.old word.new bytes.now }
 {
     word.extend_from_slice(bytes)?;
     Ok(())

@@ -4,6 +4,7 @@ ghost use Rattle.race_triage.specs.declared.verdicts.Verdict.{Verdict as Told};
 ghost use Rattle.race_page.specs.Pages.{IsEnd, IsPage, left_of};
 ghost use Rattle.race_page.specs.declared.merged_head.LeftOut.{LeftOut};
 ghost use Rattle.race_page.specs.Rows.{all_rows, followed_in, rows_of, sort_rows};
+ghost use Rattle.rapid_text.specs.Appended.{Appended, AppendedOne};
 
 use crate::about::About;
 use crate::ending::append_end;
@@ -43,9 +44,7 @@ pub fn page_text(
     // What is appended is a page with a row for each chosen verdict, of each sort the first 2,000, and no others. The
     // first line has the number of all chosen races, also of those without a row. It also has the file's name, and what
     // was left out.
-    ensures ok { OnOk result ((text : List ℕ) × (out.new.items ≡ out.old.items ++ text)
-        × IsPage analysis.now verdicts.now.verdicts.items chosen.now.races (left_of chosen.now) about.entry.name.now text
-        (all_rows analysis.now (followed_in about.entry) apart chosen.now.verdicts.items)) }
+    ensures ok { AppendedOne result out.old out.new (λ text. IsPage analysis.now verdicts.now.verdicts.items chosen.now.races (left_of chosen.now) about.entry.name.now text (all_rows analysis.now (followed_in about.entry) apart chosen.now.verdicts.items)) }
     ensures err { OnErr result (out.new.items ≡ out.old.items) }
 {
     let mut page = Page::new(*out.allocator(), analysis);
@@ -62,9 +61,7 @@ fn append_page(
     out: &mut Vec<u8>,
 ) -> Result<(), OutOfMemory>
     requires { page.old.rows ≡ [] }
-    ensures ok { OnOk result ((text : List ℕ) × (out.new.items ≡ out.old.items ++ text)
-        × IsPage page.old.trace verdicts.now.verdicts.items chosen.now.races (left_of chosen.now) about.entry.name.now text
-        (all_rows page.old.trace (followed_in about.entry) apart chosen.now.verdicts.items)) }
+    ensures ok { AppendedOne result out.old out.new (λ text. IsPage page.old.trace verdicts.now.verdicts.items chosen.now.races (left_of chosen.now) about.entry.name.now text (all_rows page.old.trace (followed_in about.entry) apart chosen.now.verdicts.items)) }
     ensures err { OnErr result (out.new.items ≡ out.old.items) }
 {
     write_page(page, chosen.verdicts.as_slice(), apart, about)?;
@@ -125,7 +122,7 @@ fn append_all(
     second: &[u8],
     third: &[u8],
 ) -> Result<(), OutOfMemory>
-    ensures ok { OnOk result (out.new.items ≡ out.old.items ++ (first.now ++ second.now ++ third.now)) }
+    ensures ok { Appended result out.old out.new (first.now ++ second.now ++ third.now) }
     ensures err { OnErr result (out.new.items ≡ out.old.items) }
 {
     out.reserve((first.len() + second.len()).saturating_add(third.len()))?;

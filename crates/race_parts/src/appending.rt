@@ -1,5 +1,6 @@
 //! Appends words, numbers and counts to a text.
-ghost use Rattle.std.specs.Prelude.{◌≡◌, ◌++◌, OnOk};
+ghost use Rattle.std.specs.Prelude.{◌++◌};
+ghost use Rattle.rapid_text.specs.Appended.{Appended};
 ghost use Rattle.serde_json.specs.View.{view};
 ghost use Rattle.race_parts.specs.Members.{said_number};
 ghost use Rattle.race_parts.specs.Texts.{count_line, named_text, number_text, shown};
@@ -11,7 +12,7 @@ use serde_json::Value;
 
 /// Appends the words.
 pub(crate) fn append_words(out: &mut Vec<u8>, words: &[u8]) -> Result<(), OutOfMemory>
-    ensures { OnOk result (out.new.items ≡ out.old.items ++ words.now) }
+    ensures { Appended result out.old out.new words.now }
 {
     out.extend_from_slice(words)?;
     Ok(())
@@ -19,7 +20,7 @@ pub(crate) fn append_words(out: &mut Vec<u8>, words: &[u8]) -> Result<(), OutOfM
 
 /// Appends a blank and a number.
 pub(crate) fn append_number(out: &mut Vec<u8>, number: u64) -> Result<(), OutOfMemory>
-    ensures { OnOk result (out.new.items ≡ out.old.items ++ number_text number) }
+    ensures { Appended result out.old out.new (number_text number) }
 {
     let mut digits = Buffer::new();
     append_words(out, b" ")?;
@@ -29,7 +30,7 @@ pub(crate) fn append_number(out: &mut Vec<u8>, number: u64) -> Result<(), OutOfM
 
 /// Appends a word, a blank, the number, and a line feed.
 pub(crate) fn append_count(out: &mut Vec<u8>, word: &[u8], number: u64) -> Result<(), OutOfMemory>
-    ensures { OnOk result (out.new.items ≡ out.old.items ++ count_line word.now number) }
+    ensures { Appended result out.old out.new (count_line word.now number) }
 {
     append_words(out, word)?;
     append_number(out, number)?;
@@ -39,7 +40,7 @@ pub(crate) fn append_count(out: &mut Vec<u8>, word: &[u8], number: u64) -> Resul
 
 /// Appends bytes of a part. Prints a line feed among them as `?`.
 pub(crate) fn append_shown(out: &mut Vec<u8>, bytes: &[u8]) -> Result<(), OutOfMemory>
-    ensures { OnOk result (out.new.items ≡ out.old.items ++ shown bytes.now) }
+    ensures { Appended result out.old out.new (shown bytes.now) }
 {
     for byte in bytes {
         out.push(if *byte == b'\n' { b'?' } else { *byte })?;
@@ -54,7 +55,7 @@ pub(crate) fn append_field(
     value: &Value,
     name: &str,
 ) -> Result<(), OutOfMemory>
-    ensures { OnOk result (out.new.items ≡ out.old.items ++ (word.now ++ number_text (said_number name.now (view value.now)))) }
+    ensures { Appended result out.old out.new (word.now ++ number_text (said_number name.now (view value.now))) }
 {
     append_words(out, word)?;
     append_number(out, number_of(value, name))?;
@@ -63,7 +64,7 @@ pub(crate) fn append_field(
 
 /// Appends a word, a blank, and a number.
 pub(crate) fn append_named(out: &mut Vec<u8>, word: &[u8], number: usize) -> Result<(), OutOfMemory>
-    ensures { OnOk result (out.new.items ≡ out.old.items ++ named_text word.now number) }
+    ensures { Appended result out.old out.new (named_text word.now number) }
 {
     append_words(out, word)?;
     append_number(out, number as u64)?;

@@ -1,5 +1,6 @@
 //! Prints a row as a block of text, as `triage` prints it.
-ghost use Rattle.std.specs.Prelude.{◌≡◌, ◌++◌, OnOk};
+ghost use Rattle.std.specs.Prelude.{◌≡◌};
+ghost use Rattle.rapid_text.specs.Appended.{Appended};
 ghost use Rattle.serde_json.specs.Find.{as_str};
 ghost use Rattle.serde_json.specs.View.{view};
 ghost use Rattle.race_parts.specs.Texts.{access_text, apart_text, begin_text, end_text, event_text, head_text, hold_line, hold_lines, holds_text, how_text, race_text, row_text, sizes_text, text_in, undecided_text, words_text};
@@ -25,7 +26,7 @@ fn holds_of(access: &Value) -> &[Value]
 
 /// Appends a line for each lock that the thread holds at the access.
 fn append_holds(out: &mut Vec<u8>, access: &Value) -> Result<(), OutOfMemory>
-    ensures { OnOk result (out.new.items ≡ out.old.items ++ holds_text (view access.now)) }
+    ensures { Appended result out.old out.new (holds_text (view access.now)) }
 {
     append_hold_lines(out, holds_of(access))?;
     Ok(())
@@ -33,7 +34,7 @@ fn append_holds(out: &mut Vec<u8>, access: &Value) -> Result<(), OutOfMemory>
 
 /// Appends a line for each of the locks.
 fn append_hold_lines(out: &mut Vec<u8>, locks: &[Value]) -> Result<(), OutOfMemory>
-    ensures { OnOk result (out.new.items ≡ out.old.items ++ hold_lines locks.now) }
+    ensures { Appended result out.old out.new (hold_lines locks.now) }
 {
     for lock in locks {
         append_hold_line(out, lock)?;
@@ -43,7 +44,7 @@ fn append_hold_lines(out: &mut Vec<u8>, locks: &[Value]) -> Result<(), OutOfMemo
 
 /// Appends the line of a lock that the thread holds.
 fn append_hold_line(out: &mut Vec<u8>, lock: &Value) -> Result<(), OutOfMemory>
-    ensures { OnOk result (out.new.items ≡ out.old.items ++ hold_line (view lock.now)) }
+    ensures { Appended result out.old out.new (hold_line (view lock.now)) }
 {
     append_words(out, b"    holds ")?;
     append_shown(out, lock_name(lock))?;
@@ -63,7 +64,7 @@ fn lock_name(lock: &Value) -> &[u8]
 
 /// Appends the beginning of the line of an access: its thread and its operation.
 fn append_begin(out: &mut Vec<u8>, access: &Value) -> Result<(), OutOfMemory>
-    ensures { OnOk result (out.new.items ≡ out.old.items ++ begin_text (view access.now)) }
+    ensures { Appended result out.old out.new (begin_text (view access.now)) }
 {
     append_words(out, b"  ")?;
     append_shown(out, text_of(access, "thread"))?;
@@ -74,7 +75,7 @@ fn append_begin(out: &mut Vec<u8>, access: &Value) -> Result<(), OutOfMemory>
 
 /// Appends the end of the line of an access: its variable and its location.
 fn append_end(out: &mut Vec<u8>, access: &Value) -> Result<(), OutOfMemory>
-    ensures { OnOk result (out.new.items ≡ out.old.items ++ end_text (view access.now)) }
+    ensures { Appended result out.old out.new (end_text (view access.now)) }
 {
     append_words(out, b"(")?;
     append_shown(out, text_of(access, "variable"))?;
@@ -86,7 +87,7 @@ fn append_end(out: &mut Vec<u8>, access: &Value) -> Result<(), OutOfMemory>
 
 /// Appends the line of an access.
 fn append_event(out: &mut Vec<u8>, access: &Value) -> Result<(), OutOfMemory>
-    ensures { OnOk result (out.new.items ≡ out.old.items ++ event_text (view access.now)) }
+    ensures { Appended result out.old out.new (event_text (view access.now)) }
 {
     append_begin(out, access)?;
     append_end(out, access)?;
@@ -96,7 +97,7 @@ fn append_event(out: &mut Vec<u8>, access: &Value) -> Result<(), OutOfMemory>
 /// Appends the access with this index, 0 or 1, and the locks that its thread holds. Appends nothing if the row has no
 /// such access.
 fn append_access(out: &mut Vec<u8>, row: &Value, place: usize) -> Result<(), OutOfMemory>
-    ensures { OnOk result (out.new.items ≡ out.old.items ++ access_text place (view row.now)) }
+    ensures { Appended result out.old out.new (access_text place (view row.now)) }
 {
     match access_in(row, place) {
         Some(access) => {
@@ -110,7 +111,7 @@ fn append_access(out: &mut Vec<u8>, row: &Value, place: usize) -> Result<(), Out
 
 /// Appends a word and the event numbers of the two accesses.
 fn append_pair(out: &mut Vec<u8>, word: &[u8], row: &Value) -> Result<(), OutOfMemory>
-    ensures { OnOk result (out.new.items ≡ out.old.items ++ words_text word.now (view row.now)) }
+    ensures { Appended result out.old out.new (words_text word.now (view row.now)) }
 {
     append_words(out, word)?;
     append_number(out, event_in(row, 0))?;
@@ -120,7 +121,7 @@ fn append_pair(out: &mut Vec<u8>, word: &[u8], row: &Value) -> Result<(), OutOfM
 
 /// Appends the word that says how a schedule shows the race.
 fn append_how(out: &mut Vec<u8>, row: &Value) -> Result<(), OutOfMemory>
-    ensures { OnOk result (out.new.items ≡ out.old.items ++ how_text (view row.now)) }
+    ensures { Appended result out.old out.new (how_text (view row.now)) }
 {
     append_words(out, b" ")?;
     append_shown(out, text_of(row, "how"))?;
@@ -129,7 +130,7 @@ fn append_how(out: &mut Vec<u8>, row: &Value) -> Result<(), OutOfMemory>
 
 /// Appends the sizes of a race: its pairs, variables, events and threads.
 fn append_sizes(out: &mut Vec<u8>, row: &Value) -> Result<(), OutOfMemory>
-    ensures { OnOk result (out.new.items ≡ out.old.items ++ sizes_text (view row.now)) }
+    ensures { Appended result out.old out.new (sizes_text (view row.now)) }
 {
     append_field(out, b" pairs", row, "pairs")?;
     append_field(out, b" variables", row, "variables")?;
@@ -140,7 +141,7 @@ fn append_sizes(out: &mut Vec<u8>, row: &Value) -> Result<(), OutOfMemory>
 
 /// Appends the first line of a race, without the line feed.
 fn append_race(out: &mut Vec<u8>, row: &Value) -> Result<(), OutOfMemory>
-    ensures { OnOk result (out.new.items ≡ out.old.items ++ race_text (view row.now)) }
+    ensures { Appended result out.old out.new (race_text (view row.now)) }
 {
     append_pair(out, b"race", row)?;
     append_how(out, row)?;
@@ -150,7 +151,7 @@ fn append_race(out: &mut Vec<u8>, row: &Value) -> Result<(), OutOfMemory>
 
 /// Appends the first line of an undecided row, without the line feed.
 fn append_undecided(out: &mut Vec<u8>, row: &Value) -> Result<(), OutOfMemory>
-    ensures { OnOk result (out.new.items ≡ out.old.items ++ undecided_text (view row.now)) }
+    ensures { Appended result out.old out.new (undecided_text (view row.now)) }
 {
     append_pair(out, b"undecided", row)?;
     append_field(out, b" pairs", row, "pairs")?;
@@ -161,7 +162,7 @@ fn append_undecided(out: &mut Vec<u8>, row: &Value) -> Result<(), OutOfMemory>
 
 /// Appends the first line of an apart row, without the line feed.
 fn append_apart(out: &mut Vec<u8>, row: &Value) -> Result<(), OutOfMemory>
-    ensures { OnOk result (out.new.items ≡ out.old.items ++ apart_text (view row.now)) }
+    ensures { Appended result out.old out.new (apart_text (view row.now)) }
 {
     append_pair(out, b"apart", row)?;
     append_field(out, b" pairs", row, "pairs")?;
@@ -170,7 +171,7 @@ fn append_apart(out: &mut Vec<u8>, row: &Value) -> Result<(), OutOfMemory>
 
 /// Appends the first line of a row, without the line feed.
 fn append_head(out: &mut Vec<u8>, row: &Value) -> Result<(), OutOfMemory>
-    ensures { OnOk result (out.new.items ≡ out.old.items ++ head_text (view row.now)) }
+    ensures { Appended result out.old out.new (head_text (view row.now)) }
 {
     if is_kind(row, "race") {
         append_race(out, row)
@@ -183,7 +184,7 @@ fn append_head(out: &mut Vec<u8>, row: &Value) -> Result<(), OutOfMemory>
 
 /// Appends a row as a block of text.
 pub(crate) fn append_row(out: &mut Vec<u8>, row: &Value) -> Result<(), OutOfMemory>
-    ensures { OnOk result (out.new.items ≡ out.old.items ++ row_text (view row.now)) }
+    ensures { Appended result out.old out.new (row_text (view row.now)) }
 {
     append_head(out, row)?;
     append_words(out, b"\n")?;

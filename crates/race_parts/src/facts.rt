@@ -1,5 +1,6 @@
 //! Reads a line of a part: its kind, and the facts that its sort key needs.
 ghost use Rattle.std.specs.Prelude.{◌≡◌, List, ℕ, IfOk, IfSome, IsUtf8, None};
+ghost use Rattle.rapid_text.specs.Appended.{IfFound};
 ghost use Rattle.serde_json.specs.Data.{Data};
 ghost use Rattle.serde_json.specs.Read.{read};
 ghost use Rattle.serde_json.specs.View.{view};
@@ -28,7 +29,7 @@ pub enum Fact<'a> {
 
 /// Parses a text as JSON. Returns None if it is not JSON.
 pub(crate) fn value_of(alloc: Global, text: &[u8]) -> Result<Option<Value>, OutOfMemory>
-    ensures some { IfOk result (λ found. IfSome found (λ value. Tells text.now (view value))) }
+    ensures some { IfFound result (λ value. Tells text.now (view value)) }
     ensures none { IfOk result (λ found. found ≡ None → IsUtf8 text.now → read text.now ≡ None) }
 {
     match Value::from_slice(alloc, text) {
@@ -45,7 +46,7 @@ pub(crate) fn value_of(alloc: Global, text: &[u8]) -> Result<Option<Value>, OutO
 
 /// Reads a line. Returns None if it is not JSON.
 fn fact_of(alloc: Global, line: &[u8]) -> Result<Option<Fact<'_>>, OutOfMemory>
-    ensures some { IfOk result (λ found. IfSome found (λ fact. (d : Data) × Tells line.now d × Says fact d)) }
+    ensures some { IfFound result (λ fact. (d : Data) × Tells line.now d × Says fact d) }
     ensures none { IfOk result (λ found. found ≡ None → IsUtf8 line.now → read line.now ≡ None) }
 {
     if let Some(told) = told_in(line) {
@@ -98,8 +99,8 @@ pub(crate) fn seen_of(
     from: usize,
     line: &[u8],
 ) -> Result<Option<Seen>, OutOfMemory>
-    ensures some { IfOk result (λ found. IfSome found (λ seen. (d : Data) × Tells line.now d × (seen.mark ≡ mark_of d))) }
-    ensures row { IfOk result (λ found. IfSome found (λ seen. IfSome seen.row (λ row. (name : List ℕ) → kept_said name text.now row ≡ said_in name line.now))) }
+    ensures some { IfFound result (λ seen. (d : Data) × Tells line.now d × (seen.mark ≡ mark_of d)) }
+    ensures row { IfFound result (λ seen. IfSome seen.row (λ row. (name : List ℕ) → kept_said name text.now row ≡ said_in name line.now)) }
     ensures none { IfOk result (λ found. found ≡ None → IsUtf8 line.now → read line.now ≡ None) }
 {
     if let Some(told) = told_in(line) {

@@ -1,5 +1,6 @@
 //! Reads the lines of a text, each a JSON value.
 ghost use Rattle.std.specs.Prelude.{◌≡◌, ◌≢◌, ◌++◌, ◌∷◌, [], List, map, None, Some, IfErr, IfOk, IfSome, OnErr, OnOk, true};
+ghost use Rattle.rapid_text.specs.Appended.{Appended};
 ghost use Rattle.serde_json.specs.Data.{Data};
 ghost use Rattle.serde_json.specs.View.{view};
 ghost use Rattle.serde_json.specs.declared.value.Value.{Value as OneValue};
@@ -125,7 +126,7 @@ pub(crate) fn rows_in(
 
 /// Adds the value.
 fn keep(found: &mut Vec<Value>, value: Value) -> Result<(), OutOfMemory>
-    ensures ok { OnOk result (found.new.items ≡ found.old.items ++ value ∷ []) }
+    ensures ok { Appended result found.old found.new (value ∷ []) }
     ensures err { OnErr result (found.new.items ≡ found.old.items) }
 {
     found.push(value)?;
@@ -134,7 +135,7 @@ fn keep(found: &mut Vec<Value>, value: Value) -> Result<(), OutOfMemory>
 
 /// Adds the mark.
 fn keep_mark(marks: &mut Vec<Mark>, mark: Mark) -> Result<(), OutOfMemory>
-    ensures ok { OnOk result (marks.new.items ≡ marks.old.items ++ mark ∷ []) }
+    ensures ok { Appended result marks.old marks.new (mark ∷ []) }
 {
     marks.push(mark)?;
     Ok(())

@@ -1,5 +1,6 @@
 //! Prints a merged report as JSON, one object per line. It contains the text of each part, so it can be merged again.
-ghost use Rattle.std.specs.Prelude.{◌≡◌, ◌-◌, ◌≤◌, ◌++◌, [], IfOk, None, OnOk, drop, false, length};
+ghost use Rattle.std.specs.Prelude.{◌≡◌, ◌-◌, ◌≤◌, [], IfOk, None, OnOk, drop, false, length};
+ghost use Rattle.rapid_text.specs.Appended.{Appended};
 ghost use Rattle.serde_json.specs.Data.{object, put as with_member, string};
 ghost use Rattle.serde_json.specs.View.{members_view, view};
 ghost use Rattle.serde_json.specs.Written.{has_float};
@@ -176,7 +177,7 @@ fn pair_of(alloc: Global, cell: Cell<'_>, tally: Tally) -> Result<Value, AllocEr
 /// Appends a JSON object and a line feed. The object has no fractions.
 fn append_line(out: &mut Vec<u8>, object: &Value) -> Result<(), OutOfMemory>
     requires { has_float (view object.now) ≡ false }
-    ensures { OnOk result (out.new.items ≡ out.old.items ++ json_line (view object.now)) }
+    ensures { Appended result out.old out.new (json_line (view object.now)) }
 {
     let text = object.to_vec(*out.allocator())?;
     out.extend_from_slice(text.as_slice())?;
@@ -186,7 +187,7 @@ fn append_line(out: &mut Vec<u8>, object: &Value) -> Result<(), OutOfMemory>
 
 /// Appends the report's first line.
 fn append_merged(out: &mut Vec<u8>, parts: usize, pairs: usize) -> Result<(), OutOfMemory>
-    ensures { OnOk result (out.new.items ≡ out.old.items ++ json_line (merged_object parts pairs)) }
+    ensures { Appended result out.old out.new (json_line (merged_object parts pairs)) }
 {
     let object = merged_of(*out.allocator(), parts, pairs)?;
     append_line(out, &object)
@@ -194,7 +195,7 @@ fn append_merged(out: &mut Vec<u8>, parts: usize, pairs: usize) -> Result<(), Ou
 
 /// Appends the line of a part.
 fn append_part(out: &mut Vec<u8>, name: &[u8], bytes: &[u8]) -> Result<(), OutOfMemory>
-    ensures { OnOk result (out.new.items ≡ out.old.items ++ json_line (part_object name.now bytes.now)) }
+    ensures { Appended result out.old out.new (json_line (part_object name.now bytes.now)) }
 {
     let object = part_of(*out.allocator(), name, bytes)?;
     append_line(out, &object)
@@ -202,7 +203,7 @@ fn append_part(out: &mut Vec<u8>, name: &[u8], bytes: &[u8]) -> Result<(), OutOf
 
 /// Appends a line for each part.
 fn append_parts(out: &mut Vec<u8>, parts: &Parts) -> Result<(), OutOfMemory>
-    ensures { OnOk result (out.new.items ≡ out.old.items ++ part_lines parts.now.entries) }
+    ensures { Appended result out.old out.new (part_lines parts.now.entries) }
 {
     for (name, part) in parts {
         append_part(out, name.as_slice(), part.text.as_slice())?;
@@ -279,7 +280,7 @@ fn append_pair(
     at: usize,
 ) -> Result<(), OutOfMemory>
     requires { at ≤ length cells.now }
-    ensures { OnOk result (out.new.items ≡ out.old.items ++ json_line (pair_object_at parts cell.entry (drop at cells.now))) }
+    ensures { Appended result out.old out.new (json_line (pair_object_at parts cell.entry (drop at cells.now))) }
 {
     let object = pair_at(*out.allocator(), parts, cell, cells, at)?;
     append_line(out, &object)
@@ -287,7 +288,7 @@ fn append_pair(
 
 /// Appends a line for each pair of locations.
 fn append_pairs(out: &mut Vec<u8>, parts: usize, cells: &[Cell<'_>]) -> Result<(), OutOfMemory>
-    ensures { OnOk result (out.new.items ≡ out.old.items ++ pair_lines parts None cells.now) }
+    ensures { Appended result out.old out.new (pair_lines parts None cells.now) }
 {
     let mut before = None;
     let mut at = 0;

@@ -1,6 +1,7 @@
 //! Prints a merged report as text.
-ghost use Rattle.std.specs.Prelude.{◌≡◌, ◌≤◌, ◌++◌, IfOk, None, OnOk, drop, length, slice_get};
+ghost use Rattle.std.specs.Prelude.{◌≡◌, ◌≤◌, IfOk, None, drop, length, slice_get};
 ghost use Rattle.race_parts.specs.Texts.{block_text, blocks_text, counts_text, heads_count, merged_words, part_text, row_text_at, tallies_text, tally_text};
+ghost use Rattle.rapid_text.specs.Appended.{Appended};
 
 use crate::appending::{append_count, append_named, append_shown, append_words};
 use crate::blocks::append_row;
@@ -18,7 +19,7 @@ fn append_tally(
     undecided: usize,
     apart: usize,
 ) -> Result<(), OutOfMemory>
-    ensures { OnOk result (out.new.items ≡ out.old.items ++ tally_text parts races undecided apart) }
+    ensures { Appended result out.old out.new (tally_text parts races undecided apart) }
 {
     append_named(out, b"    parts race", races)?;
     append_named(out, b" undecided", undecided)?;
@@ -30,7 +31,7 @@ fn append_tally(
 
 /// Appends the line with a part's name.
 fn append_part(out: &mut Vec<u8>, name: &[u8]) -> Result<(), OutOfMemory>
-    ensures { OnOk result (out.new.items ≡ out.old.items ++ part_text name.now) }
+    ensures { Appended result out.old out.new (part_text name.now) }
 {
     append_words(out, b"    part ")?;
     append_shown(out, name)?;
@@ -40,7 +41,7 @@ fn append_part(out: &mut Vec<u8>, name: &[u8]) -> Result<(), OutOfMemory>
 
 /// Appends the row with this number as a block. Appends nothing if there is no such row.
 fn append_row_at(out: &mut Vec<u8>, rows: &[Row<'_>], number: usize) -> Result<(), OutOfMemory>
-    ensures { OnOk result (out.new.items ≡ out.old.items ++ row_text_at (slice_get rows.now number)) }
+    ensures { Appended result out.old out.new (row_text_at (slice_get rows.now number)) }
 {
     match rows.get(number) {
         Some(row) => append_row(out, &data_of(*out.allocator(), row.line)?),
@@ -57,7 +58,7 @@ fn append_tallies(
     at: usize,
 ) -> Result<(), OutOfMemory>
     requires { at ≤ length cells.now }
-    ensures { OnOk result (out.new.items ≡ out.old.items ++ tallies_text parts cell.entry (drop at cells.now)) }
+    ensures { Appended result out.old out.new (tallies_text parts cell.entry (drop at cells.now)) }
 {
     let counts = run_counts(cell, cells, at);
     append_tally(out, parts, counts.races, counts.undecided, counts.apart)
@@ -73,7 +74,7 @@ fn append_block(
     at: usize,
 ) -> Result<(), OutOfMemory>
     requires { at ≤ length cells.now }
-    ensures { OnOk result (out.new.items ≡ out.old.items ++ block_text parts rows.now cell.entry (drop at cells.now)) }
+    ensures { Appended result out.old out.new (block_text parts rows.now cell.entry (drop at cells.now)) }
 {
     append_row_at(out, rows, cell.number)?;
     append_tallies(out, parts, cell, cells, at)?;
@@ -89,7 +90,7 @@ fn append_blocks(
     cells: &[Cell<'_>],
     rank: u8,
 ) -> Result<(), OutOfMemory>
-    ensures { OnOk result (out.new.items ≡ out.old.items ++ blocks_text parts rows.now rank None cells.now) }
+    ensures { Appended result out.old out.new (blocks_text parts rows.now rank None cells.now) }
 {
     let mut before = None;
     let mut at = 0;
@@ -106,7 +107,7 @@ fn append_blocks(
 
 /// Appends the lines of the counts.
 fn append_counts(out: &mut Vec<u8>, parts: usize, counts: Counts) -> Result<(), OutOfMemory>
-    ensures { OnOk result (out.new.items ≡ out.old.items ++ counts_text parts counts.races counts.undecided counts.apart) }
+    ensures { Appended result out.old out.new (counts_text parts counts.races counts.undecided counts.apart) }
 {
     append_count(out, b"parts", parts as u64)?;
     append_count(out, b"races", counts.races as u64)?;

@@ -4,6 +4,7 @@ ghost use Rattle.race_groups.specs.Found.{AreComplete, HaveConflict};
 ghost use Rattle.race_groups.specs.Groups.{is_between};
 ghost use Rattle.race_triage.specs.Tables.{AreTables};
 ghost use Rattle.race_triage.specs.Verdicts.{IsFoundIn, IsVerdict, IsVerdictOf};
+ghost use Rattle.rapid_text.specs.Appended.{IfFound};
 
 use crate::found::{Found, found_of};
 use crate::tables::Tables;
@@ -28,7 +29,7 @@ pub fn verdict_between(
     requires few { (e : ℕ) → slice_index places.now e < 3 }
     // The verdict is the one that `triage` gives with these numbers of locations.
     ensures verdict { IfOk result (λ found. IfSome found (IsVerdict analysis.now (slice_index places.now) USUAL_TRIES true)) }
-    ensures between { IfOk result (λ found. IfSome found (λ v. is_between v.row.places.0 v.row.places.1 between.0 between.1 ≡ true)) }
+    ensures between { IfFound result (λ v. is_between v.row.places.0 v.row.places.1 between.0 between.1 ≡ true) }
     ensures none { result ≡ Ok None → ¬ HaveConflict analysis.now.events (slice_index places.now) between }
 {
     let indexed = analysis.indexed();
@@ -50,7 +51,7 @@ fn verdict_by(tables: Tables<'_>, between: (u32, u32)) -> Result<Option<Verdict>
     requires few { (e : ℕ) → slice_index tables.places.now e < 3 }
     ensures verdict { IfOk result (λ found. IfSome found
         (IsVerdict tables.entry.indexed.now (slice_index tables.entry.places.now) USUAL_TRIES true)) }
-    ensures between { IfOk result (λ found. IfSome found (λ v. is_between v.row.places.0 v.row.places.1 between.0 between.1 ≡ true)) }
+    ensures between { IfFound result (λ v. is_between v.row.places.0 v.row.places.1 between.0 between.1 ≡ true) }
     ensures none { result ≡ Ok None → ¬ HaveConflict tables.entry.indexed.now.events (slice_index tables.entry.places.now) between }
 {
     let effort = Effort {
@@ -70,7 +71,7 @@ fn verdict_in(found: &Found<'_>, between: (u32, u32)) -> Result<Option<Verdict>,
     requires found { IsFoundIn found.now }
     requires complete { AreComplete found.now.tables.indexed.now.events (slice_index found.now.tables.places.now) found.now.groups.rows.items }
     ensures verdict { IfOk result (λ told. IfSome told (IsVerdictOf found.now)) }
-    ensures between { IfOk result (λ told. IfSome told (λ v. is_between v.row.places.0 v.row.places.1 between.0 between.1 ≡ true)) }
+    ensures between { IfFound result (λ v. is_between v.row.places.0 v.row.places.1 between.0 between.1 ≡ true) }
     ensures none { result ≡ Ok None → ¬ HaveConflict found.now.tables.indexed.now.events (slice_index found.now.tables.places.now) between }
 {
     match found.groups.row_of(between.0, between.1) {

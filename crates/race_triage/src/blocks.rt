@@ -1,7 +1,8 @@
 //! Prints the block of one verdict.
-ghost use Rattle.std.specs.Prelude.{◌≡◌, ◌<◌, ◌++◌, [], length, slice_index_or, OnOk, codes};
+ghost use Rattle.std.specs.Prelude.{◌≡◌, ◌<◌, ◌++◌, [], length, slice_index_or, codes};
 ghost use Rattle.race_triage.specs.Pieces.{event_words_at};
 ghost use Rattle.race_triage.specs.Texts.{access_text, block_text, head_line, held_locks, how_words, lock_line, lock_lines, open_text, pairs_text, size_text, word_text};
+ghost use Rattle.rapid_text.specs.Appended.{Appended};
 
 use crate::pieces::{append_event, append_number, append_small, append_words};
 use crate::verdicts::{Outcome, Verdict};
@@ -18,7 +19,7 @@ pub(crate) fn append_block(
     verdict: &Verdict,
 ) -> Result<(), OutOfMemory>
     requires must { must.now ≡ indexed.now }
-    ensures { OnOk result (out.new.items ≡ out.old.items ++ block_text indexed.now verdict.now) }
+    ensures { Appended result out.old out.new (block_text indexed.now verdict.now) }
 {
     append_head(out, verdict)?;
     append_access(out, indexed, must, verdict.first)?;
@@ -28,7 +29,7 @@ pub(crate) fn append_block(
 
 // Appends the first line of the block.
 fn append_head(out: &mut Vec<u8>, verdict: &Verdict) -> Result<(), OutOfMemory>
-    ensures { OnOk result (out.new.items ≡ out.old.items ++ head_line verdict.now) }
+    ensures { Appended result out.old out.new (head_line verdict.now) }
 {
     match verdict.outcome {
         Outcome::Race {
@@ -58,7 +59,7 @@ fn append_head(out: &mut Vec<u8>, verdict: &Verdict) -> Result<(), OutOfMemory>
 
 // Appends the word and the two event numbers.
 fn append_word(out: &mut Vec<u8>, word: &[u8], verdict: &Verdict) -> Result<(), OutOfMemory>
-    ensures { OnOk result (out.new.items ≡ out.old.items ++ word_text word.now verdict.now) }
+    ensures { Appended result out.old out.new (word_text word.now verdict.now) }
 {
     append_words(out, word)?;
     append_small(out, verdict.first)?;
@@ -68,7 +69,7 @@ fn append_word(out: &mut Vec<u8>, word: &[u8], verdict: &Verdict) -> Result<(), 
 
 // Appends the size of the schedule: its events and its threads.
 fn append_size(out: &mut Vec<u8>, events: u32, threads: u32) -> Result<(), OutOfMemory>
-    ensures { OnOk result (out.new.items ≡ out.old.items ++ size_text events threads) }
+    ensures { Appended result out.old out.new (size_text events threads) }
 {
     append_words(out, b" events")?;
     append_small(out, events)?;
@@ -79,7 +80,7 @@ fn append_size(out: &mut Vec<u8>, events: u32, threads: u32) -> Result<(), OutOf
 
 // Appends the number of pairs of events that the block covers.
 fn append_pairs(out: &mut Vec<u8>, verdict: &Verdict) -> Result<(), OutOfMemory>
-    ensures { OnOk result (out.new.items ≡ out.old.items ++ pairs_text verdict.now) }
+    ensures { Appended result out.old out.new (pairs_text verdict.now) }
 {
     append_words(out, b" pairs")?;
     append_number(out, verdict.pairs())?;
@@ -88,7 +89,7 @@ fn append_pairs(out: &mut Vec<u8>, verdict: &Verdict) -> Result<(), OutOfMemory>
 
 // Appends the number of pairs of events, and the number of their variables.
 fn append_open(out: &mut Vec<u8>, verdict: &Verdict) -> Result<(), OutOfMemory>
-    ensures { OnOk result (out.new.items ≡ out.old.items ++ open_text verdict.now) }
+    ensures { Appended result out.old out.new (open_text verdict.now) }
 {
     append_pairs(out, verdict)?;
     append_words(out, b" variables")?;
@@ -114,7 +115,7 @@ fn append_access(
     event: u32,
 ) -> Result<(), OutOfMemory>
     requires must { must.now ≡ indexed.now }
-    ensures { OnOk result (out.new.items ≡ out.old.items ++ access_text indexed.now event) }
+    ensures { Appended result out.old out.new (access_text indexed.now event) }
 {
     if event >= indexed.len() {
         return Ok(());
@@ -126,7 +127,7 @@ fn append_access(
 
 // Appends the canonical line of an event.
 fn append_line(out: &mut Vec<u8>, indexed: &Indexed, event: u32) -> Result<(), OutOfMemory>
-    ensures { OnOk result (out.new.items ≡ out.old.items ++ (codes "  " ++ event_words_at indexed.now event ++ codes "\n")) }
+    ensures { Appended result out.old out.new (codes "  " ++ event_words_at indexed.now event ++ codes "\n") }
 {
     append_words(out, b"  ")?;
     append_event(out, indexed, event)?;
@@ -143,7 +144,7 @@ fn append_held(
 ) -> Result<(), OutOfMemory>
     requires must { must.now ≡ indexed.now }
     requires event { event < length indexed.now.events }
-    ensures { OnOk result (out.new.items ≡ out.old.items ++ lock_lines indexed.now (held_locks indexed.now event)) }
+    ensures { Appended result out.old out.new (lock_lines indexed.now (held_locks indexed.now event)) }
 {
     let locks = must.locks_held(*out.allocator(), indexed, event)?;
     append_locks(out, indexed, locks.as_slice())?;
@@ -152,7 +153,7 @@ fn append_held(
 
 // Appends a line for each of the locks.
 fn append_locks(out: &mut Vec<u8>, indexed: &Indexed, locks: &[u32]) -> Result<(), OutOfMemory>
-    ensures { OnOk result (out.new.items ≡ out.old.items ++ lock_lines indexed.now locks.now) }
+    ensures { Appended result out.old out.new (lock_lines indexed.now locks.now) }
 {
     for lock in locks {
         append_lock(out, indexed, *lock)?;
@@ -162,7 +163,7 @@ fn append_locks(out: &mut Vec<u8>, indexed: &Indexed, locks: &[u32]) -> Result<(
 
 // Appends the line of a lock.
 fn append_lock(out: &mut Vec<u8>, indexed: &Indexed, lock: u32) -> Result<(), OutOfMemory>
-    ensures { OnOk result (out.new.items ≡ out.old.items ++ lock_line indexed.now lock) }
+    ensures { Appended result out.old out.new (lock_line indexed.now lock) }
 {
     append_words(out, b"    holds ")?;
     append_name(out, indexed, lock)?;
@@ -172,7 +173,7 @@ fn append_lock(out: &mut Vec<u8>, indexed: &Indexed, lock: u32) -> Result<(), Ou
 
 // Appends the name of the lock. Appends nothing if the trace has no such lock.
 fn append_name(out: &mut Vec<u8>, indexed: &Indexed, lock: u32) -> Result<(), OutOfMemory>
-    ensures { OnOk result (out.new.items ≡ out.old.items ++ slice_index_or indexed.now.locks lock []) }
+    ensures { Appended result out.old out.new (slice_index_or indexed.now.locks lock []) }
 {
     let raw = indexed.trace().raw();
     if lock < raw.locks() {

@@ -1,5 +1,5 @@
 //! Gives the verdict on a row.
-ghost use Rattle.std.specs.Prelude.{◌≡◌, ◌<◌, ◌≤◌, ℕ, IfOk, IfSome, None, Some, length, max, slice_get, slice_index, take, true};
+ghost use Rattle.std.specs.Prelude.{◌≡◌, ◌<◌, ◌≤◌, ℕ, IfOk, None, Some, length, max, slice_get, slice_index, take, true};
 ghost use Rattle.race_groups.specs.Found.{HaveConflict};
 ghost use Rattle.race_groups.specs.Kinds.{IsNeverShownBetween, IsRow};
 ghost use Rattle.race_groups.specs.least_pairs.Pairs.{AreLeasts, IsLeastPair};
@@ -7,6 +7,7 @@ ghost use Rattle.race_groups.specs.declared.least_pairs.wanted.Wanted.TheVariant
 ghost use Rattle.explain_report.specs.declared.findings.searching.TheConstants.{BUDGET};
 ghost use Rattle.race_triage.specs.Tables.{AreTables};
 ghost use Rattle.race_triage.specs.Verdicts.{AreMissed, AreOpenPairs, IsBudget, IsFoundIn, IsShownFirst, IsVerdictOf, IsVerdictOn};
+ghost use Rattle.rapid_text.specs.Appended.{IfFound};
 
 use crate::found::Found;
 use crate::places::small;
@@ -124,7 +125,7 @@ impl Tables<'_> {
         requires tables { AreTables self.now }
         requires opens { AreOpenPairs self.now.indexed.now tried.now }
         requires few { budget ≤ BUDGET }
-        ensures shown { IfOk result (λ found. IfSome found (λ shown. IsShownFirst self.now.indexed.now budget tried.now shown.0 shown.1)) }
+        ensures shown { IfFound result (λ shown. IsShownFirst self.now.indexed.now budget tried.now shown.0 shown.1) }
         ensures none { IfOk result (λ found. found ≡ None → (left : ℕ) × AreMissed self.now.indexed.now.events budget tried.now left) }
     {
         let mut left = budget;

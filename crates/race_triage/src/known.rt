@@ -1,6 +1,7 @@
 //! Reads the races that an earlier text lists.
 ghost use Rattle.std.specs.Prelude.{◌≡◌, ◌≤◌, ◌∷◌, ℕ, List, IfNone, IfOk, IfSome, OnOk, length, true, false};
 ghost use Rattle.std.specs.List.{after_first, list_any, slice_split};
+ghost use Rattle.rapid_text.specs.Appended.{IfFound};
 ghost use Rattle.rapid_text.specs.LinesLeft.{bytes_left, lines_left};
 ghost use Rattle.rapid_text.specs.Reading.{is_bar, is_line_feed};
 ghost use Rattle.rapid_text.specs.Recording.{Recording};
@@ -131,7 +132,7 @@ fn note(known: &mut Known, places: &Places, told: Option<(&[u8], &[u8])>) -> Res
 
 // The numbers of the locations in two access lines, the lesser first. Returns None unless the trace has both.
 fn pair_of(places: &Places, one: &[u8], other: &[u8]) -> Result<Option<(u32, u32)>, OutOfMemory>
-    ensures some { IfOk result (λ pair. IfSome pair (λ pair. ArePair places.now.locations.keys one.now other.now pair.0 pair.1)) }
+    ensures some { IfFound result (λ pair. ArePair places.now.locations.keys one.now other.now pair.0 pair.1) }
     ensures none { IfOk result (λ pair. IfNone pair ((p q : ℕ) → ¬ ArePair places.now.locations.keys one.now other.now p q)) }
 {
     let Some(one) = place_of(places, one)? else {

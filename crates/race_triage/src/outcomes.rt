@@ -3,6 +3,7 @@ ghost use Rattle.std.specs.Prelude.{◌≡◌, ◌≢◌, ◌<◌, ◌≤◌, If
 ghost use Rattle.event_index.specs.Relations.{IsConflicting};
 ghost use Rattle.must_order.specs.Kinds.{IsKind};
 ghost use Rattle.must_order.specs.declared.kind.Kind.TheVariants.{Candidate as CandidateKind, Open as OpenKind};
+ghost use Rattle.rapid_text.specs.Appended.{IfFound};
 ghost use Rattle.witness_search.specs.trace_order.Laws.{HasListInOrder};
 ghost use Rattle.witness_search.specs.trace_order.Refusals.{IsNeverShownInOrder};
 ghost use Rattle.witness_search.specs.trace_order.Sizes.{IsSizeInOrder};
@@ -56,7 +57,7 @@ impl Tables<'_> {
         requires kind { IsKind self.now.indexed.now first second OpenKind }
         ensures race { IfOk result (λ found. IfSome found (IsOpenRace self.now.indexed.now first second)) }
         ensures none { IfOk result (λ found. found ≡ None → IsMissed self.now.indexed.now.events first second left.old left.new) }
-        ensures found { IfOk result (λ found. IfSome found (λ outcome. IsFoundBy self.now.indexed.now.events first second left.old)) }
+        ensures found { IfFound result (λ outcome. IsFoundBy self.now.indexed.now.events first second left.old) }
         ensures fewer { left.new ≤ left.old }
     {
         in_order_is_sound();
@@ -81,7 +82,7 @@ impl Tables<'_> {
         requires never { IsNeverShownInOrder self.now.indexed.now.events first second }
         ensures race { IfOk result (λ found. IfSome found (IsRaceOf self.now.indexed.now first second Turned)) }
         ensures none { IfOk result (λ found. found ≡ None → IsMissed self.now.indexed.now.events first second left.old left.new) }
-        ensures found { IfOk result (λ found. IfSome found (λ outcome. IsFoundBy self.now.indexed.now.events first second left.old)) }
+        ensures found { IfFound result (λ outcome. IsFoundBy self.now.indexed.now.events first second left.old) }
         ensures fewer { left.new ≤ left.old }
     {
         let pair = (first, second);
@@ -103,7 +104,7 @@ impl Tables<'_> {
     fn size_in_order(&self, first: u32, second: u32) -> Result<Option<(u32, u32)>, OutOfMemory>
         requires tables { AreTables self.now }
         ensures size { IfOk result (λ found. IfSome found (IsSizeInOrder self.now.indexed.now.events first second)) }
-        ensures there { IfOk result (λ found. IfSome found (λ size. HasListInOrder self.now.indexed.now.events first second)) }
+        ensures there { IfFound result (λ size. HasListInOrder self.now.indexed.now.events first second) }
         ensures never { IfOk result (λ found. found ≡ None → IsNeverShownInOrder self.now.indexed.now.events first second) }
         ensures none { IfOk result (λ found. found ≡ None → ¬ HasListInOrder self.now.indexed.now.events first second) }
     {

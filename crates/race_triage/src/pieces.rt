@@ -1,5 +1,6 @@
 //! Appends words, numbers and the lines of events.
-ghost use Rattle.std.specs.Prelude.{◌≡◌, ◌++◌, OnOk, codes};
+ghost use Rattle.std.specs.Prelude.{◌++◌, codes};
+ghost use Rattle.rapid_text.specs.Appended.{Appended};
 ghost use Rattle.rapid_text.specs.Canonical.{op_text};
 ghost use Rattle.rapid_text.specs.Recording.{IsNamed, IsNamedOp};
 ghost use Rattle.race_triage.specs.Pieces.{count_line, event_words, event_words_at, number_text};
@@ -10,7 +11,7 @@ use rapid_text::{Event, Op, OutOfMemory, RawTrace};
 
 /// Appends the words.
 pub(crate) fn append_words(out: &mut Vec<u8>, words: &[u8]) -> Result<(), OutOfMemory>
-    ensures { OnOk result (out.new.items ≡ out.old.items ++ words.now) }
+    ensures { Appended result out.old out.new words.now }
 {
     out.extend_from_slice(words)?;
     Ok(())
@@ -18,7 +19,7 @@ pub(crate) fn append_words(out: &mut Vec<u8>, words: &[u8]) -> Result<(), OutOfM
 
 /// Appends a word, a blank, the number, and a line feed.
 pub(crate) fn append_count(out: &mut Vec<u8>, word: &[u8], number: u64) -> Result<(), OutOfMemory>
-    ensures { OnOk result (out.new.items ≡ out.old.items ++ count_line word.now number) }
+    ensures { Appended result out.old out.new (count_line word.now number) }
 {
     append_words(out, word)?;
     append_number(out, number)?;
@@ -28,7 +29,7 @@ pub(crate) fn append_count(out: &mut Vec<u8>, word: &[u8], number: u64) -> Resul
 
 /// Appends a blank and a number.
 pub(crate) fn append_number(out: &mut Vec<u8>, number: u64) -> Result<(), OutOfMemory>
-    ensures { OnOk result (out.new.items ≡ out.old.items ++ number_text number) }
+    ensures { Appended result out.old out.new (number_text number) }
 {
     let mut digits = Buffer::new();
     append_words(out, b" ")?;
@@ -38,14 +39,14 @@ pub(crate) fn append_number(out: &mut Vec<u8>, number: u64) -> Result<(), OutOfM
 
 /// Appends a blank and a number of 32 bits.
 pub(crate) fn append_small(out: &mut Vec<u8>, number: u32) -> Result<(), OutOfMemory>
-    ensures { OnOk result (out.new.items ≡ out.old.items ++ number_text number) }
+    ensures { Appended result out.old out.new (number_text number) }
 {
     append_number(out, u64::from(number))
 }
 
 /// Appends the canonical line of the event, without the line feed. Appends nothing if the trace has no such event.
 pub fn append_event(out: &mut Vec<u8>, indexed: &Indexed, event: u32) -> Result<(), OutOfMemory>
-    ensures { OnOk result (out.new.items ≡ out.old.items ++ event_words_at indexed.now event) }
+    ensures { Appended result out.old out.new (event_words_at indexed.now event) }
 {
     if event >= indexed.len() {
         return Ok(());
@@ -63,7 +64,7 @@ fn append_found(
     location: &[u8],
 ) -> Result<(), OutOfMemory>
     requires { IsNamed trace.now event }
-    ensures { OnOk result (out.new.items ≡ out.old.items ++ event_words trace.now event location.now) }
+    ensures { Appended result out.old out.new (event_words trace.now event location.now) }
 {
     append_words(out, trace.thread_name(event.thread))?;
     append_words(out, b"|")?;
@@ -76,7 +77,7 @@ fn append_found(
 // Appends an operation as `word(name)`.
 fn append_operation(out: &mut Vec<u8>, trace: &RawTrace, op: Op) -> Result<(), OutOfMemory>
     requires { IsNamedOp trace.now op }
-    ensures { OnOk result (out.new.items ≡ out.old.items ++ op_text trace.now op) }
+    ensures { Appended result out.old out.new (op_text trace.now op) }
 {
     match op {
         Op::Read(variable) => append_call(out, b"r", trace.variable_name(variable)),
@@ -90,7 +91,7 @@ fn append_operation(out: &mut Vec<u8>, trace: &RawTrace, op: Op) -> Result<(), O
 
 // Appends `word(name)`.
 fn append_call(out: &mut Vec<u8>, word: &[u8], name: &[u8]) -> Result<(), OutOfMemory>
-    ensures { OnOk result (out.new.items ≡ out.old.items ++ (word.now ++ codes "(" ++ name.now ++ codes ")")) }
+    ensures { Appended result out.old out.new (word.now ++ codes "(" ++ name.now ++ codes ")") }
 {
     append_words(out, word)?;
     append_words(out, b"(")?;

@@ -1,6 +1,7 @@
 //! Prints the verdicts as text.
 ghost use Rattle.std.specs.Prelude.{◌≡◌, ◌++◌, List, ℕ, OnOk, OnErr};
 ghost use Rattle.race_triage.specs.Texts.{block_texts, kind_lines, left_out_text, place_lines, totals_text, trace_lines, triage_words, IsTriageText};
+ghost use Rattle.rapid_text.specs.Appended.{Appended};
 
 use crate::blocks::append_block;
 use crate::chosen::Chosen;
@@ -34,7 +35,7 @@ pub fn triage_text(
 
 // Appends a text. If `out` is empty, moves the text instead of copying it, because it may be large.
 fn put(out: &mut Vec<u8>, text: Vec<u8>) -> Result<(), OutOfMemory>
-    ensures ok { OnOk result (out.new.items ≡ out.old.items ++ text.items) }
+    ensures ok { Appended result out.old out.new text.items }
     ensures err { OnErr result (out.new.items ≡ out.old.items) }
 {
     if out.is_empty() {
@@ -54,7 +55,7 @@ fn append_all(
     chosen: &Chosen,
 ) -> Result<(), OutOfMemory>
     requires must { must.now ≡ indexed.now }
-    ensures { OnOk result (out.new.items ≡ out.old.items ++ triage_words indexed.now totals.now chosen.now) }
+    ensures { Appended result out.old out.new (triage_words indexed.now totals.now chosen.now) }
 {
     append_totals(out, totals)?;
     append_blocks(out, indexed, must, chosen.verdicts.as_slice())?;
@@ -65,7 +66,7 @@ fn append_all(
 
 // Appends the eleven counts.
 fn append_totals(out: &mut Vec<u8>, totals: &Totals) -> Result<(), OutOfMemory>
-    ensures { OnOk result (out.new.items ≡ out.old.items ++ totals_text totals.now) }
+    ensures { Appended result out.old out.new (totals_text totals.now) }
 {
     append_trace(out, totals)?;
     append_kinds(out, totals)?;
@@ -75,7 +76,7 @@ fn append_totals(out: &mut Vec<u8>, totals: &Totals) -> Result<(), OutOfMemory>
 
 // Appends the counts of events, threads and pairs.
 fn append_trace(out: &mut Vec<u8>, totals: &Totals) -> Result<(), OutOfMemory>
-    ensures { OnOk result (out.new.items ≡ out.old.items ++ trace_lines totals.now) }
+    ensures { Appended result out.old out.new (trace_lines totals.now) }
 {
     append_count(out, b"events", totals.events)?;
     append_count(out, b"threads", totals.threads)?;
@@ -85,7 +86,7 @@ fn append_trace(out: &mut Vec<u8>, totals: &Totals) -> Result<(), OutOfMemory>
 
 // Appends the number of pairs of each kind.
 fn append_kinds(out: &mut Vec<u8>, totals: &Totals) -> Result<(), OutOfMemory>
-    ensures { OnOk result (out.new.items ≡ out.old.items ++ kind_lines totals.now) }
+    ensures { Appended result out.old out.new (kind_lines totals.now) }
 {
     append_count(out, b"candidates", totals.candidates)?;
     append_count(out, b"open", totals.open_pairs)?;
@@ -96,7 +97,7 @@ fn append_kinds(out: &mut Vec<u8>, totals: &Totals) -> Result<(), OutOfMemory>
 
 // Appends the number of pairs of locations, and the number with each outcome.
 fn append_places(out: &mut Vec<u8>, totals: &Totals) -> Result<(), OutOfMemory>
-    ensures { OnOk result (out.new.items ≡ out.old.items ++ place_lines totals.now) }
+    ensures { Appended result out.old out.new (place_lines totals.now) }
 {
     append_count(out, b"places", totals.places)?;
     append_count(out, b"races", totals.races)?;
@@ -113,7 +114,7 @@ fn append_blocks(
     verdicts: &[Verdict],
 ) -> Result<(), OutOfMemory>
     requires must { must.now ≡ indexed.now }
-    ensures { OnOk result (out.new.items ≡ out.old.items ++ block_texts indexed.now verdicts.now) }
+    ensures { Appended result out.old out.new (block_texts indexed.now verdicts.now) }
 {
     for verdict in verdicts {
         append_block(out, indexed, must, verdict)?;
@@ -123,7 +124,7 @@ fn append_blocks(
 
 // Appends how many blocks were left out, if that was counted.
 fn append_left_out(out: &mut Vec<u8>, word: &[u8], count: Option<u64>) -> Result<(), OutOfMemory>
-    ensures { OnOk result (out.new.items ≡ out.old.items ++ left_out_text word.now count) }
+    ensures { Appended result out.old out.new (left_out_text word.now count) }
 {
     match count {
         Some(count) => append_count(out, word, count),

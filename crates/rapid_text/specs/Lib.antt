@@ -1,3 +1,4 @@
+pub mod Appended
 pub mod Canonical
 pub mod Growth
 pub mod Layout

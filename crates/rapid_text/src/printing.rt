@@ -1,5 +1,6 @@
 //! Prints a trace as its canonical text.
-ghost use Rattle.std.specs.Prelude.{◌≡◌, ◌++◌, IfOk, OnOk, Ok, codes};
+ghost use Rattle.std.specs.Prelude.{◌≡◌, ◌++◌, IfOk, Ok, codes};
+ghost use Rattle.rapid_text.specs.Appended.{Appended};
 ghost use Rattle.rapid_text.specs.Canonical.{canonical_text, event_text, op_text};
 ghost use Rattle.rapid_text.specs.Reading.{reading_of};
 ghost use Rattle.rapid_text.specs.Recording.{IsNamed, IsNamedOp};
@@ -40,7 +41,7 @@ fn append_line(
     location: &[u8],
 ) -> Result<(), OutOfMemory>
     requires { IsNamed trace.now event }
-    ensures { OnOk result (text.new.items ≡ text.old.items ++ event_text trace.now event location.now) }
+    ensures { Appended result text.old text.new (event_text trace.now event location.now) }
 {
     text.extend_from_slice(trace.thread_name(event.thread))?;
     text.push(b'|')?;
@@ -54,7 +55,7 @@ fn append_line(
 // Appends an operation as `word(name)`.
 fn append_operation(text: &mut Vec<u8>, trace: &RawTrace, op: Op) -> Result<(), OutOfMemory>
     requires { IsNamedOp trace.now op }
-    ensures { OnOk result (text.new.items ≡ text.old.items ++ op_text trace.now op) }
+    ensures { Appended result text.old text.new (op_text trace.now op) }
 {
     match op {
         Op::Read(variable) => append_call(text, b"r", trace.variable_name(variable)),
@@ -68,7 +69,7 @@ fn append_operation(text: &mut Vec<u8>, trace: &RawTrace, op: Op) -> Result<(), 
 
 // Appends `word(name)`.
 fn append_call(text: &mut Vec<u8>, word: &[u8], name: &[u8]) -> Result<(), OutOfMemory>
-    ensures { OnOk result (text.new.items ≡ text.old.items ++ (word.now ++ codes "(" ++ name.now ++ codes ")")) }
+    ensures { Appended result text.old text.new (word.now ++ codes "(" ++ name.now ++ codes ")") }
 {
     text.extend_from_slice(word)?;
     text.push(b'(')?;

@@ -1,6 +1,7 @@
 //! Prints pairs of events that are candidates.
-ghost use Rattle.std.specs.Prelude.{◌≡◌, ◌<◌, ◌++◌, length, All, OnOk, OnErr};
+ghost use Rattle.std.specs.Prelude.{◌≡◌, ◌<◌, length, All, OnErr};
 ghost use Rattle.event_index.specs.Relations.{IsConflicting};
+ghost use Rattle.rapid_text.specs.Appended.{Appended};
 ghost use Rattle.report.specs.Candidates.{candidates_text, candidate_line, candidate_lines, variable_words};
 
 use crate::pieces::{Piece, append_count, append_pieces};
@@ -11,7 +12,7 @@ use rapid_text::{Op, OutOfMemory};
 /// runs out, `out` stays as it was.
 pub fn candidates(indexed: &Indexed, pairs: &Pairs, out: &mut Vec<u8>) -> Result<(), OutOfMemory>
     requires { All (λ pair. IsConflicting indexed.now.events pair.0 pair.1) pairs.now }
-    ensures ok { OnOk result (out.new.items ≡ out.old.items ++ candidates_text indexed.now pairs.now) }
+    ensures ok { Appended result out.old out.new (candidates_text indexed.now pairs.now) }
     ensures err { OnErr result (out.new.items ≡ out.old.items) }
 {
     let mut text = Vec::new(*out.allocator());
@@ -27,7 +28,7 @@ fn append_candidates(
     pairs: &[(u32, u32)],
 ) -> Result<(), OutOfMemory>
     requires { All (λ pair. IsConflicting indexed.now.events pair.0 pair.1) pairs.now }
-    ensures { OnOk result (out.new.items ≡ out.old.items ++ candidates_text indexed.now pairs.now) }
+    ensures { Appended result out.old out.new (candidates_text indexed.now pairs.now) }
 {
     append_count(out, b"candidates", pairs.len() as u64)?;
     for pair in pairs {
@@ -45,7 +46,7 @@ fn append_candidate(
     second: u32,
 ) -> Result<(), OutOfMemory>
     requires { first < length indexed.now.events }
-    ensures { OnOk result (out.new.items ≡ out.old.items ++ candidate_line indexed.now (first, second)) }
+    ensures { Appended result out.old out.new (candidate_line indexed.now (first, second)) }
 {
     append_pieces(
         out,

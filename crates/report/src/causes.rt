@@ -1,5 +1,6 @@
 //! Prints why an event is not enabled, and why two neighbours cannot be exchanged.
-ghost use Rattle.std.specs.Prelude.{◌≡◌, ◌++◌, OnOk, OnErr, codes};
+ghost use Rattle.std.specs.Prelude.{◌≡◌, ◌++◌, OnErr, codes};
+ghost use Rattle.rapid_text.specs.Appended.{Appended};
 ghost use Rattle.report.specs.Causes.{event_words, thread_words, disabled_words, swap_words, refused_line};
 ghost use Rattle.report.specs.Pieces.{piece_bytes, pieces_text};
 
@@ -31,7 +32,7 @@ fn thread_piece(indexed: &Indexed, thread: u32) -> Piece<'_>
 
 /// Appends the line of a refusal. The pieces are its number and its words. If memory runs out, `out` stays as it was.
 pub(crate) fn append_refused(out: &mut Vec<u8>, why: &[Piece<'_>]) -> Result<(), OutOfMemory>
-    ensures ok { OnOk result (out.new.items ≡ out.old.items ++ refused_line (pieces_text why.now)) }
+    ensures ok { Appended result out.old out.new (refused_line (pieces_text why.now)) }
     ensures err { OnErr result (out.new.items ≡ out.old.items) }
 {
     let start = out.len();
@@ -45,7 +46,7 @@ pub(crate) fn append_refused(out: &mut Vec<u8>, why: &[Piece<'_>]) -> Result<(),
 
 /// Appends the pieces and a line feed.
 fn append_ended(out: &mut Vec<u8>, pieces: &[Piece<'_>]) -> Result<(), OutOfMemory>
-    ensures ok { OnOk result (out.new.items ≡ out.old.items ++ pieces_text pieces.now ++ codes "\n") }
+    ensures ok { Appended result out.old out.new (pieces_text pieces.now ++ codes "\n") }
     ensures err { OnErr result (out.new.items ≡ out.old.items) }
 {
     let start = out.len();
@@ -59,7 +60,7 @@ fn append_ended(out: &mut Vec<u8>, pieces: &[Piece<'_>]) -> Result<(), OutOfMemo
 
 /// Appends the line of a refusal with this number and these words. If memory runs out, `out` stays as it was.
 pub(crate) fn append_words(out: &mut Vec<u8>, why: &[u8]) -> Result<(), OutOfMemory>
-    ensures ok { OnOk result (out.new.items ≡ out.old.items ++ refused_line why.now) }
+    ensures ok { Appended result out.old out.new (refused_line why.now) }
     ensures err { OnErr result (out.new.items ≡ out.old.items) }
 {
     append_refused(out, &[Piece::Words(why)])?;
@@ -73,7 +74,7 @@ pub(crate) fn append_disabled(
     indexed: &Indexed,
     why: Disabled,
 ) -> Result<(), OutOfMemory>
-    ensures ok { OnOk result (out.new.items ≡ out.old.items ++ (codes "46 " ++ disabled_words indexed.now why)) }
+    ensures ok { Appended result out.old out.new (codes "46 " ++ disabled_words indexed.now why) }
     ensures err { OnErr result (out.new.items ≡ out.old.items) }
 {
     match why {
@@ -107,7 +108,7 @@ pub(crate) fn append_disabled(
 /// Appends the number and the words of the refusal of two neighbours that cannot be exchanged. If memory runs out,
 /// `out` stays as it was.
 pub(crate) fn append_swap(out: &mut Vec<u8>, why: SwapRefusal) -> Result<(), OutOfMemory>
-    ensures ok { OnOk result (out.new.items ≡ out.old.items ++ (codes "47 " ++ swap_words why)) }
+    ensures ok { Appended result out.old out.new (codes "47 " ++ swap_words why) }
     ensures err { OnErr result (out.new.items ≡ out.old.items) }
 {
     match why {

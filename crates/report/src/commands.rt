@@ -1,5 +1,6 @@
 //! Prints commands and batches in the form in which scripts have them.
-ghost use Rattle.std.specs.Prelude.{◌≡◌, ◌++◌, OnOk, OnErr, codes, decimal};
+ghost use Rattle.std.specs.Prelude.{◌≡◌, ◌++◌, OnErr, codes, decimal};
+ghost use Rattle.rapid_text.specs.Appended.{Appended};
 ghost use Rattle.report.specs.Commands.{command_words, separated, commands_words};
 
 use crate::pieces::{Piece, append_pieces};
@@ -8,7 +9,7 @@ use rapid_text::OutOfMemory;
 
 /// Appends the command's word and its schedule. If memory runs out, `out` stays as it was.
 fn append_named<'a>(out: &mut Vec<u8>, word: &'a [u8], name: &'a Name) -> Result<(), OutOfMemory>
-    ensures ok { OnOk result (out.new.items ≡ out.old.items ++ (word.now ++ name.now)) }
+    ensures ok { Appended result out.old out.new (word.now ++ name.now) }
     ensures err { OnErr result (out.new.items ≡ out.old.items) }
 {
     append_pieces(out, &[Piece::Words(word), Piece::Words(name.bytes())])?;
@@ -22,7 +23,7 @@ fn append_numbered<'a>(
     name: &'a Name,
     number: u32,
 ) -> Result<(), OutOfMemory>
-    ensures ok { OnOk result (out.new.items ≡ out.old.items ++ (word.now ++ name.now ++ codes " " ++ decimal number)) }
+    ensures ok { Appended result out.old out.new (word.now ++ name.now ++ codes " " ++ decimal number) }
     ensures err { OnErr result (out.new.items ≡ out.old.items) }
 {
     append_pieces(
@@ -44,7 +45,7 @@ fn append_branch<'a>(
     length: u32,
     to: &'a Name,
 ) -> Result<(), OutOfMemory>
-    ensures ok { OnOk result (out.new.items ≡ out.old.items ++ (codes "branch " ++ name.now ++ codes " " ++ decimal length ++ codes " " ++ to.now)) }
+    ensures ok { Appended result out.old out.new (codes "branch " ++ name.now ++ codes " " ++ decimal length ++ codes " " ++ to.now) }
     ensures err { OnErr result (out.new.items ≡ out.old.items) }
 {
     append_pieces(
@@ -63,7 +64,7 @@ fn append_branch<'a>(
 
 /// Appends the script line for the command, without the client. If memory runs out, `out` stays as it was.
 pub(crate) fn append_command(out: &mut Vec<u8>, command: &Command) -> Result<(), OutOfMemory>
-    ensures ok { OnOk result (out.new.items ≡ out.old.items ++ command_words command.now) }
+    ensures ok { Appended result out.old out.new (command_words command.now) }
     ensures err { OnErr result (out.new.items ≡ out.old.items) }
 {
     match *command {
@@ -79,7 +80,7 @@ pub(crate) fn append_command(out: &mut Vec<u8>, command: &Command) -> Result<(),
 
 /// Appends ` ; ` and the command.
 fn append_separated(out: &mut Vec<u8>, command: &Command) -> Result<(), OutOfMemory>
-    ensures ok { OnOk result (out.new.items ≡ out.old.items ++ (codes " ; " ++ command_words command.now)) }
+    ensures ok { Appended result out.old out.new (codes " ; " ++ command_words command.now) }
     ensures err { OnErr result (out.new.items ≡ out.old.items) }
 {
     let start = out.len();
@@ -93,7 +94,7 @@ fn append_separated(out: &mut Vec<u8>, command: &Command) -> Result<(), OutOfMem
 
 /// Appends each command after ` ; `.
 fn append_all_separated(out: &mut Vec<u8>, commands: &[Command]) -> Result<(), OutOfMemory>
-    ensures ok { OnOk result (out.new.items ≡ out.old.items ++ separated commands.now) }
+    ensures ok { Appended result out.old out.new (separated commands.now) }
     ensures err { OnErr result (out.new.items ≡ out.old.items) }
 {
     let start = out.len();
@@ -108,7 +109,7 @@ fn append_all_separated(out: &mut Vec<u8>, commands: &[Command]) -> Result<(), O
 
 /// Appends the commands, with ` ; ` between two.
 fn append_commands(out: &mut Vec<u8>, commands: &[Command]) -> Result<(), OutOfMemory>
-    ensures ok { OnOk result (out.new.items ≡ out.old.items ++ commands_words commands.now) }
+    ensures ok { Appended result out.old out.new (commands_words commands.now) }
     ensures err { OnErr result (out.new.items ≡ out.old.items) }
 {
     let Some((first, others)) = commands.split_first() else {
@@ -125,7 +126,7 @@ fn append_commands(out: &mut Vec<u8>, commands: &[Command]) -> Result<(), OutOfM
 
 /// Appends the script line for the batch, without the client. If memory runs out, `out` stays as it was.
 pub(crate) fn append_batch(out: &mut Vec<u8>, commands: &[Command]) -> Result<(), OutOfMemory>
-    ensures ok { OnOk result (out.new.items ≡ out.old.items ++ (codes "batch " ++ commands_words commands.now)) }
+    ensures ok { Appended result out.old out.new (codes "batch " ++ commands_words commands.now) }
     ensures err { OnErr result (out.new.items ≡ out.old.items) }
 {
     let start = out.len();

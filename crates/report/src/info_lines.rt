@@ -1,5 +1,6 @@
 //! Prints the numbers of events, threads, variables and locks in a trace.
-ghost use Rattle.std.specs.Prelude.{◌≡◌, ◌<◌, ◌++◌, length, OnOk, OnErr};
+ghost use Rattle.std.specs.Prelude.{◌≡◌, ◌<◌, length, OnErr};
+ghost use Rattle.rapid_text.specs.Appended.{Appended};
 ghost use Rattle.rapid_text.specs.Canonical.{name_at};
 ghost use Rattle.report.specs.Info.{info_text, counts_text, thread_line, thread_lines};
 
@@ -10,7 +11,7 @@ use rapid_text::OutOfMemory;
 /// Appends the numbers of events, threads, variables and locks, each in a line. Then appends a line for each thread
 /// with its number, its name and the number of its events. If memory runs out, `out` stays as it was.
 pub fn info(indexed: &Indexed, out: &mut Vec<u8>) -> Result<(), OutOfMemory>
-    ensures ok { OnOk result (out.new.items ≡ out.old.items ++ info_text indexed.now) }
+    ensures ok { Appended result out.old out.new (info_text indexed.now) }
     ensures err { OnErr result (out.new.items ≡ out.old.items) }
 {
     let mut text = Vec::new(*out.allocator());
@@ -22,7 +23,7 @@ pub fn info(indexed: &Indexed, out: &mut Vec<u8>) -> Result<(), OutOfMemory>
 
 /// Appends the lines of the four numbers.
 fn append_counts(out: &mut Vec<u8>, indexed: &Indexed) -> Result<(), OutOfMemory>
-    ensures { OnOk result (out.new.items ≡ out.old.items ++ counts_text indexed.now) }
+    ensures { Appended result out.old out.new (counts_text indexed.now) }
 {
     append_count(out, b"events", u64::from(indexed.len()))?;
     append_count(out, b"threads", u64::from(indexed.threads()))?;
@@ -33,7 +34,7 @@ fn append_counts(out: &mut Vec<u8>, indexed: &Indexed) -> Result<(), OutOfMemory
 
 /// Appends the lines of all threads.
 fn append_threads(out: &mut Vec<u8>, indexed: &Indexed) -> Result<(), OutOfMemory>
-    ensures { OnOk result (out.new.items ≡ out.old.items ++ thread_lines indexed.now (length indexed.now.threads)) }
+    ensures { Appended result out.old out.new (thread_lines indexed.now (length indexed.now.threads)) }
 {
     for thread in 0..indexed.threads() {
         append_thread(out, indexed, thread)?;
@@ -44,7 +45,7 @@ fn append_threads(out: &mut Vec<u8>, indexed: &Indexed) -> Result<(), OutOfMemor
 /// Appends the line of a thread.
 fn append_thread(out: &mut Vec<u8>, indexed: &Indexed, thread: u32) -> Result<(), OutOfMemory>
     requires { thread < length indexed.now.threads }
-    ensures { OnOk result (out.new.items ≡ out.old.items ++ thread_line indexed.now thread) }
+    ensures { Appended result out.old out.new (thread_line indexed.now thread) }
 {
     let events = indexed.thread_events(thread).len() as u64;
     append_pieces(

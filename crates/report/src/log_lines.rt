@@ -1,6 +1,7 @@
 //! Prints the log of a bench.
-ghost use Rattle.std.specs.Prelude.{◌≡◌, ◌<◌, ◌++◌, length, OnOk, OnErr, codes, decimal};
+ghost use Rattle.std.specs.Prelude.{◌≡◌, ◌<◌, ◌++◌, length, OnErr, codes, decimal};
 ghost use Rattle.inverse_log.specs.Log.{client_of};
+ghost use Rattle.rapid_text.specs.Appended.{Appended};
 ghost use Rattle.report.specs.Log.{entry_words, entry_line, line_at, entry_lines, log_text};
 ghost use Rattle.report.specs.Pieces.{spaced};
 
@@ -13,7 +14,7 @@ use rapid_text::OutOfMemory;
 /// memory runs out, `out` stays as it was.
 #[tactic(auto, unfolding(crate::specs::Log::log_text))]
 pub fn log(bench: &Bench, out: &mut Vec<u8>) -> Result<(), OutOfMemory>
-    ensures ok { OnOk result (out.new.items ≡ out.old.items ++ log_text bench.now.log) }
+    ensures ok { Appended result out.old out.new (log_text bench.now.log) }
     ensures err { OnErr result (out.new.items ≡ out.old.items) }
 {
     let start = out.len();
@@ -27,7 +28,7 @@ pub fn log(bench: &Bench, out: &mut Vec<u8>) -> Result<(), OutOfMemory>
 
 /// Appends the lines of all entries.
 fn append_entries(out: &mut Vec<u8>, bench: &Bench) -> Result<(), OutOfMemory>
-    ensures ok { OnOk result (out.new.items ≡ out.old.items ++ entry_lines bench.now.log (length bench.now.log)) }
+    ensures ok { Appended result out.old out.new (entry_lines bench.now.log (length bench.now.log)) }
     ensures err { OnErr result (out.new.items ≡ out.old.items) }
 {
     let start = out.len();
@@ -43,7 +44,7 @@ fn append_entries(out: &mut Vec<u8>, bench: &Bench) -> Result<(), OutOfMemory>
 /// Appends the line of the log entry with this number. If memory runs out, `out` stays as it was.
 pub fn entry(bench: &Bench, number: u64, out: &mut Vec<u8>) -> Result<(), OutOfMemory>
     requires { number < length bench.now.log }
-    ensures ok { OnOk result (out.new.items ≡ out.old.items ++ line_at bench.now.log number) }
+    ensures ok { Appended result out.old out.new (line_at bench.now.log number) }
     ensures err { OnErr result (out.new.items ≡ out.old.items) }
 {
     append_entry(out, number, bench.entry(number))
@@ -51,7 +52,7 @@ pub fn entry(bench: &Bench, number: u64, out: &mut Vec<u8>) -> Result<(), OutOfM
 
 /// Appends the line of an entry.
 fn append_entry(out: &mut Vec<u8>, number: u64, entry: &Entry) -> Result<(), OutOfMemory>
-    ensures ok { OnOk result (out.new.items ≡ out.old.items ++ entry_line number entry.now) }
+    ensures ok { Appended result out.old out.new (entry_line number entry.now) }
     ensures err { OnErr result (out.new.items ≡ out.old.items) }
 {
     let start = out.len();
@@ -85,7 +86,7 @@ fn client_of(entry: &Entry) -> u32
 
 /// Appends the entry's number and its client, with a blank after each.
 fn append_head(out: &mut Vec<u8>, number: u64, client: u32) -> Result<(), OutOfMemory>
-    ensures ok { OnOk result (out.new.items ≡ out.old.items ++ (decimal number ++ codes " " ++ decimal client ++ codes " ")) }
+    ensures ok { Appended result out.old out.new (decimal number ++ codes " " ++ decimal client ++ codes " ") }
     ensures err { OnErr result (out.new.items ≡ out.old.items) }
 {
     append_pieces(
@@ -102,7 +103,7 @@ fn append_head(out: &mut Vec<u8>, number: u64, client: u32) -> Result<(), OutOfM
 
 /// Appends what the client did, and a line feed.
 fn append_rest(out: &mut Vec<u8>, entry: &Entry) -> Result<(), OutOfMemory>
-    ensures ok { OnOk result (out.new.items ≡ out.old.items ++ (entry_words entry.now ++ codes "\n")) }
+    ensures ok { Appended result out.old out.new (entry_words entry.now ++ codes "\n") }
     ensures err { OnErr result (out.new.items ≡ out.old.items) }
 {
     let start = out.len();
@@ -116,7 +117,7 @@ fn append_rest(out: &mut Vec<u8>, entry: &Entry) -> Result<(), OutOfMemory>
 
 /// Appends what the client did.
 fn append_entry_words(out: &mut Vec<u8>, entry: &Entry) -> Result<(), OutOfMemory>
-    ensures ok { OnOk result (out.new.items ≡ out.old.items ++ entry_words entry.now) }
+    ensures ok { Appended result out.old out.new (entry_words entry.now) }
     ensures err { OnErr result (out.new.items ≡ out.old.items) }
 {
     match entry {
@@ -137,7 +138,7 @@ fn append_entry_words(out: &mut Vec<u8>, entry: &Entry) -> Result<(), OutOfMemor
 
 /// Appends the words of an undo.
 fn append_undone(out: &mut Vec<u8>, entry: u64) -> Result<(), OutOfMemory>
-    ensures ok { OnOk result (out.new.items ≡ out.old.items ++ (codes "undo " ++ decimal entry)) }
+    ensures ok { Appended result out.old out.new (codes "undo " ++ decimal entry) }
     ensures err { OnErr result (out.new.items ≡ out.old.items) }
 {
     append_pieces(out, &[Piece::Words(b"undo "), Piece::Number(entry)])?;
@@ -151,7 +152,7 @@ fn append_proposed(
     second: u32,
     events: &[u32],
 ) -> Result<(), OutOfMemory>
-    ensures ok { OnOk result (out.new.items ≡ out.old.items ++ (codes "propose " ++ decimal first ++ codes " " ++ decimal second ++ spaced events.now)) }
+    ensures ok { Appended result out.old out.new (codes "propose " ++ decimal first ++ codes " " ++ decimal second ++ spaced events.now) }
     ensures err { OnErr result (out.new.items ≡ out.old.items) }
 {
     append_pieces(

@@ -1,5 +1,6 @@
 //! Appends the pieces of a line. Only this module turns numbers, names and lists into bytes.
-ghost use Rattle.std.specs.Prelude.{◌≡◌, ◌+◌, ◌*◌, ◌≤◌, ◌++◌, ◌∷◌, IfOk, OnOk, OnErr, codes, decimal, length, vec_len, vec_capacity};
+ghost use Rattle.std.specs.Prelude.{◌≡◌, ◌+◌, ◌*◌, ◌≤◌, ◌++◌, ◌∷◌, IfOk, OnErr, codes, decimal, length, vec_len, vec_capacity};
+ghost use Rattle.rapid_text.specs.Appended.{Appended};
 ghost use Rattle.report.specs.Info.{count_line};
 ghost use Rattle.report.specs.Pieces.{piece_bytes, pieces_text, spaced, spaced_names, spaced_pair, spaced_pairs};
 
@@ -27,7 +28,7 @@ pub enum Piece<'a> {
 
 /// Appends bytes as they are. If memory runs out, `out` stays as it was.
 pub(crate) fn append_bytes(out: &mut Vec<u8>, bytes: &[u8]) -> Result<(), OutOfMemory>
-    ensures ok { OnOk result (out.new.items ≡ out.old.items ++ bytes.now) }
+    ensures ok { Appended result out.old out.new bytes.now }
     ensures err { OnErr result (out.new.items ≡ out.old.items) }
 {
     out.extend_from_slice(bytes)?;
@@ -49,7 +50,7 @@ pub(crate) fn put_few(out: &mut Vec<u8>, bytes: &[u8])
 
 /// Appends a number. If memory runs out, `out` stays as it was.
 fn append_number(out: &mut Vec<u8>, number: u64) -> Result<(), OutOfMemory>
-    ensures ok { OnOk result (out.new.items ≡ out.old.items ++ decimal number) }
+    ensures ok { Appended result out.old out.new (decimal number) }
     ensures err { OnErr result (out.new.items ≡ out.old.items) }
 {
     let mut buffer = Buffer::new();
@@ -61,7 +62,7 @@ fn append_number(out: &mut Vec<u8>, number: u64) -> Result<(), OutOfMemory>
 
 /// Appends a blank and the number.
 fn append_spaced(out: &mut Vec<u8>, number: u64) -> Result<(), OutOfMemory>
-    ensures ok { OnOk result (out.new.items ≡ out.old.items ++ 32 ∷ decimal number) }
+    ensures ok { Appended result out.old out.new (32 ∷ decimal number) }
     ensures err { OnErr result (out.new.items ≡ out.old.items) }
 {
     let mut buffer = Buffer::new();
@@ -95,7 +96,7 @@ fn put_numbers(out: &mut Vec<u8>, numbers: &[u32])
 
 /// Appends each number after a blank. Makes room for all of them once.
 fn append_numbers(out: &mut Vec<u8>, numbers: &[u32]) -> Result<(), OutOfMemory>
-    ensures ok { OnOk result (out.new.items ≡ out.old.items ++ spaced numbers.now) }
+    ensures ok { Appended result out.old out.new (spaced numbers.now) }
     ensures err { OnErr result (out.new.items ≡ out.old.items) }
 {
     out.reserve(room_of(numbers.len())?)?;
@@ -111,7 +112,7 @@ pub(crate) fn append_numbers_line(
     words: &[u8],
     numbers: &[u32],
 ) -> Result<(), OutOfMemory>
-    ensures ok { OnOk result (out.new.items ≡ out.old.items ++ (words.now ++ spaced numbers.now ++ codes "\n")) }
+    ensures ok { Appended result out.old out.new (words.now ++ spaced numbers.now ++ codes "\n") }
     ensures err { OnErr result (out.new.items ≡ out.old.items) }
 {
     let Some(room) = room_of(numbers.len())?.checked_add(words.len() + 1) else {
@@ -126,7 +127,7 @@ pub(crate) fn append_numbers_line(
 
 /// Appends a blank and the name.
 fn append_name(out: &mut Vec<u8>, name: &Name) -> Result<(), OutOfMemory>
-    ensures ok { OnOk result (out.new.items ≡ out.old.items ++ 32 ∷ name.now) }
+    ensures ok { Appended result out.old out.new (32 ∷ name.now) }
     ensures err { OnErr result (out.new.items ≡ out.old.items) }
 {
     let start = out.len();
@@ -140,7 +141,7 @@ fn append_name(out: &mut Vec<u8>, name: &Name) -> Result<(), OutOfMemory>
 
 /// Appends each name after a blank.
 fn append_names(out: &mut Vec<u8>, names: &[Name]) -> Result<(), OutOfMemory>
-    ensures ok { OnOk result (out.new.items ≡ out.old.items ++ spaced_names names.now) }
+    ensures ok { Appended result out.old out.new (spaced_names names.now) }
     ensures err { OnErr result (out.new.items ≡ out.old.items) }
 {
     let start = out.len();
@@ -155,7 +156,7 @@ fn append_names(out: &mut Vec<u8>, names: &[Name]) -> Result<(), OutOfMemory>
 
 /// Appends a hyphen and the number.
 fn append_hyphened(out: &mut Vec<u8>, number: u64) -> Result<(), OutOfMemory>
-    ensures ok { OnOk result (out.new.items ≡ out.old.items ++ 45 ∷ decimal number) }
+    ensures ok { Appended result out.old out.new (45 ∷ decimal number) }
     ensures err { OnErr result (out.new.items ≡ out.old.items) }
 {
     let start = out.len();
@@ -169,7 +170,7 @@ fn append_hyphened(out: &mut Vec<u8>, number: u64) -> Result<(), OutOfMemory>
 
 /// Appends a blank and the two numbers with a hyphen between them.
 fn append_pair(out: &mut Vec<u8>, pair: (u32, u32)) -> Result<(), OutOfMemory>
-    ensures ok { OnOk result (out.new.items ≡ out.old.items ++ spaced_pair pair) }
+    ensures ok { Appended result out.old out.new (spaced_pair pair) }
     ensures err { OnErr result (out.new.items ≡ out.old.items) }
 {
     let (first, second) = pair;
@@ -184,7 +185,7 @@ fn append_pair(out: &mut Vec<u8>, pair: (u32, u32)) -> Result<(), OutOfMemory>
 
 /// Appends each pair after a blank.
 fn append_pairs(out: &mut Vec<u8>, pairs: &[(u32, u32)]) -> Result<(), OutOfMemory>
-    ensures ok { OnOk result (out.new.items ≡ out.old.items ++ spaced_pairs pairs.now) }
+    ensures ok { Appended result out.old out.new (spaced_pairs pairs.now) }
     ensures err { OnErr result (out.new.items ≡ out.old.items) }
 {
     let start = out.len();
@@ -199,7 +200,7 @@ fn append_pairs(out: &mut Vec<u8>, pairs: &[(u32, u32)]) -> Result<(), OutOfMemo
 
 /// Appends a piece.
 fn append_piece(out: &mut Vec<u8>, piece: Piece<'_>) -> Result<(), OutOfMemory>
-    ensures ok { OnOk result (out.new.items ≡ out.old.items ++ piece_bytes piece.entry) }
+    ensures ok { Appended result out.old out.new (piece_bytes piece.entry) }
     ensures err { OnErr result (out.new.items ≡ out.old.items) }
 {
     match piece {
@@ -213,7 +214,7 @@ fn append_piece(out: &mut Vec<u8>, piece: Piece<'_>) -> Result<(), OutOfMemory>
 
 /// Appends all pieces, in order. If memory runs out, `out` stays as it was.
 pub fn append_pieces(out: &mut Vec<u8>, pieces: &[Piece<'_>]) -> Result<(), OutOfMemory>
-    ensures ok { OnOk result (out.new.items ≡ out.old.items ++ pieces_text pieces.now) }
+    ensures ok { Appended result out.old out.new (pieces_text pieces.now) }
     ensures err { OnErr result (out.new.items ≡ out.old.items) }
 {
     let line_start = out.len();
@@ -228,7 +229,7 @@ pub fn append_pieces(out: &mut Vec<u8>, pieces: &[Piece<'_>]) -> Result<(), OutO
 
 /// Appends a line with a word and a number. If memory runs out, `out` stays as it was.
 pub(crate) fn append_count(out: &mut Vec<u8>, word: &[u8], number: u64) -> Result<(), OutOfMemory>
-    ensures ok { OnOk result (out.new.items ≡ out.old.items ++ count_line word.now number) }
+    ensures ok { Appended result out.old out.new (count_line word.now number) }
     ensures err { OnErr result (out.new.items ≡ out.old.items) }
 {
     append_pieces(

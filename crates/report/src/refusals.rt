@@ -1,5 +1,6 @@
 //! Prints the reason why a call is refused.
-ghost use Rattle.std.specs.Prelude.{◌≡◌, ◌++◌, OnOk, OnErr, codes, decimal};
+ghost use Rattle.std.specs.Prelude.{◌≡◌, ◌++◌, OnErr, codes, decimal};
+ghost use Rattle.rapid_text.specs.Appended.{Appended};
 ghost use Rattle.report.specs.Causes.{disabled_words, swap_words, refused_line};
 ghost use Rattle.report.specs.Refusals.{move_words, refusal_text};
 
@@ -17,7 +18,7 @@ fn append_move_words(
     indexed: &Indexed,
     why: MoveRefusal,
 ) -> Result<(), OutOfMemory>
-    ensures ok { OnOk result (out.new.items ≡ out.old.items ++ move_words indexed.now why) }
+    ensures ok { Appended result out.old out.new (move_words indexed.now why) }
     ensures err { OnErr result (out.new.items ≡ out.old.items) }
 {
     match why {
@@ -38,7 +39,7 @@ fn append_move_end(
     indexed: &Indexed,
     why: MoveRefusal,
 ) -> Result<(), OutOfMemory>
-    ensures ok { OnOk result (out.new.items ≡ out.old.items ++ (move_words indexed.now why ++ codes "\n")) }
+    ensures ok { Appended result out.old out.new (move_words indexed.now why ++ codes "\n") }
     ensures err { OnErr result (out.new.items ≡ out.old.items) }
 {
     let start = out.len();
@@ -56,7 +57,7 @@ fn append_in_pieces(
     indexed: &Indexed,
     why: MoveRefusal,
 ) -> Result<(), OutOfMemory>
-    ensures ok { OnOk result (out.new.items ≡ out.old.items ++ refused_line (move_words indexed.now why)) }
+    ensures ok { Appended result out.old out.new (refused_line (move_words indexed.now why)) }
     ensures err { OnErr result (out.new.items ≡ out.old.items) }
 {
     let start = out.len();
@@ -74,7 +75,7 @@ fn append_disabled_line(
     indexed: &Indexed,
     why: Disabled,
 ) -> Result<(), OutOfMemory>
-    ensures ok { OnOk result (out.new.items ≡ out.old.items ++ refused_line (codes "46 " ++ disabled_words indexed.now why)) }
+    ensures ok { Appended result out.old out.new (refused_line (codes "46 " ++ disabled_words indexed.now why)) }
     ensures err { OnErr result (out.new.items ≡ out.old.items) }
 {
     match why {
@@ -88,7 +89,7 @@ fn append_disabled_line(
 
 /// Appends the line of a command whose two neighbours cannot be exchanged.
 fn append_swap_line(out: &mut Vec<u8>, why: SwapRefusal) -> Result<(), OutOfMemory>
-    ensures ok { OnOk result (out.new.items ≡ out.old.items ++ refused_line (codes "47 " ++ swap_words why)) }
+    ensures ok { Appended result out.old out.new (refused_line (codes "47 " ++ swap_words why)) }
     ensures err { OnErr result (out.new.items ≡ out.old.items) }
 {
     match why {
@@ -99,7 +100,7 @@ fn append_swap_line(out: &mut Vec<u8>, why: SwapRefusal) -> Result<(), OutOfMemo
 
 /// Appends the line of a refused command. It is one piece if it names nothing of the trace.
 fn append_move(out: &mut Vec<u8>, indexed: &Indexed, why: MoveRefusal) -> Result<(), OutOfMemory>
-    ensures ok { OnOk result (out.new.items ≡ out.old.items ++ refused_line (move_words indexed.now why)) }
+    ensures ok { Appended result out.old out.new (refused_line (move_words indexed.now why)) }
     ensures err { OnErr result (out.new.items ≡ out.old.items) }
 {
     match why {
@@ -116,7 +117,7 @@ fn append_move(out: &mut Vec<u8>, indexed: &Indexed, why: MoveRefusal) -> Result
 
 /// Appends the position of the refused command in its batch.
 fn append_place(out: &mut Vec<u8>, place: u32) -> Result<(), OutOfMemory>
-    ensures ok { OnOk result (out.new.items ≡ out.old.items ++ (codes "refused 70 at " ++ decimal place ++ codes " ")) }
+    ensures ok { Appended result out.old out.new (codes "refused 70 at " ++ decimal place ++ codes " ") }
     ensures err { OnErr result (out.new.items ≡ out.old.items) }
 {
     append_pieces(
@@ -137,8 +138,7 @@ fn append_in_batch(
     place: u32,
     why: MoveRefusal,
 ) -> Result<(), OutOfMemory>
-    ensures ok { OnOk result (out.new.items
-        ≡ out.old.items ++ refused_line (codes "70 at " ++ decimal place ++ codes " " ++ move_words indexed.now why)) }
+    ensures ok { Appended result out.old out.new (refused_line (codes "70 at " ++ decimal place ++ codes " " ++ move_words indexed.now why)) }
     ensures err { OnErr result (out.new.items ≡ out.old.items) }
 {
     let start = out.len();
@@ -152,7 +152,7 @@ fn append_in_batch(
 
 /// Appends the line of an undo that is refused because a later entry touches a name that its entry wrote.
 fn append_rests_on(out: &mut Vec<u8>, entry: u64, name: &Name) -> Result<(), OutOfMemory>
-    ensures ok { OnOk result (out.new.items ≡ out.old.items ++ refused_line (codes "52 rests on " ++ decimal entry ++ codes " " ++ name.now)) }
+    ensures ok { Appended result out.old out.new (refused_line (codes "52 rests on " ++ decimal entry ++ codes " " ++ name.now)) }
     ensures err { OnErr result (out.new.items ≡ out.old.items) }
 {
     append_refused(
@@ -169,7 +169,7 @@ fn append_rests_on(out: &mut Vec<u8>, entry: u64, name: &Name) -> Result<(), Out
 
 /// Appends the line of a proposal that is not a correct reordering.
 fn append_not_reordering(out: &mut Vec<u8>, position: u32) -> Result<(), OutOfMemory>
-    ensures ok { OnOk result (out.new.items ≡ out.old.items ++ refused_line (codes "53 not a reordering at " ++ decimal position)) }
+    ensures ok { Appended result out.old out.new (refused_line (codes "53 not a reordering at " ++ decimal position)) }
     ensures err { OnErr result (out.new.items ≡ out.old.items) }
 {
     append_refused(
@@ -184,7 +184,7 @@ fn append_not_reordering(out: &mut Vec<u8>, position: u32) -> Result<(), OutOfMe
 
 /// Appends the line of a refused call. `indexed` is the trace of the call. If memory runs out, `out` stays as it was.
 pub fn refusal(indexed: &Indexed, refusal: &Refusal, out: &mut Vec<u8>) -> Result<(), OutOfMemory>
-    ensures ok { OnOk result (out.new.items ≡ out.old.items ++ refusal_text indexed.now refusal.now) }
+    ensures ok { Appended result out.old out.new (refusal_text indexed.now refusal.now) }
     ensures err { OnErr result (out.new.items ≡ out.old.items) }
 {
     match *refusal {

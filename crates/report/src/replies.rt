@@ -1,5 +1,6 @@
 //! Prints replies to calls.
-ghost use Rattle.std.specs.Prelude.{◌≡◌, ◌++◌, OnOk, OnErr, codes, decimal};
+ghost use Rattle.std.specs.Prelude.{◌≡◌, ◌++◌, OnErr, codes, decimal};
+ghost use Rattle.rapid_text.specs.Appended.{Appended};
 ghost use Rattle.report.specs.Pieces.{piece_bytes};
 ghost use Rattle.report.specs.Replies.{reply_text};
 
@@ -10,7 +11,7 @@ use rapid_text::OutOfMemory;
 
 /// Appends the line of a call that is done.
 fn append_done(out: &mut Vec<u8>, number: u64) -> Result<(), OutOfMemory>
-    ensures ok { OnOk result (out.new.items ≡ out.old.items ++ (decimal number ++ codes ": done\n")) }
+    ensures ok { Appended result out.old out.new (decimal number ++ codes ": done\n") }
     ensures err { OnErr result (out.new.items ≡ out.old.items) }
 {
     let mut buffer = Buffer::new();
@@ -30,7 +31,7 @@ fn append_numbered(
     words: &[u8],
     other: u64,
 ) -> Result<(), OutOfMemory>
-    ensures ok { OnOk result (out.new.items ≡ out.old.items ++ (decimal number ++ words.now ++ decimal other ++ codes "\n")) }
+    ensures ok { Appended result out.old out.new (decimal number ++ words.now ++ decimal other ++ codes "\n") }
     ensures err { OnErr result (out.new.items ≡ out.old.items) }
 {
     let mut first = Buffer::new();
@@ -47,7 +48,7 @@ fn append_numbered(
 
 /// Appends a line with a word and a list.
 fn append_list<'a>(out: &mut Vec<u8>, word: &'a [u8], list: Piece<'a>) -> Result<(), OutOfMemory>
-    ensures ok { OnOk result (out.new.items ≡ out.old.items ++ (word.now ++ piece_bytes list.entry ++ codes "\n")) }
+    ensures ok { Appended result out.old out.new (word.now ++ piece_bytes list.entry ++ codes "\n") }
     ensures err { OnErr result (out.new.items ≡ out.old.items) }
 {
     append_pieces(out, &[Piece::Words(word), list, Piece::Words(b"\n")])?;
@@ -56,7 +57,7 @@ fn append_list<'a>(out: &mut Vec<u8>, word: &'a [u8], list: Piece<'a>) -> Result
 
 /// Appends the line of a reply that shows these events. If memory runs out, `out` stays as it was.
 pub fn shown(events: &[u32], out: &mut Vec<u8>) -> Result<(), OutOfMemory>
-    ensures ok { OnOk result (out.new.items ≡ out.old.items ++ reply_text (Reply.Shown events.now)) }
+    ensures ok { Appended result out.old out.new (reply_text (Reply.Shown events.now)) }
     ensures err { OnErr result (out.new.items ≡ out.old.items) }
 {
     append_numbers_line(out, b"shown", events)
@@ -64,7 +65,7 @@ pub fn shown(events: &[u32], out: &mut Vec<u8>) -> Result<(), OutOfMemory>
 
 /// Appends the line of a reply. If memory runs out, `out` stays as it was.
 pub fn reply(reply: &Reply, out: &mut Vec<u8>) -> Result<(), OutOfMemory>
-    ensures ok { OnOk result (out.new.items ≡ out.old.items ++ reply_text reply.now) }
+    ensures ok { Appended result out.old out.new (reply_text reply.now) }
     ensures err { OnErr result (out.new.items ≡ out.old.items) }
 {
     match reply {

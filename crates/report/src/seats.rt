@@ -1,5 +1,6 @@
 //! Prints the reason why a call through a seat is refused.
-ghost use Rattle.std.specs.Prelude.{◌≡◌, ◌++◌, OnOk, OnErr};
+ghost use Rattle.std.specs.Prelude.{◌≡◌, OnErr};
+ghost use Rattle.rapid_text.specs.Appended.{Appended};
 ghost use Rattle.report.specs.Seats.{seat_refusal_text};
 
 use crate::causes::append_words;
@@ -15,7 +16,7 @@ pub fn seat_refusal(
     why: &SeatRefusal,
     out: &mut Vec<u8>,
 ) -> Result<(), OutOfMemory>
-    ensures ok { OnOk result (out.new.items ≡ out.old.items ++ seat_refusal_text indexed.now why.now) }
+    ensures ok { Appended result out.old out.new (seat_refusal_text indexed.now why.now) }
     ensures err { OnErr result (out.new.items ≡ out.old.items) }
 {
     match why {

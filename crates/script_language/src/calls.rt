@@ -1,6 +1,7 @@
 //! Reads the call in a script line.
-ghost use Rattle.std.specs.Prelude.{◌≡◌, ◌⊎◌, ◌≤◌, ℕ, IfOk, IfSome, Ok, Err, Some};
+ghost use Rattle.std.specs.Prelude.{◌≡◌, ◌⊎◌, ◌≤◌, ℕ, IfOk, Ok, Err, Some};
 ghost use Rattle.dependence.specs.Limits.{client_limit};
+ghost use Rattle.rapid_text.specs.Appended.{IfFound};
 ghost use Rattle.script_language.specs.Scripts.{name_reading, number_reading, numbers_reading, nothing_reading, one_name_reading, name_and_number_reading, branch_reading, command_arguments_reading, command_with, command_reading, batch_reading, undo_reading, propose_reading, arguments_reading, call_reading, client_reading, words_reading, script_line_reading};
 ghost use Rattle.script_language.specs.declared.refusal.ScriptCause.TheVariants.{OutOfMemory};
 
@@ -248,7 +249,7 @@ fn read_words(alloc: Global, words: &mut Words<'_>) -> Result<(u32, Call), Scrip
 /// `OutOfMemory`.
 pub fn read_line(alloc: Global, raw: &[u8]) -> Result<Option<(u32, Call)>, ScriptCause>
     ensures reading { (result ≡ Err OutOfMemory) ⊎ (result ≡ script_line_reading raw.now) }
-    ensures client { IfOk result (λ asked. IfSome asked (λ pair. (1 ≤ pair.0) × (pair.0 ≤ client_limit))) }
+    ensures client { IfFound result (λ pair. (1 ≤ pair.0) × (pair.0 ≤ client_limit)) }
 {
     let line = trim(raw);
     if line.is_empty() {

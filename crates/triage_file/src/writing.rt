@@ -1,6 +1,7 @@
 //! A triage file that has an entry for each race.
 ghost use Rattle.std.specs.Prelude.{◌≡◌, ◌++◌, ◌∷◌, [], List, ℕ, codes, IfOk, OnErr, OnOk, flat_map, option_map, string_bytes};
 ghost use Rattle.std.specs.List.{concat};
+ghost use Rattle.rapid_text.specs.Appended.{Appended};
 ghost use Rattle.triage_file.specs.Writing.{alone_line, entry_by, entry_text, function_text, is_alone, is_only, is_plain, is_same_by, line_text, name_line, path_text, place_at, text_of, two_of, variable_line, IsTriageFile};
 
 use crate::choosing::is_race;
@@ -37,7 +38,7 @@ fn append_all(
     numbers: &[u32],
     verdicts: &[Verdict],
 ) -> Result<(), OutOfMemory>
-    ensures { OnOk result (out.new.items ≡ out.old.items ++ flat_map (entry_by indexed.now numbers.now) verdicts.now) }
+    ensures { Appended result out.old out.new (flat_map (entry_by indexed.now numbers.now) verdicts.now) }
 {
     for verdict in verdicts {
         append_verdict(out, indexed, numbers, verdict)?;
@@ -52,7 +53,7 @@ fn append_verdict(
     numbers: &[u32],
     verdict: &Verdict,
 ) -> Result<(), OutOfMemory>
-    ensures { OnOk result (out.new.items ≡ out.old.items ++ entry_by indexed.now numbers.now verdict.now) }
+    ensures { Appended result out.old out.new (entry_by indexed.now numbers.now verdict.now) }
 {
     if is_race(verdict) {
         append_entry(out, indexed, numbers, verdict)
@@ -68,7 +69,7 @@ fn append_entry(
     numbers: &[u32],
     verdict: &Verdict,
 ) -> Result<(), OutOfMemory>
-    ensures { OnOk result (out.new.items ≡ out.old.items ++ entry_text indexed.now numbers.now verdict.now) }
+    ensures { Appended result out.old out.new (entry_text indexed.now numbers.now verdict.now) }
 {
     out.extend_from_slice(b"[[race]]\n")?;
     append_paths(out, indexed, verdict)?;
@@ -81,7 +82,7 @@ fn append_entry(
 
 /// Appends a key with an array of two items.
 fn append_two(out: &mut Vec<u8>, key: &[u8], one: &[u8], other: &[u8]) -> Result<(), OutOfMemory>
-    ensures { OnOk result (out.new.items ≡ out.old.items ++ two_of key.now one.now other.now) }
+    ensures { Appended result out.old out.new (two_of key.now one.now other.now) }
 {
     out.extend_from_slice(key)?;
     out.extend_from_slice(b" = [")?;
@@ -114,7 +115,7 @@ fn place_of(indexed: &Indexed, event: u32) -> &[u8]
 
 /// Appends the paths of a race.
 fn append_paths(out: &mut Vec<u8>, indexed: &Indexed, verdict: &Verdict) -> Result<(), OutOfMemory>
-    ensures { OnOk result (out.new.items ≡ out.old.items ++ two_of (codes "paths") (path_text indexed.now verdict.now.first) (path_text indexed.now verdict.now.second)) }
+    ensures { Appended result out.old out.new (two_of (codes "paths") (path_text indexed.now verdict.now.first) (path_text indexed.now verdict.now.second)) }
 {
     let alloc = *out.allocator();
     let one = text_of(alloc, path_of(place_of(indexed, verdict.first)))?;
@@ -128,7 +129,7 @@ fn append_functions(
     indexed: &Indexed,
     verdict: &Verdict,
 ) -> Result<(), OutOfMemory>
-    ensures { OnOk result (out.new.items ≡ out.old.items ++ two_of (codes "functions") (function_text indexed.now verdict.now.first) (function_text indexed.now verdict.now.second)) }
+    ensures { Appended result out.old out.new (two_of (codes "functions") (function_text indexed.now verdict.now.first) (function_text indexed.now verdict.now.second)) }
 {
     let alloc = *out.allocator();
     let one = text_of(alloc, function_of(location_of(indexed, verdict.first)))?;
@@ -138,7 +139,7 @@ fn append_functions(
 
 /// Appends the lines of a race.
 fn append_lines(out: &mut Vec<u8>, indexed: &Indexed, verdict: &Verdict) -> Result<(), OutOfMemory>
-    ensures { OnOk result (out.new.items ≡ out.old.items ++ two_of (codes "lines") (line_text indexed.now verdict.now.first) (line_text indexed.now verdict.now.second)) }
+    ensures { Appended result out.old out.new (two_of (codes "lines") (line_text indexed.now verdict.now.first) (line_text indexed.now verdict.now.second)) }
 {
     append_two(
         out,
@@ -170,7 +171,7 @@ fn append_variable(
     numbers: &[u32],
     verdict: &Verdict,
 ) -> Result<(), OutOfMemory>
-    ensures { OnOk result (out.new.items ≡ out.old.items ++ variable_line indexed.now numbers.now verdict.now) }
+    ensures { Appended result out.old out.new (variable_line indexed.now numbers.now verdict.now) }
 {
     match use_of(indexed, verdict.first) {
         Some(name) => append_alone(out, indexed, numbers, name, verdict.row.places),
@@ -186,7 +187,7 @@ fn append_alone(
     name: &[u8],
     places: (u32, u32),
 ) -> Result<(), OutOfMemory>
-    ensures { OnOk result (out.new.items ≡ out.old.items ++ alone_line indexed.now numbers.now name.now places) }
+    ensures { Appended result out.old out.new (alone_line indexed.now numbers.now name.now places) }
 {
     if is_alone(indexed, numbers, name, places.0) || is_alone(indexed, numbers, name, places.1) {
         append_name(out, name)
@@ -197,7 +198,7 @@ fn append_alone(
 
 /// Appends a variable.
 fn append_name(out: &mut Vec<u8>, name: &[u8]) -> Result<(), OutOfMemory>
-    ensures { OnOk result (out.new.items ≡ out.old.items ++ name_line name.now) }
+    ensures { Appended result out.old out.new (name_line name.now) }
 {
     let text = text_of(*out.allocator(), name)?;
     append_three(out, b"variables = [", text.as_bytes(), b"]\n")
@@ -205,7 +206,7 @@ fn append_name(out: &mut Vec<u8>, name: &[u8]) -> Result<(), OutOfMemory>
 
 /// Appends three texts.
 fn append_three(out: &mut Vec<u8>, one: &[u8], two: &[u8], three: &[u8]) -> Result<(), OutOfMemory>
-    ensures { OnOk result (out.new.items ≡ out.old.items ++ concat (one.now ∷ two.now ∷ three.now ∷ [])) }
+    ensures { Appended result out.old out.new (concat (one.now ∷ two.now ∷ three.now ∷ [])) }
 {
     out.extend_from_slice(one)?;
     out.extend_from_slice(two)?;

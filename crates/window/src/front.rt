@@ -1,5 +1,6 @@
 //! A trace of any length, as far as it has been read.
 ghost use Rattle.std.specs.Prelude.{◌≡◌, ◌+◌, ◌-◌, ◌<◌, ◌≤◌, ◌++◌, ℕ, List, length, Ok, Err, IfOk, IfErr, OnOk, OnErr, IfSome, None};
+ghost use Rattle.rapid_text.specs.Appended.{IfFound};
 ghost use Rattle.rapid_text.specs.Limits.{event_limit};
 ghost use Rattle.rapid_text.specs.Reading.{first_uses, reading_of, thread_uses};
 ghost use Rattle.trace_rules.specs.Rules.{IsDisciplined};
@@ -172,9 +173,8 @@ impl Front {
 
     // The same for all threads, before any piece; None if there are too many threads.
     fn whole_head(&self, alloc: Global) -> Result<Option<Head>, OutOfMemory>
-        ensures stands { IfOk result
-            (λ head. IfSome head (λ h. (more : List ℕ) → Stands self.now.read h.text.items more)) }
-        ensures size { IfOk result (λ head. IfSome head (λ h. h.size ≡ length (said_in h.text.items))) }
+        ensures stands { IfFound result (λ h. (more : List ℕ) → Stands self.now.read h.text.items more) }
+        ensures size { IfFound result (λ h. h.size ≡ length (said_in h.text.items)) }
     {
         if self.known.is_wide() {
             return Ok(None);
@@ -195,12 +195,9 @@ impl Front {
     ) -> Result<Option<Window>, OutOfMemory>
         requires whole { IsWhole more.now }
         requires most { 0 < most }
-        ensures from { IfOk result (λ made. IfSome made (λ w. w.from ≡ length (said_in self.now.read))) }
-        ensures most { IfOk result (λ made. IfSome made (λ w. (w.from < w.to) × (w.to ≤ w.from + most))) }
-        ensures window { IfOk result (λ made. IfSome made
-            (λ w. (later : List ℕ)
-            → IsDisciplined (long_trace (self.now.read ++ (more.now ++ later)))
-            → IsWindowAt (self.now.read ++ (more.now ++ later)) w.from w.to w.prologue w.text.items)) }
+        ensures from { IfFound result (λ w. w.from ≡ length (said_in self.now.read)) }
+        ensures most { IfFound result (λ w. (w.from < w.to) × (w.to ≤ w.from + most)) }
+        ensures window { IfFound result (λ w. (later : List ℕ) → IsDisciplined (long_trace (self.now.read ++ (more.now ++ later))) → IsWindowAt (self.now.read ++ (more.now ++ later)) w.from w.to w.prologue w.text.items) }
     {
         let Some(head) = self.whole_head(alloc)? else {
             return Ok(None);
@@ -240,7 +237,7 @@ impl Front {
 
     // The trace of the piece, if it can be read after a head with all threads.
     fn quick_next(&self, alloc: Global, more: &[u8]) -> Result<Option<Next>, OutOfMemory>
-        ensures { IfOk result (λ made. IfSome made (λ next. IsReadAfter self.now.read more.now next.trace next.from)) }
+        ensures { IfFound result (λ next. IsReadAfter self.now.read more.now next.trace next.from) }
     {
         let Some(head) = self.whole_head(alloc)? else {
             return Ok(None);

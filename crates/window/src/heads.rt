@@ -1,5 +1,6 @@
 //! A text that replaces what was read, before a piece of a trace.
-ghost use Rattle.std.specs.Prelude.{◌≡◌, ◌++◌, ℕ, List, [], false, if◌then◌else◌, codes, IfOk, OnOk};
+ghost use Rattle.std.specs.Prelude.{◌≡◌, ℕ, List, [], false, if◌then◌else◌, codes, IfOk};
+ghost use Rattle.rapid_text.specs.Appended.{Appended};
 ghost use Rattle.window.specs.HeadText.{all_kept, all_of, first_outside, head_text, noted_lines, said_line};
 ghost use Rattle.window.specs.Heads.{level_names, names_of, past_of};
 ghost use Rattle.window.specs.Streams.{is_named, read_name};
@@ -16,7 +17,7 @@ fn append_said(
     word: &[u8],
     name: &[u8],
 ) -> Result<(), OutOfMemory>
-    ensures { OnOk result (text.new.items ≡ text.old.items ++ said_line thread.now word.now name.now) }
+    ensures { Appended result text.old text.new (said_line thread.now word.now name.now) }
 {
     text.extend_from_slice(thread)?;
     text.push(b'|')?;
@@ -35,9 +36,7 @@ fn append_call(
     word: &[u8],
     name: &[u8],
 ) -> Result<(), OutOfMemory>
-    ensures { OnOk result
-        (text.new.items
-        ≡ text.old.items ++ (if is_named (level_names noted.now) name.now then said_line thread.now word.now name.now else [])) }
+    ensures { Appended result text.old text.new (if is_named (level_names noted.now) name.now then said_line thread.now word.now name.now else []) }
 {
     if is_noted(noted, name) {
         append_said(text, thread, word, name)?;
@@ -53,9 +52,7 @@ fn append_calls(
     thread: &[u8],
     word: &[u8],
 ) -> Result<(), OutOfMemory>
-    ensures { OnOk result
-        (text.new.items
-        ≡ text.old.items ++ noted_lines (λ name. said_line thread.now word.now name) (level_names noted.now) raw.now.threads) }
+    ensures { Appended result text.old text.new (noted_lines (λ name. said_line thread.now word.now name) (level_names noted.now) raw.now.threads) }
 {
     for other in 0..raw.threads() {
         append_call(text, noted, thread, word, raw.thread_name(other))?;
@@ -85,11 +82,7 @@ fn append_joins(
     seen: &Levels,
     joined: &Levels,
 ) -> Result<(), OutOfMemory>
-    ensures { OnOk result
-        (text.new.items
-        ≡ text.old.items
-        ++ noted_lines (λ name. said_line (first_outside (level_names seen.now) (level_names joined.now)) (codes "join") name)
-        (level_names joined.now) raw.now.threads) }
+    ensures { Appended result text.old text.new (noted_lines (λ name. said_line (first_outside (level_names seen.now) (level_names joined.now)) (codes "join") name) (level_names joined.now) raw.now.threads) }
 {
     if !is_any_noted(joined, raw) {
         return Ok(());
@@ -100,9 +93,7 @@ fn append_joins(
 
 // Appends a read by the thread of this name, if it is noted.
 fn append_read(text: &mut Vec<u8>, noted: &Levels, name: &[u8]) -> Result<(), OutOfMemory>
-    ensures { OnOk result
-        (text.new.items
-        ≡ text.old.items ++ (if is_named (level_names noted.now) name.now then said_line name.now (codes "r") read_name else [])) }
+    ensures { Appended result text.old text.new (if is_named (level_names noted.now) name.now then said_line name.now (codes "r") read_name else []) }
 {
     if is_noted(noted, name) {
         append_said(text, name, b"r", b"seen")?;
@@ -112,9 +103,7 @@ fn append_read(text: &mut Vec<u8>, noted: &Levels, name: &[u8]) -> Result<(), Ou
 
 // Appends such a read for each noted thread of the piece.
 fn append_reads(text: &mut Vec<u8>, raw: &RawTrace, noted: &Levels) -> Result<(), OutOfMemory>
-    ensures { OnOk result
-        (text.new.items
-        ≡ text.old.items ++ noted_lines (λ name. said_line name (codes "r") read_name) (level_names noted.now) raw.now.threads) }
+    ensures { Appended result text.old text.new (noted_lines (λ name. said_line name (codes "r") read_name) (level_names noted.now) raw.now.threads) }
 {
     for other in 0..raw.threads() {
         append_read(text, noted, raw.thread_name(other))?;
@@ -130,10 +119,7 @@ fn append_level_calls(
     thread: &[u8],
     word: &[u8],
 ) -> Result<(), OutOfMemory>
-    ensures { OnOk result
-        (text.new.items
-        ≡ text.old.items
-        ++ noted_lines (λ name. said_line thread.now word.now name) (level_names noted.now) (names_of level.now)) }
+    ensures { Appended result text.old text.new (noted_lines (λ name. said_line thread.now word.now name) (level_names noted.now) (names_of level.now)) }
 {
     for at in 0..level.len() {
         append_call(text, noted, thread, word, level[at].as_slice())?;
@@ -148,10 +134,7 @@ fn append_all_calls(
     thread: &[u8],
     word: &[u8],
 ) -> Result<(), OutOfMemory>
-    ensures { OnOk result
-        (text.new.items
-        ≡ text.old.items
-        ++ noted_lines (λ name. said_line thread.now word.now name) (level_names noted.now) (level_names noted.now)) }
+    ensures { Appended result text.old text.new (noted_lines (λ name. said_line thread.now word.now name) (level_names noted.now) (level_names noted.now)) }
 {
     for at in 0..noted.levels.len() {
         append_level_calls(text, noted, &noted.levels[at], thread, word)?;
@@ -161,10 +144,7 @@ fn append_all_calls(
 
 // Appends a read by each noted thread of the level.
 fn append_level_reads(text: &mut Vec<u8>, noted: &Levels, level: &Names) -> Result<(), OutOfMemory>
-    ensures { OnOk result
-        (text.new.items
-        ≡ text.old.items
-        ++ noted_lines (λ name. said_line name (codes "r") read_name) (level_names noted.now) (names_of level.now)) }
+    ensures { Appended result text.old text.new (noted_lines (λ name. said_line name (codes "r") read_name) (level_names noted.now) (names_of level.now)) }
 {
     for at in 0..level.len() {
         append_read(text, noted, level[at].as_slice())?;
@@ -174,10 +154,7 @@ fn append_level_reads(text: &mut Vec<u8>, noted: &Levels, level: &Names) -> Resu
 
 // Appends a read by each noted thread.
 fn append_all_reads(text: &mut Vec<u8>, noted: &Levels) -> Result<(), OutOfMemory>
-    ensures { OnOk result
-        (text.new.items
-        ≡ text.old.items
-        ++ noted_lines (λ name. said_line name (codes "r") read_name) (level_names noted.now) (level_names noted.now)) }
+    ensures { Appended result text.old text.new (noted_lines (λ name. said_line name (codes "r") read_name) (level_names noted.now) (level_names noted.now)) }
 {
     for at in 0..noted.levels.len() {
         append_level_reads(text, noted, &noted.levels[at])?;

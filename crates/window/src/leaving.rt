@@ -1,5 +1,6 @@
 //! A text that takes the locks that a trace holds at its end.
 ghost use Rattle.std.specs.Prelude.{◌≡◌, ◌++◌, ◌∷◌, ℕ, All, List, length, replicate, IfOk, OnOk};
+ghost use Rattle.rapid_text.specs.Appended.{Appended};
 ghost use Rattle.rapid_text.specs.declared.event.Op.{Op};
 ghost use Rattle.trace_rules.specs.Rules.{hold_count};
 ghost use Rattle.window.specs.declared.holding.Held.{Held};
@@ -15,7 +16,7 @@ use trace_rules::Trace;
 
 // Adds an acquire of the lock for each hold.
 fn add_takes(events: &mut Vec<Event>, held: Held, lock: u32) -> Result<(), OutOfMemory>
-    ensures { OnOk result (events.new.items ≡ events.old.items ++ takes_of held lock) }
+    ensures { Appended result events.old events.new (takes_of held lock) }
 {
     for _taken in 0..held.depth {
         events.push(Event {

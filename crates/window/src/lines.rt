@@ -1,6 +1,7 @@
 //! Appends the lines of a window.
 ghost use Rattle.std.specs.Fmt.{decimal};
-ghost use Rattle.std.specs.Prelude.{◌≡◌, ◌+◌, ◌<◌, ◌≤◌, ◌++◌, ◌-◌, ◌∷◌, [], All, length, take, drop, codes, OnOk};
+ghost use Rattle.std.specs.Prelude.{◌≡◌, ◌+◌, ◌<◌, ◌≤◌, ◌++◌, ◌-◌, ◌∷◌, [], All, length, take, drop, codes};
+ghost use Rattle.rapid_text.specs.Appended.{Appended};
 ghost use Rattle.rapid_text.specs.Canonical.{event_text, events_text, name_at, op_text};
 ghost use Rattle.rapid_text.specs.Recording.{IsNamed, IsNamedOp};
 ghost use Rattle.window.specs.Cuts.{begin_line, with_name};
@@ -35,7 +36,7 @@ fn lock_name<'a>(trace: &'a RawTrace, own: &'a [u8], lock: u32) -> &'a [u8]
 
 // Appends `word(name)`.
 fn append_call(text: &mut Vec<u8>, word: &[u8], name: &[u8]) -> Result<(), OutOfMemory>
-    ensures { OnOk result (text.new.items ≡ text.old.items ++ (word.now ++ codes "(" ++ name.now ++ codes ")")) }
+    ensures { Appended result text.old text.new (word.now ++ codes "(" ++ name.now ++ codes ")") }
 {
     text.extend_from_slice(word)?;
     text.push(b'(')?;
@@ -52,7 +53,7 @@ fn append_operation(
     op: Op,
 ) -> Result<(), OutOfMemory>
     requires { IsNamedOp (with_name trace.now own.now) op }
-    ensures { OnOk result (text.new.items ≡ text.old.items ++ op_text (with_name trace.now own.now) op) }
+    ensures { Appended result text.old text.new (op_text (with_name trace.now own.now) op) }
 {
     match op {
         Op::Read(variable) => append_call(text, b"r", variable_name(trace, own, variable)),
@@ -73,8 +74,7 @@ fn append_line(
     location: &[u8],
 ) -> Result<(), OutOfMemory>
     requires { IsNamed (with_name trace.now own.now) event }
-    ensures { OnOk result
-        (text.new.items ≡ text.old.items ++ event_text (with_name trace.now own.now) event location.now) }
+    ensures { Appended result text.old text.new (event_text (with_name trace.now own.now) event location.now) }
 {
     text.extend_from_slice(trace.thread_name(event.thread))?;
     text.push(b'|')?;
@@ -93,8 +93,7 @@ pub(crate) fn append_prologue(
     events: &[Event],
 ) -> Result<(), OutOfMemory>
     requires { All (IsNamed (with_name trace.now own.now)) events.now }
-    ensures { OnOk result
-        (text.new.items ≡ text.old.items ++ events_text (with_name trace.now own.now) events.now []) }
+    ensures { Appended result text.old text.new (events_text (with_name trace.now own.now) events.now []) }
 {
     for at in 0..events.len() {
         append_line(text, trace, own, events[at], b"")?;
@@ -112,13 +111,7 @@ pub(crate) fn append_part(
 ) -> Result<(), OutOfMemory>
     requires from { from ≤ to }
     requires to { to ≤ length trace.now.events }
-    ensures { OnOk result
-        (text.new.items
-        ≡ text.old.items
-        ++ events_text
-        (with_name trace.now own.now)
-        (part_of trace.now.events from to)
-        (take (to - from) (drop from trace.now.locations))) }
+    ensures { Appended result text.old text.new (events_text (with_name trace.now own.now) (part_of trace.now.events from to) (take (to - from) (drop from trace.now.locations))) }
 {
     for event in from..to {
         append_line(text, trace, own, trace.event(event), trace.location(event))?;
@@ -128,7 +121,7 @@ pub(crate) fn append_part(
 
 // Appends a text and a number.
 fn append_number(text: &mut Vec<u8>, front: &[u8], number: u64) -> Result<(), OutOfMemory>
-    ensures { OnOk result (text.new.items ≡ text.old.items ++ (front.now ++ decimal number)) }
+    ensures { Appended result text.old text.new (front.now ++ decimal number) }
 {
     let mut buffer = Buffer::new();
     text.extend_from_slice(front)?;
@@ -143,7 +136,7 @@ pub(crate) fn append_begin(
     to: u64,
     size: usize,
 ) -> Result<(), OutOfMemory>
-    ensures { OnOk result (text.new.items ≡ text.old.items ++ begin_line from to size) }
+    ensures { Appended result text.old text.new (begin_line from to size) }
 {
     append_number(text, b"window|begin(FROM ", from)?;
     append_number(text, b" TO ", to)?;

@@ -3,6 +3,7 @@ ghost use Rattle.std.specs.Prelude.{◌≡◌, ◌^◌, ◌+◌, ◌*◌, ◌<�
 ghost use Rattle.memchr.specs.Find.{FindsNeedle};
 ghost use Rattle.std.specs.Char.{digit_value};
 ghost use Rattle.std.specs.Str.Parse.{AllDigits, digits_value};
+ghost use Rattle.rapid_text.specs.Appended.{Appended, IfFound};
 ghost use Rattle.window.specs.Moving.{HasNoDigit, IsMarked, IsMoved, Marked, event_mark, moved_digits};
 
 use crate::cutting::Window;
@@ -65,8 +66,7 @@ impl Window {
     // Appends the number that the event has in the trace.
     fn append_digits(&self, out: &mut Vec<u8>, digits: &[u8]) -> Result<(), OutOfMemory>
         requires { AllDigits 10 digits.now }
-        ensures { OnOk result
-            (out.new.items ≡ out.old.items ++ moved_digits self.now.prologue self.now.from digits.now) }
+        ensures { Appended result out.old out.new (moved_digits self.now.prologue self.now.from digits.now) }
     {
         let Some(event) = number_in(digits) else {
             out.extend_from_slice(digits)?;
@@ -91,12 +91,8 @@ impl Window {
     ) -> Result<Option<&'a [u8]>, OutOfMemory>
         ensures none { IfOk result
             (λ rest. rest ≡ None → FindsNeedle text.now event_mark 0 None × (out.new.items ≡ out.old.items)) }
-        ensures some { IfOk result (λ after. IfSome after (λ rest.
-            (m : Marked)
-            × IsMarked m rest.now
-            × (text.now ≡ m.front ++ (m.digits ++ rest.now))
-            × (out.new.items ≡ out.old.items ++ (m.front ++ moved_digits self.now.prologue self.now.from m.digits)))) }
-        ensures shorter { IfOk result (λ after. IfSome after (λ rest. length rest.now < length text.now)) }
+        ensures some { IfFound result (λ rest. (m : Marked) × IsMarked m rest.now × (text.now ≡ m.front ++ (m.digits ++ rest.now)) × (out.new.items ≡ out.old.items ++ (m.front ++ moved_digits self.now.prologue self.now.from m.digits))) }
+        ensures shorter { IfFound result (λ rest. length rest.now < length text.now) }
     {
         let Some(at) = memmem::find(text, EVENT) else {
             return Ok(None);

@@ -1,5 +1,6 @@
 //! Windows of a trace of any length, which is read in pieces.
-ghost use Rattle.std.specs.Prelude.{◌≡◌, ◌⊎◌, ◌+◌, ◌<◌, ◌≤◌, ◌++◌, ℕ, List, length, true, None, Ok, IfOk, IfErr, IfSome};
+ghost use Rattle.std.specs.Prelude.{◌≡◌, ◌⊎◌, ◌+◌, ◌<◌, ◌≤◌, ◌++◌, ℕ, List, length, true, None, Ok, IfOk, IfErr};
+ghost use Rattle.rapid_text.specs.Appended.{IfFound};
 ghost use Rattle.window.specs.Fronts.{HasTooManyThreads};
 ghost use Rattle.rapid_text.specs.Reading.{reading_of};
 ghost use Rattle.trace_rules.specs.Rules.{IsDisciplined, IsFirstBreach, no_memory as no_table};
@@ -64,7 +65,7 @@ fn checked(alloc: Global, raw: RawTrace) -> Result<Trace, PieceFault>
 
 // The number of events of the trace, if it keeps the rules.
 fn ruled_size(alloc: Global, raw: RawTrace) -> Result<Option<u32>, OutOfMemory>
-    ensures ruled { IfOk result (λ size. IfSome size (λ n. IsDisciplined raw.events × (n ≡ length raw.events))) }
+    ensures ruled { IfFound result (λ n. IsDisciplined raw.events × (n ≡ length raw.events)) }
     ensures unruled { result ≡ Ok None → ¬ IsDisciplined raw.events }
 {
     match check(alloc, raw) {
@@ -81,7 +82,7 @@ fn ruled_size(alloc: Global, raw: RawTrace) -> Result<Option<u32>, OutOfMemory>
 
 /// The number of events of the text, if it is a trace that keeps the rules.
 pub(crate) fn kept_size(alloc: Global, text: &[u8]) -> Result<Option<u32>, OutOfMemory>
-    ensures kept { IfOk result (λ size. IfSome size (λ n. IsKept text.now × (n ≡ length (said_in text.now)))) }
+    ensures kept { IfFound result (λ n. IsKept text.now × (n ≡ length (said_in text.now))) }
     ensures unkept { result ≡ Ok None → ¬ IsKept text.now }
 {
     match parse(alloc, text) {

@@ -1,5 +1,6 @@
 //! The locks that a window's prologue takes, and the threads that wait for it.
-ghost use Rattle.std.specs.Prelude.{◌≡◌, ◌&&◌, not, ◌+◌, ◌-◌, ◌*◌, ◌<◌, ◌≤◌, ◌++◌, ◌∷◌, [], ℕ, All, List, length, nat_lt, if◌then◌else◌, replicate, IfOk, OnOk};
+ghost use Rattle.std.specs.Prelude.{◌≡◌, ◌&&◌, not, ◌+◌, ◌-◌, ◌*◌, ◌<◌, ◌≤◌, ◌∷◌, [], ℕ, All, List, length, nat_lt, if◌then◌else◌, replicate, IfOk};
+ghost use Rattle.rapid_text.specs.Appended.{Appended};
 ghost use Rattle.rapid_text.specs.Recording.{IsNamed};
 ghost use Rattle.rapid_text.specs.declared.event.Op.{Op};
 ghost use Rattle.window.specs.Cuts.{prologue_of, prologue_size, with_name};
@@ -18,10 +19,7 @@ fn add_holds(
     lock: u32,
     touches: u32,
 ) -> Result<(), OutOfMemory>
-    ensures { OnOk result
-        (holds.new.items
-        ≡ holds.old.items
-        ++ replicate (if nat_lt (2 * touches) held.depth then 2 * touches else held.depth) (held.thread, lock)) }
+    ensures { Appended result holds.old holds.new (replicate (if nat_lt (2 * touches) held.depth then 2 * touches else held.depth) (held.thread, lock)) }
 {
     let most = 2 * u64::from(touches);
     let depth = u64::from(held.depth);
@@ -68,8 +66,7 @@ fn is_reader(found: bool, forked: bool) -> bool
 
 // Adds the thread if it waits.
 fn add_reader(readers: &mut Vec<u32>, waits: bool, thread: u32) -> Result<(), OutOfMemory>
-    ensures { OnOk result
-        (readers.new.items ≡ readers.old.items ++ (if waits then thread ∷ [] else [])) }
+    ensures { Appended result readers.old readers.new (if waits then thread ∷ [] else []) }
 {
     if waits {
         readers.push(thread)?;
@@ -122,7 +119,7 @@ fn add_links(
     variable: u32,
     own: u32,
 ) -> Result<(), OutOfMemory>
-    ensures { OnOk result (events.new.items ≡ events.old.items ++ chain_of variable own (hold ∷ [])) }
+    ensures { Appended result events.old events.new (chain_of variable own (hold ∷ [])) }
 {
     let (thread, lock) = hold;
     add_access(events, thread, Op::Read(variable), own)?;
@@ -135,9 +132,7 @@ fn add_links(
 
 // Adds an access that is made under the prologue's lock.
 fn add_access(events: &mut Vec<Event>, thread: u32, op: Op, own: u32) -> Result<(), OutOfMemory>
-    ensures { OnOk result
-        (events.new.items
-        ≡ events.old.items ++ does thread (Op.Acquire own) ∷ does thread op ∷ does thread (Op.Release own) ∷ []) }
+    ensures { Appended result events.old events.new (does thread (Op.Acquire own) ∷ does thread op ∷ does thread (Op.Release own) ∷ []) }
 {
     events.push(Event {
         thread,
@@ -158,7 +153,7 @@ fn add_chain(
     variable: u32,
     own: u32,
 ) -> Result<(), OutOfMemory>
-    ensures { OnOk result (events.new.items ≡ events.old.items ++ chain_of variable own holds.now) }
+    ensures { Appended result events.old events.new (chain_of variable own holds.now) }
 {
     for at in 0..holds.len() {
         add_links(events, holds[at], variable, own)?;
@@ -173,7 +168,7 @@ fn add_reads(
     variable: u32,
     own: u32,
 ) -> Result<(), OutOfMemory>
-    ensures { OnOk result (events.new.items ≡ events.old.items ++ reads_of variable own readers.now) }
+    ensures { Appended result events.old events.new (reads_of variable own readers.now) }
 {
     for at in 0..readers.len() {
         add_access(events, readers[at], Op::Read(variable), own)?;

@@ -1,6 +1,7 @@
 //! The greedy search.
 ghost use Rattle.std.specs.Prelude.{◌≡◌, ◌+◌, ◌<◌, ◌≤◌, ◌↔◌, [], ◌∷◌, ◌++◌, length, IsTrue, IfOk, OnOk, OnErr, IfSome, Ok, None, Some, true, false};
 ghost use Rattle.std.specs.Option.{is_none};
+ghost use Rattle.rapid_text.specs.Appended.{IfFound};
 ghost use Rattle.trace_rules.specs.Rules.{IsDisciplined};
 ghost use Rattle.event_index.specs.Relations.{IsConflicting};
 ghost use Rattle.schedule.specs.Refusals.{refusal_of};
@@ -48,11 +49,9 @@ pub fn greedy(
     // longer.
     ensures reordering { IfOk result
         (λ found. IfSome found (IsCorrectReordering indexed.now.events)) }
-    ensures shows { IfOk result
-        (λ found. IfSome found (λ list. Shows indexed.now.events list first second)) }
+    ensures shows { IfFound result (λ list. Shows indexed.now.events list first second) }
     ensures begins { IfOk result (λ found. IfSome found (IsPrefix start.now.events)) }
-    ensures budget { IfOk result
-        (λ found. IfSome found (λ list. length list ≤ length start.now.events + budget)) }
+    ensures budget { IfFound result (λ list. length list ≤ length start.now.events + budget) }
 {
     if !conflict(indexed, first, second) {
         return Ok(None);

@@ -1,6 +1,7 @@
 //! Why a call on a pair stopped, and the text of that fault.
-ghost use Rattle.std.specs.Prelude.{◌≡◌, ◌++◌, OnOk, OnErr};
+ghost use Rattle.std.specs.Prelude.{◌≡◌, OnErr};
 ghost use Rattle.calls.specs.pair.PairFaults.{kind_text, pair_fault_words};
+ghost use Rattle.rapid_text.specs.Appended.{Appended};
 
 use client_scripts::{ReplayFault, fault_text};
 use must_order::Kind;
@@ -56,7 +57,7 @@ fn kind_words(kind: Kind) -> &'static [u8]
 
 /// Appends the text of a fault, without a line end. If memory runs out, `out` stays as it was.
 pub fn pair_fault_text(fault: &PairFault, out: &mut Vec<u8>) -> Result<(), OutOfMemory>
-    ensures ok { OnOk result (out.new.items ≡ out.old.items ++ pair_fault_words fault.now) }
+    ensures ok { Appended result out.old out.new (pair_fault_words fault.now) }
     ensures err { OnErr result (out.new.items ≡ out.old.items) }
 {
     match fault {

@@ -1,6 +1,7 @@
 //! The forms in which a schedule is printed.
-ghost use Rattle.std.specs.Prelude.{◌≡◌, ◌<◌, ◌++◌, ℕ, List, length, All, OnOk};
+ghost use Rattle.std.specs.Prelude.{◌≡◌, ◌<◌, ℕ, List, length, All};
 ghost use Rattle.calls.specs.pair.Forms.{IsPrinted, lines_form};
+ghost use Rattle.rapid_text.specs.Appended.{AppendedOne};
 
 use event_index::Indexed;
 use explain_report::picture::picture_text;
@@ -44,7 +45,7 @@ pub(crate) fn append_schedule(
     requires events { All (λ e. e < length indexed.now.events) events.now }
     requires first { first < length indexed.now.events }
     requires second { second < length indexed.now.events }
-    ensures { OnOk result ((printed : List ℕ) × (text.new.items ≡ text.old.items ++ printed) × IsPrinted indexed.now events.now first second form printed) }
+    ensures { AppendedOne result text.old text.new (λ printed. IsPrinted indexed.now events.now first second form printed) }
 {
     match lines_form_of(form) {
         Some(lines) => witness_text(indexed, events, first, second, lines, text)?,

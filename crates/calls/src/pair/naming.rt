@@ -4,6 +4,7 @@ ghost use Rattle.event_index.specs.Relations.{IsConflicting};
 ghost use Rattle.race_groups.specs.Found.{HaveConflict};
 ghost use Rattle.explain_report.specs.places.Accesses.{flags_of};
 ghost use Rattle.calls.specs.pair.Named.{AreMixed, AreSame, IsMeant, IsNamedPair, IsNoPair, IsPlaced, IsReported, IsUnplaced, mark, marks_of};
+ghost use Rattle.rapid_text.specs.Appended.{IfFound};
 
 use event_index::Indexed;
 use explain_report::findings::pair_of;
@@ -24,11 +25,11 @@ pub(crate) fn named_pair(
     one: Name<'_>,
     other: Name<'_>,
 ) -> Result<Option<(u32, u32)>, OutOfMemory>
-    ensures named { IfOk result (λ found. IfSome found (λ p. IsNamedPair indexed.now one.entry other.entry p.0 p.1)) }
+    ensures named { IfFound result (λ p. IsNamedPair indexed.now one.entry other.entry p.0 p.1) }
     ensures none { result ≡ Ok None → IsNoPair indexed.now one.entry other.entry }
-    ensures first { IfOk result (λ found. IfSome found (λ p. p.0 < length indexed.now.events)) }
-    ensures second { IfOk result (λ found. IfSome found (λ p. p.1 < length indexed.now.events)) }
-    ensures conflict { IfOk result (λ found. IfSome found (λ p. IsConflicting indexed.now.events p.0 p.1)) }
+    ensures first { IfFound result (λ p. p.0 < length indexed.now.events) }
+    ensures second { IfFound result (λ p. p.1 < length indexed.now.events) }
+    ensures conflict { IfFound result (λ p. IsConflicting indexed.now.events p.0 p.1) }
 {
     match (one, other) {
         (Name::Event(one), Name::Event(other)) => Ok(pair_of(indexed, one, other)),
@@ -52,12 +53,11 @@ fn pair_of_names(
     other: Name<'_>,
     is_event: bool,
 ) -> Result<Option<(u32, u32)>, OutOfMemory>
-    ensures placed { IfOk result (λ found. IfSome found (λ p.
-        IsPlaced indexed.now is_event (flags_of indexed.now one.entry) (flags_of indexed.now other.entry) p.0 p.1)) }
+    ensures placed { IfFound result (λ p. IsPlaced indexed.now is_event (flags_of indexed.now one.entry) (flags_of indexed.now other.entry) p.0 p.1) }
     ensures none { result ≡ Ok None → IsUnplaced indexed.now is_event (flags_of indexed.now one.entry) (flags_of indexed.now other.entry) }
-    ensures first { IfOk result (λ found. IfSome found (λ p. p.0 < length indexed.now.events)) }
-    ensures second { IfOk result (λ found. IfSome found (λ p. p.1 < length indexed.now.events)) }
-    ensures conflict { IfOk result (λ found. IfSome found (λ p. IsConflicting indexed.now.events p.0 p.1)) }
+    ensures first { IfFound result (λ p. p.0 < length indexed.now.events) }
+    ensures second { IfFound result (λ p. p.1 < length indexed.now.events) }
+    ensures conflict { IfFound result (λ p. IsConflicting indexed.now.events p.0 p.1) }
 {
     let ones = flags_of(alloc, indexed, one)?;
     let others = flags_of(alloc, indexed, other)?;
@@ -74,11 +74,11 @@ fn pair_of_flags(
 ) -> Result<Option<(u32, u32)>, OutOfMemory>
     requires ones { length ones.now ≡ length indexed.now.events }
     requires others { length others.now ≡ length indexed.now.events }
-    ensures placed { IfOk result (λ found. IfSome found (λ p. IsPlaced indexed.now is_event ones.now others.now p.0 p.1)) }
+    ensures placed { IfFound result (λ p. IsPlaced indexed.now is_event ones.now others.now p.0 p.1) }
     ensures none { result ≡ Ok None → IsUnplaced indexed.now is_event ones.now others.now }
-    ensures first { IfOk result (λ found. IfSome found (λ p. p.0 < length indexed.now.events)) }
-    ensures second { IfOk result (λ found. IfSome found (λ p. p.1 < length indexed.now.events)) }
-    ensures conflict { IfOk result (λ found. IfSome found (λ p. IsConflicting indexed.now.events p.0 p.1)) }
+    ensures first { IfFound result (λ p. p.0 < length indexed.now.events) }
+    ensures second { IfFound result (λ p. p.1 < length indexed.now.events) }
+    ensures conflict { IfFound result (λ p. IsConflicting indexed.now.events p.0 p.1) }
 {
     if !are_at_one_place(indexed, ones) {
         return Ok(None);
@@ -167,11 +167,11 @@ fn reported(
 ) -> Result<Option<(u32, u32)>, OutOfMemory>
     requires len { length marks.now ≡ length indexed.now.events }
     requires few { (e : ℕ) → slice_index marks.now e < 3 }
-    ensures reported { IfOk result (λ found. IfSome found (λ p. IsReported indexed.now (slice_index marks.now) between p.0 p.1)) }
+    ensures reported { IfFound result (λ p. IsReported indexed.now (slice_index marks.now) between p.0 p.1) }
     ensures none { result ≡ Ok None → ¬ HaveConflict indexed.now.events (slice_index marks.now) between }
-    ensures first { IfOk result (λ found. IfSome found (λ p. p.0 < length indexed.now.events)) }
-    ensures second { IfOk result (λ found. IfSome found (λ p. p.1 < length indexed.now.events)) }
-    ensures conflict { IfOk result (λ found. IfSome found (λ p. IsConflicting indexed.now.events p.0 p.1)) }
+    ensures first { IfFound result (λ p. p.0 < length indexed.now.events) }
+    ensures second { IfFound result (λ p. p.1 < length indexed.now.events) }
+    ensures conflict { IfFound result (λ p. IsConflicting indexed.now.events p.0 p.1) }
 {
     match Analysis::new(alloc, indexed) {
         Ok(analysis) => reported_in(alloc, &analysis, marks, between),
@@ -188,11 +188,11 @@ fn reported_in(
 ) -> Result<Option<(u32, u32)>, OutOfMemory>
     requires len { length marks.now ≡ length analysis.now.events }
     requires few { (e : ℕ) → slice_index marks.now e < 3 }
-    ensures reported { IfOk result (λ found. IfSome found (λ p. IsReported analysis.now (slice_index marks.now) between p.0 p.1)) }
+    ensures reported { IfFound result (λ p. IsReported analysis.now (slice_index marks.now) between p.0 p.1) }
     ensures none { result ≡ Ok None → ¬ HaveConflict analysis.now.events (slice_index marks.now) between }
-    ensures first { IfOk result (λ found. IfSome found (λ p. p.0 < length analysis.now.events)) }
-    ensures second { IfOk result (λ found. IfSome found (λ p. p.1 < length analysis.now.events)) }
-    ensures conflict { IfOk result (λ found. IfSome found (λ p. IsConflicting analysis.now.events p.0 p.1)) }
+    ensures first { IfFound result (λ p. p.0 < length analysis.now.events) }
+    ensures second { IfFound result (λ p. p.1 < length analysis.now.events) }
+    ensures conflict { IfFound result (λ p. IsConflicting analysis.now.events p.0 p.1) }
 {
     match verdict_between(alloc, analysis, marks, between) {
         Ok(Some(verdict)) => Ok(Some((verdict.first, verdict.second))),

@@ -1,10 +1,11 @@
 //! Reads what `record/confirm --json` writes: what was found when races were followed on the real program.
-ghost use Rattle.std.specs.Prelude.{◌≡◌, ◌++◌, Err, IfErr, IfOk, IfSome, OnErr, OnOk, false, true};
+ghost use Rattle.std.specs.Prelude.{◌≡◌, Err, IfErr, IfOk, IfSome, OnErr, false, true};
 ghost use Rattle.client_scripts.specs.declared.fault.ReadCause.TheVariants.{Device};
 ghost use Rattle.client_scripts.specs.declared.fault.ReplayFault.TheVariants.{Read};
 ghost use Rattle.followed_races.specs.Lines.{AreLines};
 ghost use Rattle.calls.specs.declared.triage.confirming.ConfirmedFault.TheVariants.{Replay};
 ghost use Rattle.calls.specs.triage.Confirmed.{confirmed_fault_words, IsConfirmedFault, IsTextFault};
+ghost use Rattle.rapid_text.specs.Appended.{Appended};
 
 use client_scripts::{ReplayFault, Source, fault_text, read_input};
 use followed_races::{Followed, FollowedRefusal, followed_in};
@@ -56,7 +57,7 @@ fn entries_of(alloc: Global, text: &[u8]) -> Result<Vec<Followed>, ConfirmedFaul
 
 /// Appends the text of a fault, without a line end. If memory runs out, `out` stays as it was.
 pub fn confirmed_fault_text(fault: &ConfirmedFault, out: &mut Vec<u8>) -> Result<(), OutOfMemory>
-    ensures ok { OnOk result (out.new.items ≡ out.old.items ++ confirmed_fault_words fault.now) }
+    ensures ok { Appended result out.old out.new (confirmed_fault_words fault.now) }
     ensures err { OnErr result (out.new.items ≡ out.old.items) }
 {
     match fault {

@@ -1,6 +1,7 @@
 //! Why `triage` stopped, and the text of that fault.
-ghost use Rattle.std.specs.Prelude.{◌≡◌, ◌++◌, OnOk, OnErr};
+ghost use Rattle.std.specs.Prelude.{◌≡◌, OnErr};
 ghost use Rattle.calls.specs.triage.TriageFaults.{triage_fault_words};
+ghost use Rattle.rapid_text.specs.Appended.{Appended};
 
 use client_scripts::{ReplayFault, fault_text};
 use rapid_text::OutOfMemory;
@@ -40,7 +41,7 @@ impl From<OutOfMemory> for TriageFault {
 
 /// Appends the text of a fault, without a line end. If memory runs out, `out` stays as it was.
 pub fn triage_fault_text(fault: &TriageFault, out: &mut Vec<u8>) -> Result<(), OutOfMemory>
-    ensures ok { OnOk result (out.new.items ≡ out.old.items ++ triage_fault_words fault.now) }
+    ensures ok { Appended result out.old out.new (triage_fault_words fault.now) }
     ensures err { OnErr result (out.new.items ≡ out.old.items) }
 {
     match fault {

@@ -1,8 +1,9 @@
 //! Writes a merged report from which pairs of locations are left out.
-ghost use Rattle.std.specs.Prelude.{◌≡◌, ◌++◌, Err, IfOk, OnOk, false, map, true};
+ghost use Rattle.std.specs.Prelude.{◌≡◌, Err, IfOk, false, map, true};
 ghost use Rattle.std.specs.List.{after_first};
 ghost use Rattle.client_scripts.specs.declared.fault.ReplayFault.TheVariants.{Write};
 ghost use Rattle.race_parts.specs.Cells.{AreSorted, row_said, rows_in};
+ghost use Rattle.rapid_text.specs.Appended.{Appended};
 ghost use Rattle.rapid_text.specs.Reading.{is_line_feed};
 ghost use Rattle.calls.specs.triage.Left.{count_text, head_text, json_text, left_out, member_text, word_text, IsLeftText, IsLeftTold, IsLeftWritten, IsPageOf, IsLogOf};
 ghost use Rattle.calls.specs.declared.triage.fault.TriageFault.TheVariants.{Replay};
@@ -50,7 +51,7 @@ pub struct MergedAsked<'a> {
 
 /// Appends a line with a word and a number, if there is a number.
 fn append_count(out: &mut Vec<u8>, word: &[u8], count: Option<u64>) -> Result<(), OutOfMemory>
-    ensures { OnOk result (out.new.items ≡ out.old.items ++ count_text word.now count) }
+    ensures { Appended result out.old out.new (count_text word.now count) }
 {
     match count {
         Some(count) => append_pieces(
@@ -84,7 +85,7 @@ fn words_of(
 
 /// Appends a member of an object, if there is a number. `name` has the quotes and the colon.
 fn append_member(out: &mut Vec<u8>, name: &[u8], count: Option<u64>) -> Result<(), OutOfMemory>
-    ensures { OnOk result (out.new.items ≡ out.old.items ++ member_text name.now count) }
+    ensures { Appended result out.old out.new (member_text name.now count) }
 {
     match count {
         Some(count) => append_pieces(
@@ -102,7 +103,7 @@ fn append_head(
     pairs: usize,
     left: &Left<'_>,
 ) -> Result<(), OutOfMemory>
-    ensures { OnOk result (out.new.items ≡ out.old.items ++ head_text parts pairs left.now.known left.now.hidden) }
+    ensures { Appended result out.old out.new (head_text parts pairs left.now.known left.now.hidden) }
 {
     append_pieces(out, &[Piece::Words(b"{")])?;
     append_member(out, b"\"hidden\":", left.hidden)?;
@@ -133,7 +134,7 @@ fn behind_first(text: &[u8]) -> &[u8]
 
 /// Appends the lines after the first.
 fn append_behind(out: &mut Vec<u8>, text: &[u8]) -> Result<(), OutOfMemory>
-    ensures { OnOk result (out.new.items ≡ out.old.items ++ after_first is_line_feed text.now) }
+    ensures { Appended result out.old out.new (after_first is_line_feed text.now) }
 {
     out.extend_from_slice(behind_first(text))?;
     Ok(())

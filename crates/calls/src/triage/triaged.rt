@@ -1,6 +1,7 @@
 //! Reads a triage file, and makes the text of the fault if it is refused.
-ghost use Rattle.std.specs.Prelude.{◌≡◌, ◌++◌, ◌∷◌, [], codes, decimal, Err, IfErr, IfOk, IfSome, OnErr, OnOk, false, true};
+ghost use Rattle.std.specs.Prelude.{◌≡◌, ◌++◌, ◌∷◌, [], codes, decimal, Err, IfErr, IfOk, IfSome, OnErr, false, true};
 ghost use Rattle.std.specs.List.{concat};
+ghost use Rattle.rapid_text.specs.Appended.{Appended};
 ghost use Rattle.toml.specs.View.{table_view};
 ghost use Rattle.client_scripts.specs.declared.fault.ReadCause.TheVariants.{Device};
 ghost use Rattle.client_scripts.specs.declared.fault.ReplayFault.TheVariants.{Read};
@@ -86,7 +87,7 @@ fn mistake_words(mistake: Mistake) -> &'static [u8]
 
 /// Appends the line and column at which a text is refused.
 fn append_spot(spot: Spot, out: &mut Vec<u8>) -> Result<(), OutOfMemory>
-    ensures { OnOk result (out.new.items ≡ out.old.items ++ spot_words spot) }
+    ensures { Appended result out.old out.new (spot_words spot) }
 {
     append_pieces(
         out,
@@ -102,7 +103,7 @@ fn append_spot(spot: Spot, out: &mut Vec<u8>) -> Result<(), OutOfMemory>
 
 /// Appends the spot and the number of a refused entry, and what is wrong with it.
 fn append_entry(spot: Spot, number: u64, words: &[u8], out: &mut Vec<u8>) -> Result<(), OutOfMemory>
-    ensures { OnOk result (out.new.items ≡ out.old.items ++ spot_words spot ++ concat (codes "entry " ∷ decimal number ∷ codes " " ∷ words.now ∷ [])) }
+    ensures { Appended result out.old out.new (spot_words spot ++ concat (codes "entry " ∷ decimal number ∷ codes " " ∷ words.now ∷ [])) }
 {
     append_spot(spot, out)?;
     append_pieces(
@@ -118,7 +119,7 @@ fn append_entry(spot: Spot, number: u64, words: &[u8], out: &mut Vec<u8>) -> Res
 
 /// Appends the text of a refusal.
 fn append_refusal(refusal: Refusal, out: &mut Vec<u8>) -> Result<(), OutOfMemory>
-    ensures { OnOk result (out.new.items ≡ out.old.items ++ refusal_words refusal) }
+    ensures { Appended result out.old out.new (refusal_words refusal) }
 {
     match refusal {
         Refusal::Toml(spot) => {
@@ -139,7 +140,7 @@ fn append_refusal(refusal: Refusal, out: &mut Vec<u8>) -> Result<(), OutOfMemory
 
 /// Appends the text of a fault, without a line end. If memory runs out, `out` stays as it was.
 pub fn triaged_fault_text(fault: &TriagedFault, out: &mut Vec<u8>) -> Result<(), OutOfMemory>
-    ensures ok { OnOk result (out.new.items ≡ out.old.items ++ triaged_fault_words fault.now) }
+    ensures ok { Appended result out.old out.new (triaged_fault_words fault.now) }
     ensures err { OnErr result (out.new.items ≡ out.old.items) }
 {
     let mut text = Vec::new(*out.allocator());
@@ -150,7 +151,7 @@ pub fn triaged_fault_text(fault: &TriagedFault, out: &mut Vec<u8>) -> Result<(),
 
 /// Appends the text of a fault. If memory runs out, `out` may have a part of it.
 fn append_fault(fault: &TriagedFault, out: &mut Vec<u8>) -> Result<(), OutOfMemory>
-    ensures { OnOk result (out.new.items ≡ out.old.items ++ triaged_fault_words fault.now) }
+    ensures { Appended result out.old out.new (triaged_fault_words fault.now) }
 {
     match fault {
         TriagedFault::Replay(fault) => fault_text(fault, out),

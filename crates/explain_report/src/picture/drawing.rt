@@ -1,6 +1,7 @@
 //! Draws the schedule that shows a pair.
-ghost use Rattle.std.specs.Prelude.{◌≡◌, ◌++◌, List, ℕ, OnOk, OnErr};
+ghost use Rattle.std.specs.Prelude.{◌≡◌, List, ℕ, OnErr};
 ghost use Rattle.explain_report.specs.picture.Pictures.{IsFigure, IsPicture, IsStyled};
+ghost use Rattle.rapid_text.specs.Appended.{AppendedOne};
 
 use crate::picture::accesses::{access_height, draw_access, note_locks};
 use crate::picture::arrows::draw_arrows;
@@ -117,7 +118,7 @@ pub fn picture_text(
     out: &mut Vec<u8>,
 ) -> Result<(), OutOfMemory>
     // The picture names the events of the schedule and the pair.
-    ensures ok { OnOk result ((text : List ℕ) × (out.new.items ≡ out.old.items ++ text) × IsPicture events.now first second text) }
+    ensures ok { AppendedOne result out.old out.new (λ text. IsPicture events.now first second text) }
     ensures err { OnErr result (out.new.items ≡ out.old.items) }
 {
     styled_text(indexed, events, (first, second), STYLE, out)
@@ -133,7 +134,7 @@ pub fn figure_text(
     out: &mut Vec<u8>,
 ) -> Result<(), OutOfMemory>
     // The figure names the events of the schedule and the pair.
-    ensures ok { OnOk result ((text : List ℕ) × (out.new.items ≡ out.old.items ++ text) × IsFigure events.now first second text) }
+    ensures ok { AppendedOne result out.old out.new (λ text. IsFigure events.now first second text) }
     ensures err { OnErr result (out.new.items ≡ out.old.items) }
 {
     styled_text(indexed, events, (first, second), b"", out)
@@ -147,7 +148,7 @@ fn styled_text(
     style: &[u8],
     out: &mut Vec<u8>,
 ) -> Result<(), OutOfMemory>
-    ensures ok { OnOk result ((text : List ℕ) × (out.new.items ≡ out.old.items ++ text) × IsStyled style.now events.now pair.0 pair.1 text) }
+    ensures ok { AppendedOne result out.old out.new (λ text. IsStyled style.now events.now pair.0 pair.1 text) }
     ensures err { OnErr result (out.new.items ≡ out.old.items) }
 {
     let mut text = Vec::new(*out.allocator());
@@ -164,7 +165,7 @@ fn append_styled(
     pair: (u32, u32),
     style: &[u8],
 ) -> Result<(), OutOfMemory>
-    ensures { OnOk result ((text : List ℕ) × (out.new.items ≡ out.old.items ++ text) × IsStyled style.now events.now pair.0 pair.1 text) }
+    ensures { AppendedOne result out.old out.new (λ text. IsStyled style.now events.now pair.0 pair.1 text) }
 {
     let mut canvas = Canvas::new(*out.allocator());
     match draw(&mut canvas, indexed, events, pair.0, pair.1) {
@@ -182,7 +183,7 @@ fn append_drawing(
     pair: (u32, u32),
     style: &[u8],
 ) -> Result<(), OutOfMemory>
-    ensures { OnOk result ((text : List ℕ) × (out.new.items ≡ out.old.items ++ text) × IsStyled style.now events.now pair.0 pair.1 text) }
+    ensures { AppendedOne result out.old out.new (λ text. IsStyled style.now events.now pair.0 pair.1 text) }
 {
     append_root(out, size)?;
     append_description(out, events, pair.0, pair.1)?;

@@ -1,6 +1,7 @@
 //! The parts of a picture around its shapes: its size, its title and description, the paper, and the end.
-ghost use Rattle.std.specs.Prelude.{◌≡◌, ◌++◌, ◌∷◌, [], OnOk};
+ghost use Rattle.std.specs.Prelude.{◌∷◌, []};
 ghost use Rattle.explain_report.specs.picture.Pictures.{described, drawn_text, listed, root_text, spaced_events, title};
+ghost use Rattle.rapid_text.specs.Appended.{Appended};
 
 use crate::picture::pieces::{Piece, append_pieces, append_words};
 use crate::picture::shapes::{append_attribute, append_point};
@@ -34,7 +35,7 @@ fn larger(size: u64) -> u64 {
 
 /// Appends the beginning of the root. The picture is shown a fifth larger than it is drawn: 10 pixels become 12.
 pub(crate) fn append_root(out: &mut Vec<u8>, size: Size) -> Result<(), OutOfMemory>
-    ensures { OnOk result (out.new.items ≡ out.old.items ++ root_text size.width size.height size.shown_width size.shown_height) }
+    ensures { Appended result out.old out.new (root_text size.width size.height size.shown_width size.shown_height) }
 {
     append_words(
         out,
@@ -50,7 +51,7 @@ pub(crate) fn append_root(out: &mut Vec<u8>, size: Size) -> Result<(), OutOfMemo
 
 /// Appends the paper, the shapes on it, and the end.
 pub(crate) fn append_drawn(out: &mut Vec<u8>, shapes: &[u8]) -> Result<(), OutOfMemory>
-    ensures { OnOk result (out.new.items ≡ out.old.items ++ drawn_text shapes.now) }
+    ensures { Appended result out.old out.new (drawn_text shapes.now) }
 {
     append_pieces(
         out,
@@ -70,7 +71,7 @@ pub(crate) fn append_description(
     first: u32,
     second: u32,
 ) -> Result<(), OutOfMemory>
-    ensures { OnOk result (out.new.items ≡ out.old.items ++ described events.now first second) }
+    ensures { Appended result out.old out.new (described events.now first second) }
 {
     append_title(out, first, second)?;
     append_list(out, events)?;
@@ -79,7 +80,7 @@ pub(crate) fn append_description(
 
 /// Appends the title, which names the pair.
 fn append_title(out: &mut Vec<u8>, first: u32, second: u32) -> Result<(), OutOfMemory>
-    ensures { OnOk result (out.new.items ≡ out.old.items ++ title first second) }
+    ensures { Appended result out.old out.new (title first second) }
 {
     append_pieces(
         out,
@@ -96,7 +97,7 @@ fn append_title(out: &mut Vec<u8>, first: u32, second: u32) -> Result<(), OutOfM
 
 /// Appends the events of the schedule.
 fn append_list(out: &mut Vec<u8>, events: &[u32]) -> Result<(), OutOfMemory>
-    ensures { OnOk result (out.new.items ≡ out.old.items ++ listed events.now) }
+    ensures { Appended result out.old out.new (listed events.now) }
 {
     append_words(out, b"<desc>Its events:")?;
     append_events(out, events)?;
@@ -106,7 +107,7 @@ fn append_list(out: &mut Vec<u8>, events: &[u32]) -> Result<(), OutOfMemory>
 
 /// Appends each number after a blank.
 fn append_events(out: &mut Vec<u8>, events: &[u32]) -> Result<(), OutOfMemory>
-    ensures { OnOk result (out.new.items ≡ out.old.items ++ spaced_events events.now) }
+    ensures { Appended result out.old out.new (spaced_events events.now) }
 {
     for event in events {
         append_spaced(out, *event)?;
@@ -115,7 +116,7 @@ fn append_events(out: &mut Vec<u8>, events: &[u32]) -> Result<(), OutOfMemory>
 }
 
 fn append_spaced(out: &mut Vec<u8>, event: u32) -> Result<(), OutOfMemory>
-    ensures { OnOk result (out.new.items ≡ out.old.items ++ spaced_events (event ∷ [])) }
+    ensures { Appended result out.old out.new (spaced_events (event ∷ [])) }
 {
     append_pieces(out, &[Piece::Words(b" "), Piece::Number(u64::from(event))])?;
     Ok(())

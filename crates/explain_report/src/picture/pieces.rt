@@ -1,6 +1,7 @@
 //! Words and numbers of a line, and the end of a line that is too long.
-ghost use Rattle.std.specs.Prelude.{◌≡◌, ◌≤◌, ◌++◌, length, OnOk, decimal};
+ghost use Rattle.std.specs.Prelude.{◌≤◌, length, decimal};
 ghost use Rattle.explain_report.specs.picture.Pieces.{piece_text, pieces_text};
+ghost use Rattle.rapid_text.specs.Appended.{Appended};
 
 use itoa::Buffer;
 use rapid_text::OutOfMemory;
@@ -22,7 +23,7 @@ pub(crate) enum Piece<'a> {
 
 /// Appends the pieces, one after the other.
 pub(crate) fn append_pieces(out: &mut Vec<u8>, pieces: &[Piece<'_>]) -> Result<(), OutOfMemory>
-    ensures { OnOk result (out.new.items ≡ out.old.items ++ pieces_text pieces.now) }
+    ensures { Appended result out.old out.new (pieces_text pieces.now) }
 {
     for piece in pieces {
         append_piece(out, *piece)?;
@@ -31,7 +32,7 @@ pub(crate) fn append_pieces(out: &mut Vec<u8>, pieces: &[Piece<'_>]) -> Result<(
 }
 
 fn append_piece(out: &mut Vec<u8>, piece: Piece<'_>) -> Result<(), OutOfMemory>
-    ensures { OnOk result (out.new.items ≡ out.old.items ++ piece_text piece.entry) }
+    ensures { Appended result out.old out.new (piece_text piece.entry) }
 {
     match piece {
         Piece::Words(words) => append_words(out, words),
@@ -41,7 +42,7 @@ fn append_piece(out: &mut Vec<u8>, piece: Piece<'_>) -> Result<(), OutOfMemory>
 
 /// Appends the words.
 pub(crate) fn append_words(out: &mut Vec<u8>, words: &[u8]) -> Result<(), OutOfMemory>
-    ensures { OnOk result (out.new.items ≡ out.old.items ++ words.now) }
+    ensures { Appended result out.old out.new words.now }
 {
     out.extend_from_slice(words)?;
     Ok(())
@@ -49,7 +50,7 @@ pub(crate) fn append_words(out: &mut Vec<u8>, words: &[u8]) -> Result<(), OutOfM
 
 /// Appends the number in decimal digits.
 fn append_number(out: &mut Vec<u8>, number: u64) -> Result<(), OutOfMemory>
-    ensures { OnOk result (out.new.items ≡ out.old.items ++ decimal number) }
+    ensures { Appended result out.old out.new (decimal number) }
 {
     let mut digits = Buffer::new();
     out.extend_from_slice(digits.format(number).as_bytes())?;

@@ -1,6 +1,6 @@
 //! The three kinds of shapes in a drawing: rectangles, lines of text and arrows. Only this module escapes texts.
-ghost use Rattle.std.specs.Prelude.{◌≡◌, ◌++◌, OnOk};
 ghost use Rattle.explain_report.specs.picture.Shapes.{arrow_text, attribute_text, line_text, point_text, rect_text, shape_begin};
+ghost use Rattle.rapid_text.specs.Appended.{Appended};
 
 use crate::picture::class::{Class, name_of};
 use crate::picture::pieces::{Piece, append_pieces, append_words};
@@ -16,7 +16,7 @@ pub(crate) fn append_rect(
     width: u64,
     height: u64,
 ) -> Result<(), OutOfMemory>
-    ensures { OnOk result (out.new.items ≡ out.old.items ++ rect_text class left top width height) }
+    ensures { Appended result out.old out.new (rect_text class left top width height) }
 {
     append_begin(out, b"<rect", class, left, top)?;
     append_attribute(out, b"width", width)?;
@@ -33,7 +33,7 @@ pub(crate) fn append_line(
     base: u64,
     text: &[u8],
 ) -> Result<(), OutOfMemory>
-    ensures { OnOk result (out.new.items ≡ out.old.items ++ line_text class left base text.now) }
+    ensures { Appended result out.old out.new (line_text class left base text.now) }
 {
     append_begin(out, b"<text", class, left, base)?;
     append_words(out, b">")?;
@@ -53,7 +53,7 @@ pub(crate) struct Arrow {
 
 /// Appends an arrow.
 pub(crate) fn append_arrow(out: &mut Vec<u8>, arrow: Arrow) -> Result<(), OutOfMemory>
-    ensures { OnOk result (out.new.items ≡ out.old.items ++ arrow_text arrow.from.0 arrow.from.1 arrow.below arrow.to.0 arrow.to.1 arrow.above) }
+    ensures { Appended result out.old out.new (arrow_text arrow.from.0 arrow.from.1 arrow.below arrow.to.0 arrow.to.1 arrow.above) }
 {
     append_pieces(
         out,
@@ -88,7 +88,7 @@ fn append_begin(
     x: u64,
     y: u64,
 ) -> Result<(), OutOfMemory>
-    ensures { OnOk result (out.new.items ≡ out.old.items ++ shape_begin element.now class x y) }
+    ensures { Appended result out.old out.new (shape_begin element.now class x y) }
 {
     append_pieces(
         out,
@@ -106,7 +106,7 @@ fn append_begin(
 
 /// Appends a point, or a size.
 pub(crate) fn append_point(out: &mut Vec<u8>, x: u64, y: u64) -> Result<(), OutOfMemory>
-    ensures { OnOk result (out.new.items ≡ out.old.items ++ point_text x y) }
+    ensures { Appended result out.old out.new (point_text x y) }
 {
     append_pieces(
         out,
@@ -121,7 +121,7 @@ pub(crate) fn append_attribute(
     name: &[u8],
     number: u64,
 ) -> Result<(), OutOfMemory>
-    ensures { OnOk result (out.new.items ≡ out.old.items ++ attribute_text name.now number) }
+    ensures { Appended result out.old out.new (attribute_text name.now number) }
 {
     append_pieces(
         out,

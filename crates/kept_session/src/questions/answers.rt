@@ -1,10 +1,11 @@
 //! Answers questions.
-ghost use Rattle.std.specs.Prelude.{◌≡◌, ◌++◌, ℕ, List, drop, length, option_map, slice_get, take, None, Some, IfNone, IfSome, OnOk};
+ghost use Rattle.std.specs.Prelude.{◌≡◌, ℕ, List, drop, length, option_map, slice_get, take, None, Some, IfNone, IfSome};
 ghost use Rattle.inverse_log.specs.Log.{rows_of};
 ghost use Rattle.inverse_log.specs.declared.refusal.Refusal.TheVariants.{Move};
 ghost use Rattle.moves.specs.Rows.{row_of};
 ghost use Rattle.moves.specs.declared.refusal.MoveRefusal.TheVariants.{NoSuchSchedule};
 ghost use Rattle.moves.specs.declared.row.Row.{Row as RowValue};
+ghost use Rattle.rapid_text.specs.Appended.{Appended, AppendedOne};
 ghost use Rattle.report.specs.Refusals.{refusal_text};
 ghost use Rattle.kept_session.specs.QuestionAnswers.{IsAnswer, looked_up, next_line, part_line, rows_line, run_line};
 
@@ -23,7 +24,7 @@ use script_language::Question;
 
 /// Appends that there is no schedule with this name.
 fn append_no_schedule(out: &mut Vec<u8>, indexed: &Indexed) -> Result<(), OutOfMemory>
-    ensures { OnOk result (out.new.items ≡ out.old.items ++ refusal_text indexed.now (Move NoSuchSchedule)) }
+    ensures { Appended result out.old out.new (refusal_text indexed.now (Move NoSuchSchedule)) }
 {
     report::refusal(indexed, &Refusal::Move(MoveRefusal::NoSuchSchedule), out)
 }
@@ -36,7 +37,7 @@ fn append_next(
     schedule: &Schedule,
 ) -> Result<(), OutOfMemory>
     requires { schedule.now.trace ≡ indexed.now }
-    ensures { OnOk result (out.new.items ≡ out.old.items ++ next_line indexed.now entries schedule.now.events) }
+    ensures { Appended result out.old out.new (next_line indexed.now entries schedule.now.events) }
 {
     append_pieces(
         out,
@@ -59,7 +60,7 @@ fn append_part(
     count: u32,
     schedule: &Schedule,
 ) -> Result<(), OutOfMemory>
-    ensures { OnOk result (out.new.items ≡ out.old.items ++ part_line entries from count schedule.now.events) }
+    ensures { Appended result out.old out.new (part_line entries from count schedule.now.events) }
 {
     let events = schedule.events();
     append_pieces(
@@ -98,8 +99,7 @@ fn schedule_of<'a>(bench: &'a Bench, name: &Name) -> Option<&'a Schedule>
 
 /// Answers what each thread does next.
 fn answer_next(out: &mut Vec<u8>, bench: &Bench, name: &Name) -> Result<(), OutOfMemory>
-    ensures { OnOk result (out.new.items ≡ out.old.items ++ looked_up bench.now.trace bench.now.log name.now
-        (next_line bench.now.trace (length bench.now.log))) }
+    ensures { Appended result out.old out.new (looked_up bench.now.trace bench.now.log name.now (next_line bench.now.trace (length bench.now.log))) }
 {
     match schedule_of(bench, name) {
         Some(schedule) => append_next(out, bench.indexed(), bench.log_len(), schedule),
@@ -109,8 +109,7 @@ fn answer_next(out: &mut Vec<u8>, bench: &Bench, name: &Name) -> Result<(), OutO
 
 /// Answers how far the thread of an event can go on.
 fn answer_run(out: &mut Vec<u8>, bench: &Bench, name: &Name, event: u32) -> Result<(), OutOfMemory>
-    ensures { OnOk result (out.new.items ≡ out.old.items ++ looked_up bench.now.trace bench.now.log name.now
-        (run_line bench.now.trace (length bench.now.log) event (slice_get bench.now.trace.events event))) }
+    ensures { Appended result out.old out.new (looked_up bench.now.trace bench.now.log name.now (run_line bench.now.trace (length bench.now.log) event (slice_get bench.now.trace.events event))) }
 {
     match schedule_of(bench, name) {
         Some(schedule) => append_run_to(out, bench.indexed(), bench.log_len(), schedule, event),
@@ -126,8 +125,7 @@ fn answer_part(
     from: u32,
     count: u32,
 ) -> Result<(), OutOfMemory>
-    ensures { OnOk result (out.new.items ≡ out.old.items ++ looked_up bench.now.trace bench.now.log name.now
-        (part_line (length bench.now.log) from count)) }
+    ensures { Appended result out.old out.new (looked_up bench.now.trace bench.now.log name.now (part_line (length bench.now.log) from count)) }
 {
     match schedule_of(bench, name) {
         Some(schedule) => append_part(out, bench.log_len(), from, count, schedule),
@@ -137,7 +135,7 @@ fn answer_part(
 
 /// Answers with a list of all schedules.
 fn answer_rows(out: &mut Vec<u8>, bench: &Bench) -> Result<(), OutOfMemory>
-    ensures { OnOk result (out.new.items ≡ out.old.items ++ rows_line bench.now.log (rows_of bench.now.trace bench.now.log)) }
+    ensures { Appended result out.old out.new (rows_line bench.now.log (rows_of bench.now.trace bench.now.log)) }
 {
     append_rows(out, bench, bench.workspace())
 }
@@ -149,7 +147,7 @@ pub fn answer_question(
     question: &Question,
     out: &mut Vec<u8>,
 ) -> Result<(), OutOfMemory>
-    ensures answered { OnOk result ((text : List ℕ) × (out.new.items ≡ out.old.items ++ text) × IsAnswer bench.now.trace bench.now.log question.now text) }
+    ensures answered { AppendedOne result out.old out.new (λ text. IsAnswer bench.now.trace bench.now.log question.now text) }
 {
     match question {
         Question::Next { name } => answer_next(out, bench, name),

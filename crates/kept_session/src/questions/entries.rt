@@ -1,7 +1,8 @@
 //! Answers a question about an entry of the log.
-ghost use Rattle.std.specs.Prelude.{◌≡◌, ◌<◌, ◌++◌, length, slice_get, OnOk};
+ghost use Rattle.std.specs.Prelude.{◌≡◌, ◌<◌, length, slice_get};
 ghost use Rattle.inverse_log.specs.Log.{undoes};
 ghost use Rattle.kept_session.specs.QuestionAnswers.{entry_text, state_words, there_text, undo_of};
+ghost use Rattle.rapid_text.specs.Appended.{Appended};
 
 use inverse_log::{Bench, Entry, Refusal};
 use rapid_text::OutOfMemory;
@@ -31,7 +32,7 @@ fn undo_of(bench: &Bench, number: u64) -> Option<u64>
 
 /// Appends whether an undo took the entry back, and which undo.
 fn append_state(out: &mut Vec<u8>, undo: Option<u64>) -> Result<(), OutOfMemory>
-    ensures { OnOk result (out.new.items ≡ out.old.items ++ state_words undo) }
+    ensures { Appended result out.old out.new (state_words undo) }
 {
     match undo {
         None => append_pieces(out, &[Piece::Words(b" live ")]),
@@ -49,7 +50,7 @@ fn append_state(out: &mut Vec<u8>, undo: Option<u64>) -> Result<(), OutOfMemory>
 /// Appends the answer about an entry that the log has.
 fn append_there(out: &mut Vec<u8>, bench: &Bench, number: u64) -> Result<(), OutOfMemory>
     requires { number < length bench.now.log }
-    ensures { OnOk result (out.new.items ≡ out.old.items ++ there_text bench.now.log number) }
+    ensures { Appended result out.old out.new (there_text bench.now.log number) }
 {
     append_pieces(
         out,
@@ -66,7 +67,7 @@ fn append_there(out: &mut Vec<u8>, bench: &Bench, number: u64) -> Result<(), Out
 
 /// Appends the answer about an entry, or that the log has no such entry.
 pub(crate) fn append_entry(out: &mut Vec<u8>, bench: &Bench, number: u64) -> Result<(), OutOfMemory>
-    ensures { OnOk result (out.new.items ≡ out.old.items ++ entry_text bench.now.trace bench.now.log number (slice_get bench.now.log number)) }
+    ensures { Appended result out.old out.new (entry_text bench.now.trace bench.now.log number (slice_get bench.now.log number)) }
 {
     if number < bench.log_len() {
         append_there(out, bench, number)

@@ -1,5 +1,6 @@
 //! Items: the next event of each thread, and why it is not enabled.
-ghost use Rattle.std.specs.Prelude.{◌≡◌, ◌<◌, ◌++◌, codes, decimal, length, OnOk};
+ghost use Rattle.std.specs.Prelude.{◌≡◌, ◌<◌, ◌++◌, codes, decimal, length};
+ghost use Rattle.rapid_text.specs.Appended.{Appended};
 ghost use Rattle.report.specs.Causes.{event_words};
 ghost use Rattle.report.specs.Pieces.{piece_bytes};
 ghost use Rattle.kept_session.specs.QuestionItems.{cause_words, item, item_of, thread_item, thread_items};
@@ -21,7 +22,7 @@ fn event_piece(event: Option<u32>) -> Piece<'static>
 
 /// Appends why an event is not enabled.
 fn append_cause(out: &mut Vec<u8>, cause: &Disabled) -> Result<(), OutOfMemory>
-    ensures { OnOk result (out.new.items ≡ out.old.items ++ cause_words cause.now) }
+    ensures { Appended result out.old out.new (cause_words cause.now) }
 {
     match cause {
         Disabled::NoSuchEvent => append_pieces(out, &[Piece::Words(b":21")]),
@@ -46,7 +47,7 @@ fn append_cause(out: &mut Vec<u8>, cause: &Disabled) -> Result<(), OutOfMemory>
 
 /// Appends a blank and the number of an event.
 fn append_event(out: &mut Vec<u8>, event: u32) -> Result<(), OutOfMemory>
-    ensures { OnOk result (out.new.items ≡ out.old.items ++ (codes " " ++ decimal event)) }
+    ensures { Appended result out.old out.new (codes " " ++ decimal event) }
 {
     append_pieces(out, &[Piece::Words(b" "), Piece::Number(u64::from(event))])
 }
@@ -59,7 +60,7 @@ pub(crate) fn append_item(
     event: u32,
 ) -> Result<(), OutOfMemory>
     requires { schedule.now.trace ≡ indexed.now }
-    ensures { OnOk result (out.new.items ≡ out.old.items ++ item indexed.now.events schedule.now.events event) }
+    ensures { Appended result out.old out.new (item indexed.now.events schedule.now.events event) }
 {
     append_event(out, event)?;
     match schedule.enabled(indexed, event) {
@@ -77,7 +78,7 @@ fn append_thread(
 ) -> Result<(), OutOfMemory>
     requires trace { schedule.now.trace ≡ indexed.now }
     requires thread { thread < length indexed.now.threads }
-    ensures { OnOk result (out.new.items ≡ out.old.items ++ thread_item indexed.now.events schedule.now.events thread) }
+    ensures { Appended result out.old out.new (thread_item indexed.now.events schedule.now.events thread) }
 {
     match schedule.next_of(indexed, thread) {
         Some(event) => append_item(out, indexed, schedule, event),
@@ -92,7 +93,7 @@ pub(crate) fn append_threads(
     schedule: &Schedule,
 ) -> Result<(), OutOfMemory>
     requires { schedule.now.trace ≡ indexed.now }
-    ensures { OnOk result (out.new.items ≡ out.old.items ++ thread_items indexed.now.events schedule.now.events (length indexed.now.threads)) }
+    ensures { Appended result out.old out.new (thread_items indexed.now.events schedule.now.events (length indexed.now.threads)) }
 {
     for thread in 0..indexed.threads() {
         append_thread(out, indexed, schedule, thread)?;

@@ -1,7 +1,8 @@
 //! Answers with a list of all schedules.
-ghost use Rattle.std.specs.Prelude.{◌≡◌, ◌<◌, ◌++◌, codes, decimal, flat_map, length, slice_get, take, OnOk};
+ghost use Rattle.std.specs.Prelude.{◌≡◌, ◌<◌, codes, decimal, flat_map, length, slice_get, take};
 ghost use Rattle.inverse_log.specs.Log.{client_of};
 ghost use Rattle.kept_session.specs.QuestionAnswers.{client_at, row_item_at, row_items, rows_line};
+ghost use Rattle.rapid_text.specs.Appended.{Appended};
 
 use inverse_log::{Bench, Entry};
 use moves::Workspace;
@@ -47,7 +48,7 @@ fn append_row(
     at: usize,
 ) -> Result<(), OutOfMemory>
     requires { at < length rows.now }
-    ensures { OnOk result (out.new.items ≡ out.old.items ++ row_item_at bench.now.log (slice_get rows.now at)) }
+    ensures { Appended result out.old out.new (row_item_at bench.now.log (slice_get rows.now at)) }
 {
     let (name, birth, schedule) = rows.row(at);
     append_pieces(
@@ -67,7 +68,7 @@ fn append_row(
 
 /// Appends the items of all schedules.
 fn append_items(out: &mut Vec<u8>, bench: &Bench, rows: &Workspace) -> Result<(), OutOfMemory>
-    ensures { OnOk result (out.new.items ≡ out.old.items ++ row_items bench.now.log rows.now (length rows.now)) }
+    ensures { Appended result out.old out.new (row_items bench.now.log rows.now (length rows.now)) }
 {
     for at in 0..rows.len() {
         append_row(out, bench, rows, at)?;
@@ -81,7 +82,7 @@ pub(crate) fn append_rows(
     bench: &Bench,
     rows: &Workspace,
 ) -> Result<(), OutOfMemory>
-    ensures { OnOk result (out.new.items ≡ out.old.items ++ rows_line bench.now.log rows.now) }
+    ensures { Appended result out.old out.new (rows_line bench.now.log rows.now) }
 {
     append_pieces(
         out,

@@ -1,7 +1,8 @@
 //! Answers how far a thread can go on after a schedule.
-ghost use Rattle.std.specs.Prelude.{◌≡◌, ◌++◌, ◌<◌, ◌≤◌, length, slice_get, IfOk, OnOk, Some};
+ghost use Rattle.std.specs.Prelude.{◌≡◌, ◌<◌, ◌≤◌, length, slice_get, IfOk, Some};
 ghost use Rattle.inverse_log.specs.declared.refusal.Refusal.TheVariants.{Move};
 ghost use Rattle.moves.specs.declared.refusal.MoveRefusal.TheVariants.{Disabled as DisabledBy};
+ghost use Rattle.rapid_text.specs.Appended.{Appended};
 ghost use Rattle.report.specs.Refusals.{refusal_text};
 ghost use Rattle.schedule.specs.Refusals.{next_of};
 ghost use Rattle.kept_session.specs.QuestionAnswers.{run_line, run_next, run_words};
@@ -18,7 +19,7 @@ use std::alloc::Global;
 
 /// Appends that an event cannot be added, and the cause.
 fn append_refused(out: &mut Vec<u8>, indexed: &Indexed, cause: Disabled) -> Result<(), OutOfMemory>
-    ensures { OnOk result (out.new.items ≡ out.old.items ++ refusal_text indexed.now (Move (DisabledBy cause))) }
+    ensures { Appended result out.old out.new (refusal_text indexed.now (Move (DisabledBy cause))) }
 {
     report::refusal(indexed, &Refusal::Move(MoveRefusal::Disabled(cause)), out)
 }
@@ -62,7 +63,7 @@ fn append_stop(
     run: (u64, Option<u32>),
 ) -> Result<(), OutOfMemory>
     requires { schedule.now.trace ≡ indexed.now }
-    ensures { OnOk result (out.new.items ≡ out.old.items ++ run_words entries (run.0, item_of indexed.now.events schedule.now.events run.1)) }
+    ensures { Appended result out.old out.new (run_words entries (run.0, item_of indexed.now.events schedule.now.events run.1)) }
 {
     append_pieces(
         out,
@@ -90,8 +91,7 @@ fn append_run(
 ) -> Result<(), OutOfMemory>
     requires trace { copy.trace ≡ indexed.now }
     requires thread { thread < length indexed.now.threads }
-    ensures { OnOk result (out.new.items ≡ out.old.items ++ run_words entries
-        (run_of (length indexed.now.events) indexed.now.events copy.events thread last)) }
+    ensures { Appended result out.old out.new (run_words entries (run_of (length indexed.now.events) indexed.now.events copy.events thread last)) }
 {
     match go_on(&mut copy, indexed, thread, last) {
         Ok(run) => append_stop(out, indexed, entries, &copy, run),
@@ -122,8 +122,7 @@ fn append_next_run(
 ) -> Result<(), OutOfMemory>
     requires trace { schedule.now.trace ≡ indexed.now }
     requires thread { thread < length indexed.now.threads }
-    ensures { OnOk result (out.new.items ≡ out.old.items ++ run_next indexed.now entries schedule.now.events thread last
-        (next_of indexed.now.events schedule.now.events thread)) }
+    ensures { Appended result out.old out.new (run_next indexed.now entries schedule.now.events thread last (next_of indexed.now.events schedule.now.events thread)) }
 {
     match schedule.next_of(indexed, thread) {
         Some(next) if next <= last => {
@@ -143,7 +142,7 @@ pub(crate) fn append_run_to(
     last: u32,
 ) -> Result<(), OutOfMemory>
     requires { schedule.now.trace ≡ indexed.now }
-    ensures { OnOk result (out.new.items ≡ out.old.items ++ run_line indexed.now entries last (slice_get indexed.now.events last) schedule.now.events) }
+    ensures { Appended result out.old out.new (run_line indexed.now entries last (slice_get indexed.now.events last) schedule.now.events) }
 {
     if last >= indexed.len() {
         return append_refused(out, indexed, Disabled::NoSuchEvent);

@@ -3,6 +3,7 @@ ghost use Rattle.std.specs.Prelude.{◌≡◌, ◌<◌, ◌++◌, ℕ, List, cod
 ghost use Rattle.explain_report.specs.findings.Findings.{IsFinding, IsNeverShown};
 ghost use Rattle.explain_report.specs.declared.findings.finding.Finding.{Finding};
 ghost use Rattle.kept_session.specs.QuestionWitnesses.{found_line, how_words, IsWitnessLine};
+ghost use Rattle.rapid_text.specs.Appended.{Appended, AppendedOne};
 
 use event_index::Indexed;
 use explain_report::How;
@@ -24,7 +25,7 @@ fn how_words(how: How) -> &'static [u8]
 
 /// Appends what was found for a pair.
 fn append_found(out: &mut Vec<u8>, finding: &Finding) -> Result<(), OutOfMemory>
-    ensures { OnOk result (out.new.items ≡ out.old.items ++ found_line finding.now) }
+    ensures { Appended result out.old out.new (found_line finding.now) }
 {
     match finding {
         Finding::Race { how, events } => append_pieces(
@@ -94,7 +95,7 @@ pub(crate) fn append_witness(
     one: u32,
     other: u32,
 ) -> Result<(), OutOfMemory>
-    ensures { OnOk result ((text : List ℕ) × (out.new.items ≡ out.old.items ++ text) × IsWitnessLine indexed.now one other text) }
+    ensures { AppendedOne result out.old out.new (λ text. IsWitnessLine indexed.now one other text) }
 {
     match pair_of(indexed, one, other) {
         Some((first, second)) => append_pair(out, indexed, first, second),

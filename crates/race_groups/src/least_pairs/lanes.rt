@@ -1,9 +1,10 @@
 //! The accesses of one variable, by thread and kind of access.
-ghost use Rattle.std.specs.Prelude.{◌≡◌, ◌≢◌, ℕ, ◌+◌, [], ◌∷◌, ◌++◌, ◌<◌, ◌≤◌, true, length, Contains, IfOk, IfSome, OnOk, None, Some, slice_get, slice_index};
+ghost use Rattle.std.specs.Prelude.{◌≡◌, ◌≢◌, ℕ, ◌+◌, [], ◌∷◌, ◌<◌, ◌≤◌, true, length, Contains, IfOk, IfSome, OnOk, None, Some, slice_get, slice_index};
 ghost use Rattle.event_index.specs.Relations.{is_access};
 ghost use Rattle.race_groups.specs.least_pairs.Lanes.{AreAccesses, IsInLanes, IsLater, IsRising, access_op};
 ghost use Rattle.race_groups.specs.least_pairs.Making.{AreBegun, AreBunchesGrown, AreLanesGrown, IsBunchOf, IsEventAdded, IsLaneOf, IsOfBunch};
 ghost use Rattle.race_groups.specs.least_pairs.Pairs.{is_access_at};
+ghost use Rattle.rapid_text.specs.Appended.{Appended};
 
 use crate::Classes;
 use crate::least_pairs::reach::reach;
@@ -282,7 +283,7 @@ impl Bunch {
     // Adds an event, and returns the last one before it.
     fn put(&mut self, event: u32) -> Result<Option<u32>, OutOfMemory>
         ensures class { OnOk result (self.new.class ≡ self.old.class) }
-        ensures events { OnOk result (self.new.events.items ≡ self.old.events.items ++ event ∷ []) }
+        ensures events { Appended result self.old.events self.new.events (event ∷ []) }
         ensures last { IfOk result (λ last. IfSome last (Contains self.old.events.items)) }
     {
         let last = self.events.as_slice().last().copied();

@@ -1,5 +1,6 @@
 //! The report as objects of JSON, a line each.
 ghost use Rattle.std.specs.Prelude.{◌≡◌, ◌++◌, List, ℕ, OnOk, OnErr, false};
+ghost use Rattle.rapid_text.specs.Appended.{Appended};
 ghost use Rattle.serde_json.specs.View.{view};
 ghost use Rattle.serde_json.specs.Written.{has_float};
 ghost use Rattle.triage_report.specs.json.Lines.{json_line, left_out_line, triage_lines, verdict_lines, IsTriageJson};
@@ -38,7 +39,7 @@ fn append_all(
     totals: &Totals,
     chosen: &Chosen,
 ) -> Result<(), OutOfMemory>
-    ensures { OnOk result (out.new.items ≡ out.old.items ++ triage_lines analysis.now totals.now chosen.now) }
+    ensures { Appended result out.old out.new (triage_lines analysis.now totals.now chosen.now) }
 {
     append_counts(out, totals)?;
     append_verdicts(out, analysis, chosen.verdicts.as_slice())?;
@@ -49,7 +50,7 @@ fn append_all(
 
 /// Appends the line of the counts.
 fn append_counts(out: &mut Vec<u8>, totals: &Totals) -> Result<(), OutOfMemory>
-    ensures { OnOk result (out.new.items ≡ out.old.items ++ json_line (counts_object totals.now)) }
+    ensures { Appended result out.old out.new (json_line (counts_object totals.now)) }
 {
     let object = counts_of(*out.allocator(), totals)?;
     append_line(out, &object)
@@ -61,7 +62,7 @@ fn append_verdicts(
     analysis: &Analysis<'_>,
     verdicts: &[Verdict],
 ) -> Result<(), OutOfMemory>
-    ensures { OnOk result (out.new.items ≡ out.old.items ++ verdict_lines analysis.now verdicts.now) }
+    ensures { Appended result out.old out.new (verdict_lines analysis.now verdicts.now) }
 {
     for verdict in verdicts {
         append_verdict(out, analysis, verdict)?;
@@ -75,7 +76,7 @@ fn append_verdict(
     analysis: &Analysis<'_>,
     verdict: &Verdict,
 ) -> Result<(), OutOfMemory>
-    ensures { OnOk result (out.new.items ≡ out.old.items ++ json_line (verdict_object analysis.now verdict.now)) }
+    ensures { Appended result out.old out.new (json_line (verdict_object analysis.now verdict.now)) }
 {
     let object = verdict_of(*out.allocator(), analysis, verdict)?;
     append_line(out, &object)
@@ -83,7 +84,7 @@ fn append_verdict(
 
 /// Appends a line with how many verdicts were left out, if there is a number.
 fn append_left_out(out: &mut Vec<u8>, kind: &str, count: Option<u64>) -> Result<(), OutOfMemory>
-    ensures { OnOk result (out.new.items ≡ out.old.items ++ left_out_line kind.now count) }
+    ensures { Appended result out.old out.new (left_out_line kind.now count) }
 {
     match count {
         Some(count) => {
@@ -97,7 +98,7 @@ fn append_left_out(out: &mut Vec<u8>, kind: &str, count: Option<u64>) -> Result<
 /// Appends the text of an object, and a line end. The object must have no fraction in it.
 fn append_line(out: &mut Vec<u8>, object: &Value) -> Result<(), OutOfMemory>
     requires { has_float (view object.now) ≡ false }
-    ensures { OnOk result (out.new.items ≡ out.old.items ++ json_line (view object.now)) }
+    ensures { Appended result out.old out.new (json_line (view object.now)) }
 {
     let text = object.to_vec(*out.allocator())?;
     out.extend_from_slice(text.as_slice())?;

@@ -1,5 +1,6 @@
 //! The lines of one verdict.
-ghost use Rattle.std.specs.Prelude.{◌≡◌, ◌<◌, ◌++◌, OnOk, length};
+ghost use Rattle.std.specs.Prelude.{◌≡◌, ◌<◌, length};
+ghost use Rattle.rapid_text.specs.Appended.{Appended};
 ghost use Rattle.rapid_text.specs.Canonical.{name_at};
 ghost use Rattle.race_triage.specs.Texts.{held_locks};
 ghost use Rattle.triage_report.specs.lines.Accesses.{spot_at};
@@ -21,7 +22,7 @@ pub(crate) fn append_verdict(
     analysis: &Analysis<'_>,
     verdict: &Verdict,
 ) -> Result<(), OutOfMemory>
-    ensures { OnOk result (out.new.items ≡ out.old.items ++ verdict_lines analysis.now verdict.now) }
+    ensures { Appended result out.old out.new (verdict_lines analysis.now verdict.now) }
 {
     let indexed = analysis.indexed();
     append_head(out, indexed, verdict)?;
@@ -64,7 +65,7 @@ fn rule_words(outcome: Outcome) -> &'static [u8]
 
 /// Appends the first line of a verdict.
 fn append_head(out: &mut Vec<u8>, indexed: &Indexed, verdict: &Verdict) -> Result<(), OutOfMemory>
-    ensures { OnOk result (out.new.items ≡ out.old.items ++ head_line indexed.now verdict.now) }
+    ensures { Appended result out.old out.new (head_line indexed.now verdict.now) }
 {
     append_later(out, indexed, verdict)?;
     append_earlier(out, indexed, verdict)?;
@@ -73,7 +74,7 @@ fn append_head(out: &mut Vec<u8>, indexed: &Indexed, verdict: &Verdict) -> Resul
 
 /// Appends the part of the first line on the later access.
 fn append_later(out: &mut Vec<u8>, indexed: &Indexed, verdict: &Verdict) -> Result<(), OutOfMemory>
-    ensures { OnOk result (out.new.items ≡ out.old.items ++ later_words indexed.now verdict.now) }
+    ensures { Appended result out.old out.new (later_words indexed.now verdict.now) }
 {
     let second = verdict.second;
     append_pieces(
@@ -98,7 +99,7 @@ fn append_earlier(
     indexed: &Indexed,
     verdict: &Verdict,
 ) -> Result<(), OutOfMemory>
-    ensures { OnOk result (out.new.items ≡ out.old.items ++ earlier_words indexed.now verdict.now) }
+    ensures { Appended result out.old out.new (earlier_words indexed.now verdict.now) }
 {
     let first = verdict.first;
     append_pieces(
@@ -119,7 +120,7 @@ fn append_earlier(
 
 /// Appends the lines of an access, if the trace has it.
 fn append_access(out: &mut Vec<u8>, analysis: &Analysis<'_>, event: u32) -> Result<(), OutOfMemory>
-    ensures { OnOk result (out.new.items ≡ out.old.items ++ access_lines analysis.now event) }
+    ensures { Appended result out.old out.new (access_lines analysis.now event) }
 {
     let indexed = analysis.indexed();
     if event >= indexed.len() {
@@ -134,7 +135,7 @@ fn append_access(out: &mut Vec<u8>, analysis: &Analysis<'_>, event: u32) -> Resu
 
 /// Appends the line `event` of an access.
 fn append_about(out: &mut Vec<u8>, indexed: &Indexed, event: u32) -> Result<(), OutOfMemory>
-    ensures { OnOk result (out.new.items ≡ out.old.items ++ about_line indexed.now event) }
+    ensures { Appended result out.old out.new (about_line indexed.now event) }
 {
     append_pieces(
         out,
@@ -161,7 +162,7 @@ fn append_held(
     event: u32,
 ) -> Result<(), OutOfMemory>
     requires event { event < length analysis.now.events }
-    ensures { OnOk result (out.new.items ≡ out.old.items ++ lock_lines analysis.now place.now (held_locks analysis.now event)) }
+    ensures { Appended result out.old out.new (lock_lines analysis.now place.now (held_locks analysis.now event)) }
 {
     let locks = analysis.locks_held(*out.allocator(), event)?;
     append_locks(out, analysis.indexed(), place, locks.as_slice())?;
@@ -175,7 +176,7 @@ fn append_locks(
     place: &[u8],
     locks: &[u32],
 ) -> Result<(), OutOfMemory>
-    ensures { OnOk result (out.new.items ≡ out.old.items ++ lock_lines indexed.now place.now locks.now) }
+    ensures { Appended result out.old out.new (lock_lines indexed.now place.now locks.now) }
 {
     for lock in locks {
         append_lock(out, indexed, place, *lock)?;
@@ -190,7 +191,7 @@ fn append_lock<'a>(
     place: &'a [u8],
     lock: u32,
 ) -> Result<(), OutOfMemory>
-    ensures { OnOk result (out.new.items ≡ out.old.items ++ lock_line indexed.now place.now lock) }
+    ensures { Appended result out.old out.new (lock_line indexed.now place.now lock) }
 {
     append_pieces(
         out,
@@ -217,7 +218,7 @@ fn lock_name(indexed: &Indexed, lock: u32) -> &[u8]
 
 /// Appends the last line of a verdict, with the reason.
 fn append_reason(out: &mut Vec<u8>, indexed: &Indexed, verdict: &Verdict) -> Result<(), OutOfMemory>
-    ensures { OnOk result (out.new.items ≡ out.old.items ++ reason_line indexed.now verdict.now) }
+    ensures { Appended result out.old out.new (reason_line indexed.now verdict.now) }
 {
     append_pieces(
         out,
@@ -233,7 +234,7 @@ fn append_reason(out: &mut Vec<u8>, indexed: &Indexed, verdict: &Verdict) -> Res
 
 /// Appends the command that explains the pair, and ends the line.
 fn append_how(out: &mut Vec<u8>, verdict: &Verdict) -> Result<(), OutOfMemory>
-    ensures { OnOk result (out.new.items ≡ out.old.items ++ how_words verdict.now) }
+    ensures { Appended result out.old out.new (how_words verdict.now) }
 {
     append_pieces(
         out,
@@ -249,7 +250,7 @@ fn append_how(out: &mut Vec<u8>, verdict: &Verdict) -> Result<(), OutOfMemory>
 
 /// Appends the reason for the outcome.
 fn append_why(out: &mut Vec<u8>, outcome: Outcome) -> Result<(), OutOfMemory>
-    ensures { OnOk result (out.new.items ≡ out.old.items ++ reason_words outcome) }
+    ensures { Appended result out.old out.new (reason_words outcome) }
 {
     match outcome {
         Outcome::Race {

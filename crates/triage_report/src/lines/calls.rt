@@ -1,7 +1,8 @@
 //! The lines of the calls that led to an access.
-ghost use Rattle.std.specs.Prelude.{◌≡◌, ◌++◌, OnOk, option_map};
+ghost use Rattle.std.specs.Prelude.{◌≡◌, option_map};
 ghost use Rattle.explain_report.specs.places.Places.{behind_arrow, calls_in};
 ghost use Rattle.explain_report.specs.declared.places.arrows.TheConstants.{MAX_CALLS as MOST};
+ghost use Rattle.rapid_text.specs.Appended.{Appended};
 ghost use Rattle.triage_report.specs.lines.Lines.{call_line, call_lines, place_or, said_of};
 
 use explain_report::places::{MAX_CALLS, call_of, cut_at_arrow};
@@ -14,7 +15,7 @@ pub(crate) fn append_calls(
     place: &[u8],
     location: &[u8],
 ) -> Result<(), OutOfMemory>
-    ensures { OnOk result (out.new.items ≡ out.old.items ++ call_lines place.now (calls_in MOST (behind_arrow location.now))) }
+    ensures { Appended result out.old out.new (call_lines place.now (calls_in MOST (behind_arrow location.now))) }
 {
     let (_, mut rest) = cut_at_arrow(location);
     for done in 0..MAX_CALLS {
@@ -32,7 +33,7 @@ pub(crate) fn append_calls(
 
 /// Appends the line of a call. `place` is that of the access.
 fn append_call<'a>(out: &mut Vec<u8>, place: &'a [u8], call: &'a [u8]) -> Result<(), OutOfMemory>
-    ensures { OnOk result (out.new.items ≡ out.old.items ++ call_line place.now call.now) }
+    ensures { Appended result out.old out.new (call_line place.now call.now) }
 {
     let call = call_of(call);
     append_said(out, place_or(place, call.place), call.function)
@@ -44,7 +45,7 @@ fn append_said<'a>(
     place: &'a [u8],
     function: &'a [u8],
 ) -> Result<(), OutOfMemory>
-    ensures { OnOk result (out.new.items ≡ out.old.items ++ said_of place.now function.now) }
+    ensures { Appended result out.old out.new (said_of place.now function.now) }
 {
     if function.is_empty() {
         append_pieces(

@@ -1,5 +1,6 @@
 //! The lines of all verdicts.
 ghost use Rattle.std.specs.Prelude.{◌≡◌, ◌++◌, List, ℕ, OnOk, OnErr};
+ghost use Rattle.rapid_text.specs.Appended.{Appended};
 ghost use Rattle.triage_report.specs.lines.Lines.{all_lines, IsLinesText};
 
 use crate::lines::blocks::append_verdict;
@@ -31,7 +32,7 @@ fn append_all(
     analysis: &Analysis<'_>,
     verdicts: &[Verdict],
 ) -> Result<(), OutOfMemory>
-    ensures { OnOk result (out.new.items ≡ out.old.items ++ all_lines analysis.now verdicts.now) }
+    ensures { Appended result out.old out.new (all_lines analysis.now verdicts.now) }
 {
     for verdict in verdicts {
         append_verdict(out, analysis, verdict)?;

@@ -1,5 +1,6 @@
 //! Why a pair is a race, undecided, or apart, in words.
-ghost use Rattle.std.specs.Prelude.{◌≡◌, ◌++◌, OnErr, OnOk};
+ghost use Rattle.std.specs.Prelude.{◌≡◌, OnErr};
+ghost use Rattle.rapid_text.specs.Appended.{Appended};
 ghost use Rattle.triage_report.specs.lines.Reasons.{apart_words, plural_end, race_words, undecided_words};
 
 use rapid_text::OutOfMemory;
@@ -15,7 +16,7 @@ pub fn plural_end(count: u64) -> &'static [u8]
 /// Appends that a schedule of `events` events of `threads` threads shows the race. If memory runs out, `out` stays as
 /// it was.
 pub fn append_race(out: &mut Vec<u8>, events: u64, threads: u64) -> Result<(), OutOfMemory>
-    ensures ok { OnOk result (out.new.items ≡ out.old.items ++ race_words events threads) }
+    ensures ok { Appended result out.old out.new (race_words events threads) }
     ensures err { OnErr result (out.new.items ≡ out.old.items) }
 {
     append_pieces(
@@ -36,7 +37,7 @@ pub fn append_race(out: &mut Vec<u8>, events: u64, threads: u64) -> Result<(), O
 
 /// Appends that no schedule was found for `tried` pairs of events. If memory runs out, `out` stays as it was.
 pub fn append_undecided(out: &mut Vec<u8>, tried: u64) -> Result<(), OutOfMemory>
-    ensures ok { OnOk result (out.new.items ≡ out.old.items ++ undecided_words tried) }
+    ensures ok { Appended result out.old out.new (undecided_words tried) }
     ensures err { OnErr result (out.new.items ≡ out.old.items) }
 {
     append_pieces(
@@ -53,7 +54,7 @@ pub fn append_undecided(out: &mut Vec<u8>, tried: u64) -> Result<(), OutOfMemory
 
 /// Appends that every correct reordering keeps the pair apart. If memory runs out, `out` stays as it was.
 pub fn append_apart(out: &mut Vec<u8>) -> Result<(), OutOfMemory>
-    ensures ok { OnOk result (out.new.items ≡ out.old.items ++ apart_words) }
+    ensures ok { Appended result out.old out.new apart_words }
     ensures err { OnErr result (out.new.items ≡ out.old.items) }
 {
     append_pieces(

@@ -1,5 +1,6 @@
 //! A schedule as a code flow: the steps of each thread, each with its place in the schedule.
 ghost use Rattle.std.specs.Prelude.{◌≡◌, ◌++◌, ◌∷◌, [], codes, IfOk, OnOk, length, map};
+ghost use Rattle.rapid_text.specs.Appended.{Appended};
 ghost use Rattle.serde_json.specs.Data.{Data, object, put as with_member};
 ghost use Rattle.serde_json.specs.View.{members_view, view};
 ghost use Rattle.triage_report.specs.sarif.Flows.{code_flow, count_members, count_words, flow_by, flow_if, importance, is_step, order_of, places_below, step, step_at, steps_at, thread_flow, thread_flows, thread_name};
@@ -165,7 +166,7 @@ fn put_count(members: &mut Map<String, Value>, alloc: Global, count: u64) -> Res
 
 /// Appends how many steps there are, and whether all are listed.
 fn append_count(out: &mut Vec<u8>, count: u64) -> Result<(), OutOfMemory>
-    ensures { OnOk result (out.new.items ≡ out.old.items ++ count_words count) }
+    ensures { Appended result out.old out.new (count_words count) }
 {
     if count > MOST_STEPS as u64 {
         append_pieces(

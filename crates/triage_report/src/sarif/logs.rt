@@ -1,5 +1,6 @@
 //! The whole log: one run of the tool, with a result for each verdict.
 ghost use Rattle.std.specs.Prelude.{◌≡◌, ◌++◌, ℕ, List, nat_lt, OnOk, OnErr, false, option_map};
+ghost use Rattle.rapid_text.specs.Appended.{Appended};
 ghost use Rattle.serde_json.specs.Data.{Data};
 ghost use Rattle.serde_json.specs.View.{view};
 ghost use Rattle.serde_json.specs.Written.{compact_text, has_float};
@@ -83,7 +84,7 @@ pub(crate) fn append_rest(
     known: Option<u64>,
     hidden: Option<u64>,
 ) -> Result<(), OutOfMemory>
-    ensures { OnOk result (out.new.items ≡ out.old.items ++ rest_text root.now known hidden) }
+    ensures { Appended result out.old out.new (rest_text root.now known hidden) }
 {
     out.extend_from_slice(TAIL)?;
     append_base(out, root)?;
@@ -135,8 +136,7 @@ fn append_shown(
     verdict: &Verdict,
     steps: &Option<Vec<u32>>,
 ) -> Result<(), OutOfMemory>
-    ensures { OnOk result (out.new.items
-        ≡ out.old.items ++ item_text is_later (result_object indexed.now sources.entry verdict.now (option_map (λ s. s.items) steps.now))) }
+    ensures { Appended result out.old out.new (item_text is_later (result_object indexed.now sources.entry verdict.now (option_map (λ s. s.items) steps.now))) }
 {
     let object = result_of(*out.allocator(), indexed, sources, verdict, steps)?;
     append_item(out, is_later, &object)
@@ -149,7 +149,7 @@ pub(crate) fn append_item(
     object: &Value,
 ) -> Result<(), OutOfMemory>
     requires { has_float (view object.now) ≡ false }
-    ensures { OnOk result (out.new.items ≡ out.old.items ++ item_text is_later (view object.now)) }
+    ensures { Appended result out.old out.new (item_text is_later (view object.now)) }
 {
     if is_later {
         out.push(b',')?;
@@ -160,7 +160,7 @@ pub(crate) fn append_item(
 /// Appends a value. It must have no fraction in it.
 fn append_value(out: &mut Vec<u8>, object: &Value) -> Result<(), OutOfMemory>
     requires { has_float (view object.now) ≡ false }
-    ensures { OnOk result (out.new.items ≡ out.old.items ++ compact_text (view object.now)) }
+    ensures { Appended result out.old out.new (compact_text (view object.now)) }
 {
     let text = object.to_vec(*out.allocator())?;
     out.extend_from_slice(text.as_slice())?;
@@ -169,7 +169,7 @@ fn append_value(out: &mut Vec<u8>, object: &Value) -> Result<(), OutOfMemory>
 
 /// Appends the folder of the code, if one is named.
 fn append_base(out: &mut Vec<u8>, root: &[u8]) -> Result<(), OutOfMemory>
-    ensures { OnOk result (out.new.items ≡ out.old.items ++ compact_text (base_object root.now)) }
+    ensures { Appended result out.old out.new (compact_text (base_object root.now)) }
 {
     let object = base_of(*out.allocator(), root)?;
     append_value(out, &object)
@@ -181,7 +181,7 @@ fn append_left(
     known: Option<u64>,
     hidden: Option<u64>,
 ) -> Result<(), OutOfMemory>
-    ensures { OnOk result (out.new.items ≡ out.old.items ++ compact_text (left_object known hidden)) }
+    ensures { Appended result out.old out.new (compact_text (left_object known hidden)) }
 {
     let object = left_of(*out.allocator(), known, hidden)?;
     append_value(out, &object)

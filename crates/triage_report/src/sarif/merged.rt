@@ -1,6 +1,7 @@
 //! A merged report as a log: a result for each pair of locations. Its parts have no schedules, so no result has a code
 //! flow.
-ghost use Rattle.std.specs.Prelude.{◌≡◌, ◌++◌, [], IfOk, OnErr, OnOk, Some};
+ghost use Rattle.std.specs.Prelude.{◌≡◌, [], IfOk, OnErr, OnOk, Some};
+ghost use Rattle.rapid_text.specs.Appended.{Appended};
 ghost use Rattle.serde_json.specs.Data.{object};
 ghost use Rattle.serde_json.specs.View.{members_view, view};
 ghost use Rattle.race_parts.specs.Pairs.{pair_shown};
@@ -32,7 +33,7 @@ pub fn merged_sarif(
     hidden: Option<u64>,
     out: &mut Vec<u8>,
 ) -> Result<(), OutOfMemory>
-    ensures ok { OnOk result (out.new.items ≡ out.old.items ++ merged_log parts sources.entry pairs.now known hidden) }
+    ensures ok { Appended result out.old out.new (merged_log parts sources.entry pairs.now known hidden) }
     ensures err { OnErr result (out.new.items ≡ out.old.items) }
 {
     let mut text = Vec::new(*out.allocator());
@@ -50,7 +51,7 @@ fn append_log(
     known: Option<u64>,
     hidden: Option<u64>,
 ) -> Result<(), OutOfMemory>
-    ensures { OnOk result (out.new.items ≡ out.old.items ++ merged_log parts sources.entry pairs.now known hidden) }
+    ensures { Appended result out.old out.new (merged_log parts sources.entry pairs.now known hidden) }
 {
     out.extend_from_slice(HEAD)?;
     append_objects(out, parts, pairs, sources)?;
@@ -65,7 +66,7 @@ fn append_objects(
     pairs: &[Pair<'_>],
     sources: Sources<'_>,
 ) -> Result<(), OutOfMemory>
-    ensures { OnOk result (out.new.items ≡ out.old.items ++ joined (merged_objects parts sources.entry pairs.now)) }
+    ensures { Appended result out.old out.new (joined (merged_objects parts sources.entry pairs.now)) }
 {
     for at in 0..pairs.len() {
         append_object(out, parts, pairs[at], sources, at > 0)?;
@@ -81,7 +82,7 @@ fn append_object(
     sources: Sources<'_>,
     is_later: bool,
 ) -> Result<(), OutOfMemory>
-    ensures { OnOk result (out.new.items ≡ out.old.items ++ item_text is_later (merged_object parts sources.entry (pair_shown pair.entry))) }
+    ensures { Appended result out.old out.new (item_text is_later (merged_object parts sources.entry (pair_shown pair.entry))) }
 {
     let object = object_of(*out.allocator(), parts, pair, sources)?;
     append_item(out, is_later, &object)
@@ -187,7 +188,7 @@ fn append_words(
     pair: Pair<'_>,
     row: &Value,
 ) -> Result<(), OutOfMemory>
-    ensures { OnOk result (out.new.items ≡ out.old.items ++ merged_words parts (pair_shown pair.entry) (view row.now)) }
+    ensures { Appended result out.old out.new (merged_words parts (pair_shown pair.entry) (view row.now)) }
 {
     append_pair(out, pair.rank, row)?;
     append_reason(out, pair.rank, row)?;
@@ -199,7 +200,7 @@ fn append_words(
 
 /// Appends what was found, and both accesses.
 fn append_pair(out: &mut Vec<u8>, rank: u8, row: &Value) -> Result<(), OutOfMemory>
-    ensures { OnOk result (out.new.items ≡ out.old.items ++ pair_words rank (view row.now)) }
+    ensures { Appended result out.old out.new (pair_words rank (view row.now)) }
 {
     let first = access_of(row, 0);
     let second = access_of(row, 1);
@@ -210,7 +211,7 @@ fn append_pair(out: &mut Vec<u8>, rank: u8, row: &Value) -> Result<(), OutOfMemo
 
 /// Appends the reason for the rank of this row.
 fn append_reason(out: &mut Vec<u8>, rank: u8, row: &Value) -> Result<(), OutOfMemory>
-    ensures { OnOk result (out.new.items ≡ out.old.items ++ row_words rank (view row.now)) }
+    ensures { Appended result out.old out.new (row_words rank (view row.now)) }
 {
     match rank {
         0 => append_race(out, number_of(row, "events"), number_of(row, "threads")),
@@ -221,7 +222,7 @@ fn append_reason(out: &mut Vec<u8>, rank: u8, row: &Value) -> Result<(), OutOfMe
 
 /// Appends in how many of the parts the pair is a race, undecided, and apart.
 fn append_tally(out: &mut Vec<u8>, parts: usize, pair: Pair<'_>) -> Result<(), OutOfMemory>
-    ensures { OnOk result (out.new.items ≡ out.old.items ++ tally_words parts (pair_shown pair.entry)) }
+    ensures { Appended result out.old out.new (tally_words parts (pair_shown pair.entry)) }
 {
     append_pieces(
         out,
@@ -252,7 +253,7 @@ fn from_words(rank: u8) -> &'static [u8]
 
 /// Appends the two events of the row, and the part that they are from.
 fn append_origin(out: &mut Vec<u8>, pair: Pair<'_>, row: &Value) -> Result<(), OutOfMemory>
-    ensures { OnOk result (out.new.items ≡ out.old.items ++ origin_words (pair_shown pair.entry) (view row.now)) }
+    ensures { Appended result out.old out.new (origin_words (pair_shown pair.entry) (view row.now)) }
 {
     append_pieces(
         out,
@@ -278,7 +279,7 @@ fn is_window(name: &[u8]) -> bool
 
 /// Appends the command that prints the part, if it is a window.
 fn append_window(out: &mut Vec<u8>, name: &[u8]) -> Result<(), OutOfMemory>
-    ensures { OnOk result (out.new.items ≡ out.old.items ++ window_words name.now) }
+    ensures { Appended result out.old out.new (window_words name.now) }
 {
     if !is_window(name) {
         return Ok(());

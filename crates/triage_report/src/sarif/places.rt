@@ -1,5 +1,6 @@
 //! The file, the line and the URI of a place.
-ghost use Rattle.std.specs.Prelude.{◌≡◌, ◌<◌, ◌++◌, OnOk};
+ghost use Rattle.std.specs.Prelude.{◌≡◌, ◌<◌};
+ghost use Rattle.rapid_text.specs.Appended.{Appended};
 ghost use Rattle.triage_report.specs.sarif.Places.{encoded, encoded_byte, file_of, hex_digit, is_absolute, is_plain, line_number, line_of, relative, uri_of};
 
 use explain_report::places::{cut_at_last, is_line};
@@ -58,7 +59,7 @@ pub(crate) fn is_absolute(path: &[u8]) -> bool
 
 /// Appends the path as a URI.
 pub(crate) fn append_uri(out: &mut Vec<u8>, path: &[u8]) -> Result<(), OutOfMemory>
-    ensures { OnOk result (out.new.items ≡ out.old.items ++ uri_of path.now) }
+    ensures { Appended result out.old out.new (uri_of path.now) }
 {
     if is_absolute(path) {
         out.extend_from_slice(b"file://")?;
@@ -68,7 +69,7 @@ pub(crate) fn append_uri(out: &mut Vec<u8>, path: &[u8]) -> Result<(), OutOfMemo
 
 /// Appends the path, encoded for a URI.
 fn append_encoded(out: &mut Vec<u8>, path: &[u8]) -> Result<(), OutOfMemory>
-    ensures { OnOk result (out.new.items ≡ out.old.items ++ encoded path.now) }
+    ensures { Appended result out.old out.new (encoded path.now) }
 {
     for byte in path {
         append_byte(out, *byte)?;
@@ -78,7 +79,7 @@ fn append_encoded(out: &mut Vec<u8>, path: &[u8]) -> Result<(), OutOfMemory>
 
 /// Appends a byte, encoded for a URI.
 fn append_byte(out: &mut Vec<u8>, byte: u8) -> Result<(), OutOfMemory>
-    ensures { OnOk result (out.new.items ≡ out.old.items ++ encoded_byte byte) }
+    ensures { Appended result out.old out.new (encoded_byte byte) }
 {
     if is_plain(byte) {
         out.push(byte)?;

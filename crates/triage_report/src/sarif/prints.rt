@@ -1,5 +1,6 @@
 //! Fingerprints: what a pair keeps if its lines move.
-ghost use Rattle.std.specs.Prelude.{◌≡◌, ◌++◌, [], IfOk, OnOk};
+ghost use Rattle.std.specs.Prelude.{◌≡◌, [], IfOk, OnOk};
+ghost use Rattle.rapid_text.specs.Appended.{Appended};
 ghost use Rattle.serde_json.specs.Data.{object};
 ghost use Rattle.serde_json.specs.View.{members_view, view};
 ghost use Rattle.triage_report.specs.sarif.Accesses.{access_told};
@@ -57,8 +58,7 @@ fn append_print(
     first: Access<'_>,
     second: Access<'_>,
 ) -> Result<(), OutOfMemory>
-    ensures { OnOk result (out.new.items ≡ out.old.items
-        ++ ordered (side sources.entry (access_told first.entry)) (side sources.entry (access_told second.entry))) }
+    ensures { Appended result out.old out.new (ordered (side sources.entry (access_told first.entry)) (side sources.entry (access_told second.entry))) }
 {
     let mut one = Vec::new(*out.allocator());
     append_side(&mut one, sources, first)?;
@@ -72,7 +72,7 @@ fn append_beside(
     first: &[u8],
     access: Access<'_>,
 ) -> Result<(), OutOfMemory>
-    ensures { OnOk result (out.new.items ≡ out.old.items ++ ordered first.now (side sources.entry (access_told access.entry))) }
+    ensures { Appended result out.old out.new (ordered first.now (side sources.entry (access_told access.entry))) }
 {
     let mut second = Vec::new(*out.allocator());
     append_side(&mut second, sources, access)?;
@@ -81,7 +81,7 @@ fn append_beside(
 
 /// Appends the two sides, the lesser first.
 fn append_ordered(out: &mut Vec<u8>, first: &[u8], second: &[u8]) -> Result<(), OutOfMemory>
-    ensures { OnOk result (out.new.items ≡ out.old.items ++ ordered first.now second.now) }
+    ensures { Appended result out.old out.new (ordered first.now second.now) }
 {
     match first.cmp(second) {
         Ordering::Greater => append_both(out, second, first),
@@ -92,7 +92,7 @@ fn append_ordered(out: &mut Vec<u8>, first: &[u8], second: &[u8]) -> Result<(), 
 
 /// Appends the two sides.
 fn append_both<'a>(out: &mut Vec<u8>, one: &'a [u8], other: &'a [u8]) -> Result<(), OutOfMemory>
-    ensures { OnOk result (out.new.items ≡ out.old.items ++ both one.now other.now) }
+    ensures { Appended result out.old out.new (both one.now other.now) }
 {
     append_pieces(
         out,
@@ -106,7 +106,7 @@ fn append_side<'a>(
     sources: Sources<'a>,
     access: Access<'a>,
 ) -> Result<(), OutOfMemory>
-    ensures { OnOk result (out.new.items ≡ out.old.items ++ side sources.entry (access_told access.entry)) }
+    ensures { Appended result out.old out.new (side sources.entry (access_told access.entry)) }
 {
     let (place, _) = cut_at_arrow(access.location);
     append_pieces(

@@ -1,5 +1,6 @@
 //! The words for an access, and for a pair. A rank is 0 for a race, 1 for what is undecided, 2 for what is apart.
-ghost use Rattle.std.specs.Prelude.{◌≡◌, ◌++◌, OnOk};
+ghost use Rattle.std.specs.Prelude.{◌≡◌};
+ghost use Rattle.rapid_text.specs.Appended.{Appended};
 ghost use Rattle.triage_report.specs.lines.Accesses.{spot};
 ghost use Rattle.triage_report.specs.sarif.Accesses.{access_told};
 ghost use Rattle.triage_report.specs.sarif.Words.{access_words, both_words, found_words, kind_word, level_word, message_words, more_words, outcome_rank, reason_words, rule_number, rule_word, title_words};
@@ -72,7 +73,7 @@ pub(crate) fn rule_number(rank: u8) -> u64
 
 /// Appends what the thread of an access does, and where.
 pub(crate) fn append_access(out: &mut Vec<u8>, access: Access<'_>) -> Result<(), OutOfMemory>
-    ensures { OnOk result (out.new.items ≡ out.old.items ++ access_words (access_told access.entry)) }
+    ensures { Appended result out.old out.new (access_words (access_told access.entry)) }
 {
     append_pieces(
         out,
@@ -94,7 +95,7 @@ pub(crate) fn append_message(
     indexed: &Indexed,
     verdict: &Verdict,
 ) -> Result<(), OutOfMemory>
-    ensures { OnOk result (out.new.items ≡ out.old.items ++ message_words indexed.now verdict.now) }
+    ensures { Appended result out.old out.new (message_words indexed.now verdict.now) }
 {
     let first = access_at(indexed, verdict.first);
     let second = access_at(indexed, verdict.second);
@@ -111,7 +112,7 @@ pub(crate) fn append_both(
     first: Access<'_>,
     second: Access<'_>,
 ) -> Result<(), OutOfMemory>
-    ensures { OnOk result (out.new.items ≡ out.old.items ++ both_words (access_told first.entry) (access_told second.entry)) }
+    ensures { Appended result out.old out.new (both_words (access_told first.entry) (access_told second.entry)) }
 {
     append_access(out, second)?;
     append_pieces(out, &[Piece::Words(b", and ")])?;
@@ -126,7 +127,7 @@ pub(crate) fn append_title(
     rank: u8,
     second: Access<'_>,
 ) -> Result<(), OutOfMemory>
-    ensures { OnOk result (out.new.items ≡ out.old.items ++ title_words rank (access_told second.entry)) }
+    ensures { Appended result out.old out.new (title_words rank (access_told second.entry)) }
 {
     append_pieces(
         out,
@@ -152,7 +153,7 @@ fn found_words(rank: u8) -> &'static [u8]
 
 /// Appends the reason for the outcome.
 fn append_reason(out: &mut Vec<u8>, outcome: Outcome) -> Result<(), OutOfMemory>
-    ensures { OnOk result (out.new.items ≡ out.old.items ++ reason_words outcome) }
+    ensures { Appended result out.old out.new (reason_words outcome) }
 {
     match outcome {
         Outcome::Race {
@@ -167,7 +168,7 @@ fn append_reason(out: &mut Vec<u8>, outcome: Outcome) -> Result<(), OutOfMemory>
 
 /// Appends the command that explains the pair.
 fn append_more(out: &mut Vec<u8>, verdict: &Verdict) -> Result<(), OutOfMemory>
-    ensures { OnOk result (out.new.items ≡ out.old.items ++ more_words verdict.now) }
+    ensures { Appended result out.old out.new (more_words verdict.now) }
 {
     append_pieces(
         out,

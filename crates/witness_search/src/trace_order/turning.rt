@@ -1,6 +1,7 @@
 //! A search beyond the order of the trace.
 ghost use Rattle.std.specs.Prelude.{◌≡◌, ◌<◌, ◌≤◌, ◌↔◌, length, IsTrue, IfOk, IfSome, None, true};
 ghost use Rattle.event_index.specs.Relations.{IsConflicting};
+ghost use Rattle.rapid_text.specs.Appended.{IfFound};
 ghost use Rattle.schedule.specs.Reordering.{IsCorrectReordering};
 ghost use Rattle.schedule.specs.Shows.{IsReady, Shows};
 ghost use Rattle.witness_search.specs.trace_order.Counting.{SizeIfTurned, IsLeftOf};
@@ -38,7 +39,7 @@ pub fn turned(
 ) -> Result<Option<EventList>, OutOfMemory>
     ensures answer { IfOk result (IsTurned indexed.now.events first second budget) }
     ensures reordering { IfOk result (λ found. IfSome found (IsCorrectReordering indexed.now.events)) }
-    ensures shows { IfOk result (λ r. IfSome r (λ P. Shows indexed.now.events P first second)) }
+    ensures shows { IfFound result (λ P. Shows indexed.now.events P first second) }
 {
     if !are_conflicting(indexed, first, second) {
         return Ok(None);

@@ -1,5 +1,6 @@
 //! What the rows of cells say: the lines that filters look at, and the variable of a race.
-ghost use Rattle.std.specs.Prelude.{◌≡◌, ◌<◌, ◌≤◌, ◌+◌, ◌++◌, ◌∷◌, IfOk, None, OnOk, drop, length};
+ghost use Rattle.std.specs.Prelude.{◌≡◌, ◌<◌, ◌≤◌, ◌+◌, ◌∷◌, IfOk, None, drop, length};
+ghost use Rattle.rapid_text.specs.Appended.{Appended};
 ghost use Rattle.serde_json.specs.View.{view};
 ghost use Rattle.race_parts.specs.Cells.{is_same};
 ghost use Rattle.race_parts.specs.Objects.{news_count};
@@ -40,7 +41,7 @@ pub(crate) fn variable_in(row: &Value) -> &[u8]
 
 /// Appends these bytes.
 fn append_words(out: &mut Vec<u8>, words: &[u8]) -> Result<(), OutOfMemory>
-    ensures { OnOk result (out.new.items ≡ out.old.items ++ words.now) }
+    ensures { Appended result out.old out.new words.now }
 {
     out.extend_from_slice(words)?;
     Ok(())
@@ -48,7 +49,7 @@ fn append_words(out: &mut Vec<u8>, words: &[u8]) -> Result<(), OutOfMemory>
 
 /// Appends the line of an access as a trace has it.
 fn append_line(out: &mut Vec<u8>, access: &Value) -> Result<(), OutOfMemory>
-    ensures { OnOk result (out.new.items ≡ out.old.items ++ line_by (view access.now)) }
+    ensures { Appended result out.old out.new (line_by (view access.now)) }
 {
     append_words(out, text_of(access, "thread"))?;
     append_words(out, b"|")?;

@@ -1,7 +1,8 @@
 //! Splits cells into those that stay and the pairs of locations that are left out.
-ghost use Rattle.std.specs.Prelude.{◌≡◌, ◌<◌, ◌++◌, ◌&&◌, cond, false, true, length, None, [], ◌∷◌, IfOk, OnOk};
+ghost use Rattle.std.specs.Prelude.{◌≡◌, ◌<◌, ◌&&◌, cond, false, true, length, None, [], ◌∷◌, IfOk};
 ghost use Rattle.calls.specs.triage.LeavingListed.{is_listed_by};
 ghost use Rattle.calls.specs.triage.LeavingSplitting.{drops_race, drops_first, is_out, leaving, staying};
+ghost use Rattle.rapid_text.specs.Appended.{Appended};
 
 use crate::triage::leaving::entries::is_decided;
 use crate::triage::leaving::filters::is_hidden;
@@ -77,7 +78,7 @@ fn drops_first(
 
 /// Appends the cell, if it stays.
 fn keep<'a>(cells: &mut Vec<Cell<'a>>, cell: Cell<'a>, stays: bool) -> Result<(), OutOfMemory>
-    ensures { OnOk result (cells.new.items ≡ cells.old.items ++ cond stays (cell.entry ∷ []) []) }
+    ensures { Appended result cells.old cells.new (cond stays (cell.entry ∷ []) []) }
 {
     if stays {
         cells.push(cell)?;
