@@ -12,6 +12,10 @@ use std::thread::Threads;
 use std::time::Duration;
 use workspace_lock::{Gate, Seat, Seats, Told};
 
+const TRIES: u32 = 8;
+// In hundredths of a second. One that asks again and again takes 100 in a second, and 31 wait.
+const MOST_TIME: u64 = 15;
+
 // Takes the 32 seats that are in. One that had no place would be missed when the calls are counted.
 fn take_all(seats: &mut Seats, own: &mut Vec<Seat>) {
     for _ in 0..32u32 {
@@ -129,7 +133,7 @@ fn is_idle_at_the_gate<R: Threads + Wait + Sync>(
     let before = processors_time(system);
     let are_done = are_done_at_the_gate(rt, own);
     match (before, processors_time(system)) {
-        (Some(before), Some(after)) => are_done && after.saturating_sub(before) <= 10,
+        (Some(before), Some(after)) => are_done && after.saturating_sub(before) <= MOST_TIME,
         _ => false,
     }
 }
@@ -151,7 +155,17 @@ fn is_gate_idle<R: Threads + Wait + Sync>(rt: &R, system: &HostRuntime) -> bool 
     }
 }
 
+// A machine that is busy charges more in some tries. Clients that ask again and again are charged in each.
+fn is_gate_idle_at_last<R: Threads + Wait + Sync>(rt: &R, system: &HostRuntime) -> bool {
+    for _ in 0..TRIES {
+        if is_gate_idle(rt, system) {
+            return true;
+        }
+    }
+    false
+}
+
 #[test]
 fn a_gate_that_stays_shut_costs_no_processor_time(rt: HostRuntime) {
-    assert!(rt; is_gate_idle(&rt, &rt));
+    assert!(rt; is_gate_idle_at_last(&rt, &rt));
 }
