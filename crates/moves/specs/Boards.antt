@@ -1,9 +1,15 @@
 -- Boards of proposals: this project's own.
-use Rattle.std.specs.Prelude.{◌≡◌, List, All}
+use Rattle.std.specs.Prelude.{◌≡◌, ℕ, List, All}
+use denote.Ref.{Bor}
 use Rattle.rapid_text.specs.Recording.{Recording}
 use Rattle.schedule.specs.Reordering.{IsCorrectReordering}
+use Rattle.schedule.specs.Scheduled.{Scheduled}
 use Rattle.schedule.specs.Shows.{Shows}
 use Rattle.moves.specs.declared.board.Proposal.{Proposal}
+
+-- the proposal of two events and a borrowed schedule
+abbrev pub lent_proposal : ℕ × ℕ × Bor Scheduled → Proposal
+lent_proposal parts = record { first = parts.0; second = parts.1; schedule = parts.2.now }
 
 -- the proposal's schedule shows its pair
 abbrev pub IsShown : Proposal → Type 0

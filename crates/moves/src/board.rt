@@ -1,6 +1,7 @@
 //! The proposals that schedules may adopt.
 ghost use Rattle.std.specs.Prelude.{◌≡◌, ◌<◌, [], ◌∷◌, ◌++◌, length, slice_get, Some, OnOk, OnErr, IfErr};
 ghost use Rattle.schedule.specs.Shows.{Shows};
+ghost use Rattle.moves.specs.Boards.{IsShown, lent_proposal};
 
 use rapid_text::OutOfMemory;
 use schedule::Schedule;
@@ -80,9 +81,8 @@ impl Board {
     /// The proposal of this number: the two events of its pair, and the schedule that shows it.
     pub fn get(&self, at: usize) -> (u32, u32, &Schedule)
         requires { at < length self.now }
-        ensures same { slice_get self.now at
-            ≡ Some (record { first = result.0; second = result.1; schedule = result.2.now }) }
-        ensures shows { Shows result.2.now.trace.events result.2.now.events result.0 result.1 }
+        ensures same { slice_get self.now at ≡ Some (lent_proposal result) }
+        ensures shows { IsShown (lent_proposal result) }
     {
         let proposal = &self.proposals[at];
         (proposal.first, proposal.second, &proposal.schedule)
