@@ -1,5 +1,5 @@
--- What the rules say of a list of events, for the crates above: a list that keeps them has no first
--- breach and the other way round; what a first breach says; and who holds a lock.
+-- What the rules say of a list of events, for the crates above: a list keeps them exactly where no
+-- event breaks one; where there is a first breach; and who holds a lock.
 use Rattle.std.proofs.Common.{◌≡◌, ◌≢◌, ℕ, zero, suc, ◌+◌, ◌-◌, ◌<◌, ◌≤◌, ◌==◌, Bool, true, false, ◌||◌, cond, List, [], ◌∷◌, ◌++◌, length, take, get_or, slice_get, Option, Some, None, refl, sym, ap, ◌∙◌, subst, arith, add-one, eq-eqb, ne_eqb, inl, inr}
 use Rattle.std.specs.List.{list_any}
 use Rattle.std.specs.Prelude.{option_map}
@@ -7,12 +7,12 @@ use Rattle.std.proofs.lemmas.Bool.{cases_Bool, cases_lt, or_left, or_right, or_f
 use Rattle.std.proofs.lemmas.Option.{none-some, same_Some, slice_get_within, slice_get-get_or, get_or_from_slice_get}
 use Rattle.std.proofs.lemmas.List.{take_all, get_or-take, length-take}
 use Rattle.std.proofs.lemmas.List.Folds.{list_any_at, list_any_none}
-use Rattle.rapid_text.proofs.CallerLemmas.{nil-from_no_first, nothing_found, none-from_nothing, first_found, is_first_found}
+use Rattle.rapid_text.proofs.CallerLemmas.{nothing_found, first_found}
 use Rattle.rapid_text.specs.Operations.{is_acquire, is_release, is_fork, is_join}
 use Rattle.rapid_text.specs.declared.event.Event.{Event}
 use Rattle.rapid_text.specs.declared.event.Op.{Op}
 use Rattle.rapid_text.specs.declared.event.Op.TheVariants.{Read, Write, Acquire, Release, Fork, Join}
-use Rattle.trace_rules.specs.Rules.{IsDisciplined, IsFirstBreach, refusal_at, breaches_of, acquire_count, release_count, hold_count, breach_of_op, breach_at, first_breach}
+use Rattle.trace_rules.specs.Rules.{IsDisciplined, IsFirstBreach, refusal_at, acquire_count, release_count, hold_count, breach_of_op, breach_at, first_breach}
 use Rattle.trace_rules.specs.Tables.{IsHoldOf}
 use Rattle.trace_rules.specs.declared.hold.Hold.{Hold}
 use Rattle.trace_rules.specs.declared.refusal.RuleCause.{RuleCause}
@@ -27,16 +27,6 @@ use Rattle.trace_rules.proofs.TableLemmas.{take-event, cond-from_none, breach_at
 -- the refusal for an event with this breach
 abbrev refused_for : ℕ → Option RuleCause → Option RuleRefusal
 refused_for i breach = option_map (λ why. record { event = i; why = why }) breach
-
-no_refusal : (i : ℕ) (breach : Option RuleCause) → refused_for i breach ≡ None → breach ≡ None
-no_refusal i None is = refl
-no_refusal i (Some why) is = absurd (none-some _ (sym is))
-
-refusal_is : (i : ℕ) (breach : Option RuleCause) (r : RuleRefusal) → refused_for i breach ≡ Some r → (r.event ≡ i) × (breach ≡ Some r.why)
-refusal_is i None r is = absurd (none-some r is)
-refusal_is i (Some why) r is =
-    let same : record { event = i; why = why } ≡ r = same_Some (record { event = i; why = why }) r is in
-    (sym (ap (λ (q : RuleRefusal). q.event) same), ap (λ (q : RuleRefusal). Some q.why) same)
 
 -- no event breaks a rule
 abbrev pub HasNoBreach : List Event → Type 0
@@ -59,24 +49,6 @@ module _ (T : List Event) where
   unfolding first_breach
   first_breach-from_none none =
       ap (λ rs. slice_get rs 0) (nothing_found (refusal_at T) 0 (length T) (λ j low less. ap (refused_for j) (none j (omega arith))))
-
-  -- where there is no first breach, no event breaks a rule
-  pub none-from_first_breach : first_breach T ≡ None → HasNoBreach T
-  unfolding first_breach
-  none-from_first_breach is j less =
-      no_refusal j (breach_at T j) (none-from_nothing (refusal_at T) 0 (length T) (nil-from_no_first (breaches_of T) is) j (omega arith) (omega arith))
-
-  -- what the first breach says
-  pub first_breach-is_first : (r : RuleRefusal) → first_breach T ≡ Some r → IsFirstBreach T r
-  unfolding first_breach
-  first_breach-is_first r is =
-      let found = is_first_found (refusal_at T) 0 (length T) r is in
-      let here = refusal_is found.place (breach_at T found.place) r found.here in
-      record {
-        within = omega (arith, here.0, found.high);
-        breach = ap (breach_at T) here.0 ∙ here.1;
-        before = λ j less. no_refusal j (breach_at T j) (found.before j (omega arith) (omega (arith, here.0)));
-      }
 
 module _ (p : Event → Bool) where
   -- an event that passes stands among the first j where it stands below j
@@ -166,13 +138,6 @@ module _ (T : List Event) (is : IsDisciplined T) (j : ℕ) (e : Event) (here : s
 -- in a list that keeps the rules, no event breaks one
 pub none-from_IsDisciplined : (T : List Event) → IsDisciplined T → HasNoBreach T
 none-from_IsDisciplined T is j within = event_keeps T is j _ (slice_get-get_or T j (record { thread = 0; op = Read 0 }) within)
-
--- a list keeps the rules exactly where it has no first breach
-pub disciplined-no_breach : (T : List Event) → IsDisciplined T → first_breach T ≡ None
-disciplined-no_breach T is = first_breach-from_none T (none-from_IsDisciplined T is)
-
-pub no_breach-disciplined : (T : List Event) → first_breach T ≡ None → IsDisciplined T
-no_breach-disciplined T is = IsDisciplined-from_none T (none-from_first_breach T is)
 
 -- a list with a breach does not keep the rules
 pub undisciplined-from_breach : (T : List Event) (j : ℕ) (why : RuleCause) → j < length T → breach_at T j ≡ Some why → ¬ IsDisciplined T

@@ -6,7 +6,7 @@ use Rattle.std.proofs.lemmas.Bool.{cases_eq, cases_Bool, and_parts, and_left, an
 use Rattle.std.proofs.lemmas.Bool.Decides.{nat_tests}
 use Rattle.std.proofs.lemmas.List.Sums.{sum_by_push, sum_by-cons}
 use Rattle.std.proofs.lemmas.List.Folds.{list_any-append, list_any_none}
-use Rattle.std.proofs.Math.Bool.{or-false, or-true}
+use Rattle.std.proofs.Math.Bool.{and-true, or-false, or-true}
 use Rattle.rapid_text.specs.Operations.{is_acquire}
 use Rattle.rapid_text.specs.declared.event.Event.{Event}
 use Rattle.rapid_text.specs.declared.event.Op.{Op}
@@ -28,10 +28,6 @@ slice_get-replicate zero k x y is = absurd (none-some y is)
 slice_get-replicate (suc n) zero x y is = same_Some x y is
 slice_get-replicate (suc n) (suc k) x y is = slice_get-replicate n k x y is
 
--- one more element counts where it passes
-pub count_by_push : {X : Type 0} (p : X → Bool) (xs : List X) (y : X) → count_by p (xs ++ y ∷ []) ≡ count_by p xs + cond (p y) 1 0
-count_by_push p xs y = sum_by_push (λ x. cond (p x) 1 0) xs y
-
 -- some element passes where one did before, or where the new one does
 pub list_any_push : {X : Type 0} (p : X → Bool) (xs : List X) (y : X) → list_any p (xs ++ y ∷ []) ≡ (list_any p xs || p y)
 list_any_push p xs y = list_any-append p xs (y ∷ []) ∙ ap (λ b. list_any p xs || b) (or-false (p y))
@@ -48,31 +44,25 @@ list_any-from_count p q (x ∷ xs) h above =
     ]
 
 or_swap : (a b c d : Bool) → ((a || b) || (c || d)) ≡ ((a || c) || (b || d))
-or_swap true b c d = refl
-or_swap false true true d = refl
-or_swap false true false d = refl
-or_swap false false c d = refl
+or_swap a b c d = grind arith
 
 -- some element passes one of two tests where some passes the first or some passes the second
 pub list_any-or : {X : Type 0} (p q : X → Bool) (xs : List X) → list_any (λ x. p x || q x) xs ≡ (list_any p xs || list_any q xs)
 list_any-or p q [] = refl
 list_any-or p q (x ∷ xs) = ap (λ b. (p x || q x) || b) (list_any-or p q xs) ∙ or_swap (p x) (q x) (list_any p xs) (list_any q xs)
 
--- a test that holds leaves the other
-pub and-true : (a b : Bool) → b ≡ true → (a && b) ≡ a
-and-true true b h = h
-and-true false b h = refl
-
 -- a thread's events whose operations pass are one more after such an event, and as many after another
 pub count_yes : (p : Op → Bool) (es : List Event) (e : Event) (t : ℕ) → p e.op ≡ true
     → count_by (λ d. d.thread == t && p d.op) (es ++ e ∷ []) ≡ count_by (λ d. d.thread == t && p d.op) es + cond (e.thread == t) 1 0
 count_yes p es e t so =
-    count_by_push (λ d. d.thread == t && p d.op) es e ∙ ap (λ b. count_by (λ d. d.thread == t && p d.op) es + cond b 1 0) (and-true (e.thread == t) (p e.op) so)
+    sum_by_push (λ d. cond (d.thread == t && p d.op) 1 0) es e
+    ∙ ap (λ b. count_by (λ d. d.thread == t && p d.op) es + cond b 1 0) (ap (λ b. e.thread == t && b) so ∙ and-true (e.thread == t))
 
 pub count_no : (p : Op → Bool) (es : List Event) (e : Event) (t : ℕ) → p e.op ≡ false
     → count_by (λ d. d.thread == t && p d.op) (es ++ e ∷ []) ≡ count_by (λ d. d.thread == t && p d.op) es
 count_no p es e t fails =
-    count_by_push (λ d. d.thread == t && p d.op) es e ∙ ap (λ b. count_by (λ d. d.thread == t && p d.op) es + cond b 1 0) (and_right (e.thread == t) (p e.op) fails)
+    sum_by_push (λ d. cond (d.thread == t && p d.op) 1 0) es e
+    ∙ ap (λ b. count_by (λ d. d.thread == t && p d.op) es + cond b 1 0) (and_right (e.thread == t) (p e.op) fails)
     ∙ omega arith
 
 -- the test that another thread than t holds the lock

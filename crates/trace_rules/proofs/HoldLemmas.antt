@@ -99,14 +99,14 @@ depth-le es l h is (Some owner) same =
 
 module _ (es : List Event) (l : ℕ) (h : Hold) (is : IsHoldOf es l h) (t : ℕ) where
   -- an acquire breaks no rule where the lock is free or the thread's own
-  pub breach_of_op-acquire : IsOpenFor t h.owner → breach_of_op es t (Acquire l) ≡ None
-  breach_of_op-acquire free =
+  pub acquire_kept : IsOpenFor t h.owner → breach_of_op es t (Acquire l) ≡ None
+  acquire_kept free =
       ap (λ b. cond b (Some AcquireHeld) None)
       (is_held_by_another-false es t l (λ u other. omega (arith, is.counts u, depth_for-other h.owner h.depth t free u other)))
 
   -- it breaks one where another thread holds the lock
-  pub breach_of_op-acquire_held : (u : ℕ) → h.owner ≡ Some u → u ≢ t → breach_of_op es t (Acquire l) ≡ Some AcquireHeld
-  breach_of_op-acquire_held u owned other =
+  pub acquire_held : (u : ℕ) → h.owner ≡ Some u → u ≢ t → breach_of_op es t (Acquire l) ≡ Some AcquireHeld
+  acquire_held u owned other =
       let depth : depth_for h.owner h.depth u ≡ h.depth = ap (λ o. depth_for o h.depth u) owned ∙ depth_for-owner u h.depth in
       let above : 0 < h.depth = depth-above h.owner h.depth u is.depth owned in
       let held : 0 < hold_count es u l = omega (arith, is.counts u) in
@@ -129,7 +129,7 @@ module _ (es : List Event) (l : ℕ) (h : Hold) (is : IsHoldOf es l h) (t : ℕ)
   IsOpenFor-from_none (Some u) same kept =
       elim (cases_eq u t) [
         | inl mine ↦ mine
-        | inr other ↦ absurd (none-some AcquireHeld (sym kept ∙ breach_of_op-acquire_held u same other))
+        | inr other ↦ absurd (none-some AcquireHeld (sym kept ∙ acquire_held u same other))
       ]
 
   -- where a release breaks no rule, the lock is the thread's own

@@ -1,16 +1,13 @@
 -- What a table's life says of the events so far, and how it goes on.
-use Rattle.std.proofs.Common.{◌≡◌, ◌≢◌, ℕ, ◌<◌, ◌==◌, Bool, true, false, ◌&&◌, ◌||◌, cond, List, [], ◌∷◌, ◌++◌, length, set, slice_get, Some, None, refl, sym, ap, ap₂, ◌∙◌, eq-eqb, ne_eqb, inl, inr}
+use Rattle.std.proofs.Common.{◌≡◌, ℕ, ◌<◌, ◌==◌, Bool, true, false, ◌&&◌, ◌||◌, List, [], ◌∷◌, ◌++◌, length, set, slice_get, Some, refl, sym, ap, ap₂, ◌∙◌, eq-eqb, ne_eqb, inl, inr}
 use Rattle.std.specs.List.{list_any}
 use Rattle.std.proofs.lemmas.Bool.{and_right}
-use Rattle.std.proofs.Math.Bool.{or-false, or-true}
+use Rattle.std.proofs.Math.Bool.{and-true, or-false, or-true}
 use Rattle.rapid_text.specs.Operations.{is_fork, is_join}
 use Rattle.rapid_text.specs.declared.event.Event.{Event}
-use Rattle.rapid_text.specs.declared.event.Op.TheVariants.{Fork}
-use Rattle.trace_rules.specs.Rules.{breach_of_op}
 use Rattle.trace_rules.specs.Tables.{IsLifeOf, AreLivesOf}
 use Rattle.trace_rules.specs.declared.life.Life.{Life}
-use Rattle.trace_rules.specs.declared.refusal.RuleCause.TheVariants.{ForkTwice, ForkLate}
-use Rattle.trace_rules.proofs.Counts.{and-true, list_any_push, list_any-or, slice_get-set}
+use Rattle.trace_rules.proofs.Counts.{list_any_push, list_any-or, slice_get-set}
 
 -- a life that goes on by these tests
 pub record IsMarked (before : Life) (event forked joined : Bool) (after : Life) : Type 0 where
@@ -28,14 +25,9 @@ IsLifeOf-push es t e s is after goes =
       was_joined = goes.was_joined ∙ ap (λ b. b || is_join t e.op) is.was_joined ∙ sym (list_any_push (λ e. is_join t e.op) es e);
     }
 
--- what a fork of another thread breaks, by that thread's life
-pub breach_of_op-fork : (es : List Event) (t u : ℕ) (s : Life) → IsLifeOf es u s → u ≢ t
-    → breach_of_op es t (Fork u) ≡ cond s.was_forked (Some ForkTwice) (cond (s.has_event || s.was_joined) (Some ForkLate) None)
-breach_of_op-fork es t u s is other =
-    let apart : (u == t) ≡ false = ne_eqb u t other in
-    let late : list_any (λ e. e.thread == u || is_join u e.op) es ≡ (s.has_event || s.was_joined) =
-    list_any-or (λ e. e.thread == u) (λ e. is_join u e.op) es ∙ ap₂ (λ a b. a || b) (sym is.has_event) (sym is.was_joined) in
-    rw (apart, ← is.was_forked, late)
+-- what makes a fork late, by the life of the thread
+pub fork_late : (es : List Event) (u : ℕ) (s : Life) → IsLifeOf es u s → list_any (λ e. e.thread == u || is_join u e.op) es ≡ (s.has_event || s.was_joined)
+fork_late es u s is = list_any-or (λ e. e.thread == u) (λ e. is_join u e.op) es ∙ ap₂ (λ a b. a || b) (sym is.has_event) (sym is.was_joined)
 
 -- a life with an event
 pub IsMarked-event : (x : Life) → IsMarked x true false false (record { has_event = true; was_forked = x.was_forked; was_joined = x.was_joined })
@@ -69,7 +61,7 @@ module _ (es : List Event) (e : Event) (lives : List Life) (are : AreLivesOf es 
       let (was, there, marked) = life_before lives e.thread x y true false false within read goes t s at in
       let no = and_right (e.thread == t) false refl in
       IsLifeOf-push es t e was (are t was there) s (record {
-        has_event = marked.has_event ∙ ap (λ b. was.has_event || b) (and-true (e.thread == t) true refl);
+        has_event = marked.has_event ∙ ap (λ b. was.has_event || b) (and-true (e.thread == t));
         was_forked = marked.was_forked ∙ ap (λ b. was.was_forked || b) (no ∙ sym (none t).0);
         was_joined = marked.was_joined ∙ ap (λ b. was.was_joined || b) (no ∙ sym (none t).1);
       })
@@ -82,7 +74,7 @@ module _ (es : List Event) (e : Event) (lives : List Life) (are : AreLivesOf es 
   AreLivesOf-marked u v w forks joins inside there marked tells t s at =
       let (then, here, later) = life_before (set lives e.thread y) u v w false forks joins inside there marked t s at in
       let (was, first, earlier) = life_before lives e.thread x y true false false within read goes t then here in
-      let mine = ap (λ b. was.has_event || b) (and-true (e.thread == t) true refl) in
+      let mine = ap (λ b. was.has_event || b) (and-true (e.thread == t)) in
       let no = λ (a : Bool). ap (λ b. a || b) (and_right (e.thread == t) false refl) ∙ or-false a in
       IsLifeOf-push es t e was (are t was first) s (record {
         has_event = later.has_event ∙ ap₂ (λ a b. a || b) (earlier.has_event ∙ mine) (and_right (u == t) false refl) ∙ or-false (was.has_event || (e.thread == t));

@@ -100,16 +100,10 @@ IsApartFrom-release op m is l other = (ap (is_acquire l) is, ap (is_release l) i
 -- the other operations
 pub IsApartFrom-rest : (op : Op) → (((x : ℕ) × (op ≡ Read x)) ⊎ (((x : ℕ) × (op ≡ Write x)) ⊎ (((x : ℕ) × (op ≡ Fork x)) ⊎ ((x : ℕ) × (op ≡ Join x)))))
     → (l : ℕ) → IsApartFrom l op
-IsApartFrom-rest op (inl is) l = (ap (is_acquire l) is.1, ap (is_release l) is.1)
-IsApartFrom-rest op (inr (inl is)) l = (ap (is_acquire l) is.1, ap (is_release l) is.1)
-IsApartFrom-rest op (inr (inr (inl is))) l = (ap (is_acquire l) is.1, ap (is_release l) is.1)
-IsApartFrom-rest op (inr (inr (inr is))) l = (ap (is_acquire l) is.1, ap (is_release l) is.1)
+IsApartFrom-rest op is l = (grind arith, grind arith)
 
 -- what forks and joins nobody
 pub IsForkless-rest : (op : Op)
     → (((x : ℕ) × (op ≡ Read x)) ⊎ (((x : ℕ) × (op ≡ Write x)) ⊎ (((x : ℕ) × (op ≡ Acquire x)) ⊎ ((x : ℕ) × (op ≡ Release x)))))
     → (t : ℕ) → (is_fork t op ≡ false) × (is_join t op ≡ false)
-IsForkless-rest op (inl is) t = (ap (is_fork t) is.1, ap (is_join t) is.1)
-IsForkless-rest op (inr (inl is)) t = (ap (is_fork t) is.1, ap (is_join t) is.1)
-IsForkless-rest op (inr (inr (inl is))) t = (ap (is_fork t) is.1, ap (is_join t) is.1)
-IsForkless-rest op (inr (inr (inr is))) t = (ap (is_fork t) is.1, ap (is_join t) is.1)
+IsForkless-rest op is t = (grind arith, grind arith)

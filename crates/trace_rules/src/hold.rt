@@ -24,6 +24,7 @@ pub(crate) fn free() -> Hold
 }
 
 /// The rule that the thread breaks if it acquires the lock now.
+#[tactic(auto, using(crate::proofs::HoldLemmas::acquire_kept, crate::proofs::HoldLemmas::acquire_held))]
 pub(crate) fn breach_of_acquire(hold: Hold, thread: u32) -> Option<RuleCause>
     ensures breach { AfterHold hold (λ es l. result ≡ breach_of_op es thread (Op.Acquire l)) }
     ensures allowed { result ≡ None → IsOpenTo thread hold }

@@ -27,6 +27,7 @@ pub(crate) fn unborn() -> Life
 }
 
 /// The rule that the thread `by` breaks if it forks the thread `thread`, which has this life, now.
+#[tactic(auto, using(std::proofs::lemmas::Bool::Decides::nat_tests, crate::proofs::LifeLemmas::fork_late))]
 pub(crate) fn breach_of_fork(life: Life, thread: u32, by: u32) -> Option<RuleCause>
     ensures { (es : List Event) → IsLifeOf es thread life → result ≡ breach_of_op es by (Op.Fork thread) }
 {
@@ -43,6 +44,7 @@ pub(crate) fn breach_of_fork(life: Life, thread: u32, by: u32) -> Option<RuleCau
 }
 
 /// The rule that the thread `by` breaks if it joins the thread `thread`.
+#[tactic(auto, using(std::proofs::lemmas::Bool::Decides::nat_tests))]
 pub(crate) fn breach_of_join(thread: u32, by: u32) -> Option<RuleCause>
     ensures { (es : List Event) → result ≡ breach_of_op es by (Op.Join thread) }
 {
