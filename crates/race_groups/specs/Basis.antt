@@ -7,13 +7,13 @@ use Rattle.event_index.specs.Lookups.{before, count_before, events_of}
 use Rattle.must_order.specs.MustBefore.{IsForced}
 use Rattle.shb_clocks.specs.SharedRows.{len_of}
 use Rattle.race_groups.specs.Classes.{AreMembers}
-use Rattle.race_groups.specs.Counting.{AreCuts, AreFrontsAt, IsBlank, below_sum, class_sum, flagged_class, flagged_sum, later_count, thread_sum, threads_sum, total_ends, unflagged_count}
+use Rattle.race_groups.specs.Counting.{AreCuts, AreFrontsAt, AreMoved, IsBlank, below_sum, class_sum, flagged_class, flagged_sum, later_count, thread_sum, threads_sum, total_ends, unflagged_count}
 use Rattle.race_groups.specs.Counts.{keeps}
 use Rattle.race_groups.specs.Cuts.{IsCutOf}
 use Rattle.race_groups.specs.Ends.{IsKnownBefore, counted_before, known_before, lower_of, upper_of}
 use Rattle.race_groups.specs.Owners.{AreConflicts}
 use Rattle.race_groups.specs.Found.{AreTooMany}
-use Rattle.race_groups.specs.Rows.{Part, by_part, count_at, AreRows}
+use Rattle.race_groups.specs.Rows.{Part, by_part, count_at, AreMore, AreRows}
 use Rattle.race_groups.specs.Totals.{total_sum}
 use Rattle.race_groups.specs.Turns.{in_turn, turns_of}
 use Rattle.race_groups.specs.declared.basis.Basis.{Basis}
@@ -48,6 +48,11 @@ abbrev pub AreFrontsBefore : Basis → ℕ → ℕ → Fronts → Type 0
 AreFrontsBefore b u i fronts =
     AreFrontsAt b.indexed.now.events (length b.indexed.now.threads) (length b.classes.now.infos.items) b.classes.now.numbers.items u b.forced.now i fronts
 
+-- the fronts of the three cuts are the ends of the event at index i of thread u
+abbrev pub AreMovedTo : Basis → ℕ → ℕ → Fronts → Type 0
+AreMovedTo b u i =
+    AreMoved b.indexed.now.events (length b.indexed.now.threads) u b.forced.now (slice_index (events_of b.indexed.now.events u) i)
+
 -- the number of pairs that event e of thread u has below a cut, among those that are kept and between two places
 abbrev pub later_of : Basis → ℕ → ℕ → (Class → Class → Bool) → (ℕ → ℕ → ℕ) → ℕ → ℕ → ℕ
 later_of b u e keep end p q = later_count b.indexed.now.events keep b.classes.now.numbers.items b.classes.now.infos.items u end p q e
@@ -79,11 +84,35 @@ AreAdded b pairs old new =
     → count_at k new p q + pairs (keeps b.classes.now.lists.keys k) (lower_of b.indexed.now.events b.forced.now k) p q
     ≡ count_at k old p q + pairs (keeps b.classes.now.lists.keys k) (upper_of b.indexed.now.events k) p q
 
+-- The same for the event at index i of thread u.
+abbrev pub IsLaterAdded : {S : Type 0} → Basis → ℕ → ℕ → IndexMap (ℕ × ℕ) Sums S → IndexMap (ℕ × ℕ) Sums S → Type 0
+IsLaterAdded b u i = AreAdded b (later_of b u (slice_index (events_of b.indexed.now.events u) i))
+
+-- The same, unless the event is of a flagged class.
+abbrev pub IsLightAdded : {S : Type 0} → Basis → ℕ → ℕ → List ℕ → IndexMap (ℕ × ℕ) Sums S → IndexMap (ℕ × ℕ) Sums S → Type 0
+IsLightAdded b u i flags = AreAdded b (unflagged_of b u flags (slice_index (events_of b.indexed.now.events u) i))
+
+-- The same for the events of thread u that are of class c, if the class is flagged.
+abbrev pub IsFlaggedAdded : {S : Type 0} → Basis → ℕ → List ℕ → ℕ → IndexMap (ℕ × ℕ) Sums S → IndexMap (ℕ × ℕ) Sums S → Type 0
+IsFlaggedAdded b u flags c = AreAdded b (flagged_of b u flags c)
+
+-- The same for all flagged classes.
+abbrev pub AreFlaggedAdded : {S : Type 0} → Basis → ℕ → List ℕ → IndexMap (ℕ × ℕ) Sums S → IndexMap (ℕ × ℕ) Sums S → Type 0
+AreFlaggedAdded b u flags = AreAdded b (all_flagged b u flags (length b.classes.now.infos.items))
+
 -- Each part grows by at most what is below its upper cut.
 abbrev pub AreFew : {S : Type 0} → Basis → ((Class → Class → Bool) → (ℕ → ℕ → ℕ) → ℕ → ℕ → ℕ) → IndexMap (ℕ × ℕ) Sums S → IndexMap (ℕ × ℕ) Sums S → Type 0
 AreFew b pairs old new =
     (k : Part) (p q : ℕ) → p ≤ q
     → count_at k new p q ≤ count_at k old p q + pairs (keeps b.classes.now.lists.keys k) (upper_of b.indexed.now.events k) p q
+
+-- There are more than `limit` rows, and none of them grew by more pairs than thread u's events have.
+abbrev pub AreMoreThan : {S : Type 0} → ℕ → Basis → ℕ → IndexMap (ℕ × ℕ) Sums S → IndexMap (ℕ × ℕ) Sums S → Type 0
+AreMoreThan limit b u old new = AreMore limit new × AreFew b (thread_of b u) old new
+
+-- More than `limit` pairs of places have a conflicting pair of events.
+abbrev pub AreTooManyIn : Basis → (ℕ → ℕ) → ℕ → Type 0
+AreTooManyIn b = AreTooMany b.indexed.now.events
 
 -- all pairs, each counted twice, by the formula over the classes
 abbrev pub totals_of : Basis → Part → ℕ → ℕ → ℕ
@@ -113,9 +142,17 @@ total_of b k p q c =
 abbrev pub totals_in : Basis → ℕ → Part → ℕ → ℕ → ℕ
 totals_in b from k p q = turns_of b.every from (total_of b k p q) (length b.classes.now.infos.items)
 
+-- the part of class c, if it is its turn
+abbrev pub own_total : Basis → ℕ → Part → ℕ → ℕ → ℕ
+own_total b c k p q = in_turn b.every b.from (total_of b k p q) c
+
 -- the part of thread u, if it is its turn
 abbrev pub thread_in : Basis → ℕ → ℕ → (Class → Class → Bool) → (ℕ → ℕ → ℕ) → ℕ → ℕ → ℕ
 thread_in b from u keep end p q = in_turn b.every from (λ t. thread_of b t keep end p q) u
+
+-- Each part grows by what is below its upper cut and not below its lower one, for thread u, if it is its turn.
+abbrev pub IsOwnAdded : {S : Type 0} → Basis → ℕ → IndexMap (ℕ × ℕ) Sums S → IndexMap (ℕ × ℕ) Sums S → Type 0
+IsOwnAdded b u = AreAdded b (thread_in b b.from u)
 
 -- the part of the first n threads whose turn it is
 abbrev pub threads_in : Basis → ℕ → ℕ → (Class → Class → Bool) → (ℕ → ℕ → ℕ) → ℕ → ℕ → ℕ
@@ -127,6 +164,10 @@ AreInTurn b from n rows =
     (k : Part) (p q : ℕ) → p ≤ q
     → count_at k rows p q + threads_in b from n (keeps b.classes.now.lists.keys k) (lower_of b.indexed.now.events b.forced.now k) p q
     ≡ totals_in b from k p q + threads_in b from n (keeps b.classes.now.lists.keys k) (upper_of b.indexed.now.events k) p q
+
+-- The same for all its threads.
+abbrev pub AreAllInTurn : {S : Type 0} → Basis → ℕ → IndexMap (ℕ × ℕ) Sums S → Type 0
+AreAllInTurn b from = AreInTurn b from (length b.indexed.now.threads)
 
 -- The first n workers have counted their classes and threads.
 abbrev pub AreJoined : {S : Type 0} → Basis → ℕ → IndexMap (ℕ × ℕ) Sums S → Type 0

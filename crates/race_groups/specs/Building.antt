@@ -1,6 +1,7 @@
 -- Classes and places in progress. No public clause cites this module. `T` is the events of a trace.
-use Rattle.std.specs.Prelude.{true, ◌≡◌, ℕ, ◌+◌, ◌<◌, ◌≤◌, List, filter, length, slice_get, slice_index, option_map, Option, Some, Vec}
+use Rattle.std.specs.Prelude.{true, ◌≡◌, ◌⊎◌, ◌∷◌, ◌++◌, [], ℕ, ◌+◌, ◌<◌, ◌≤◌, List, filter, length, slice_get, slice_index, option_map, Option, Some, Vec}
 use Rattle.std.specs.declared.alloc.Global.{Global}
+use Rattle.rapid_text.specs.Recording.{Recording}
 use Rattle.rapid_text.specs.declared.event.Event.{Event}
 use Rattle.event_index.specs.Events.{op_at}
 use Rattle.event_index.specs.Lookups.{before}
@@ -8,6 +9,8 @@ use Rattle.event_index.specs.Relations.{is_access}
 use Rattle.race_groups.specs.Classes.{accesses}
 use Rattle.race_groups.specs.Holding.{AreLocksOf}
 use Rattle.race_groups.specs.declared.class.Class.{Class}
+use Rattle.race_groups.specs.declared.classes.Numbering.{Numbering}
+use Rattle.race_groups.specs.declared.grouping.Regrouped.{Regrouped}
 
 -- The list has the same elements as before, and at most one more.
 pub record IsGrown {X : Type 0} (old new : List X) : Type 0 where
@@ -33,6 +36,14 @@ pub record AreNumbered (T : List Event) (place : ℕ → ℕ) (n : ℕ) (numbers
   -- each class is that of an event
   pub used : (k : ℕ) (i : Class) → slice_get infos k ≡ Some i → (e : ℕ) × (op_at T e ≡ Some i.op)
 
+-- the same as one table; `places` has the number of each event's place
+abbrev pub IsNumberedUpTo : Recording → List ℕ → ℕ → Numbering → Type 0
+IsNumberedUpTo r places n made = AreNumbered r.events (slice_index places) n made.numbers.items made.infos.items made.lists.keys
+
+-- the classes are the same as before, or this one was appended
+abbrev pub AreClassesGrown : Class → List Class → List Class → Type 0
+AreClassesGrown class old new = (new ≡ old) ⊎ (new ≡ old ++ class ∷ [])
+
 -- the first n classes that access each variable
 abbrev pub AreMembersBelow : List Class → ℕ → List (Vec ℕ Global) → Type 0
 AreMembersBelow infos n members =
@@ -57,3 +68,7 @@ pub record IsRenumbered (numbers : List ℕ) (infos : List Class) (after : List 
   pub few : length made ≤ length infos
   pub alike : AreAlike numbers infos after made (length numbers)
   pub elements : AreElements infos made
+
+-- the same as one table
+abbrev pub IsRegrouped : List ℕ → List Class → Regrouped → Type 0
+IsRegrouped numbers infos made = IsRenumbered numbers infos made.numbers.items made.infos.items

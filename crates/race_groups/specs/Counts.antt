@@ -13,6 +13,7 @@ use Rattle.race_groups.specs.Groups.{count_of, group_of}
 use Rattle.race_groups.specs.Rows.{Part, of_all, of_candidates, of_ordered, of_guarded, count_at, AreRows}
 use Rattle.race_groups.specs.Shared.{is_sharing}
 use Rattle.race_groups.specs.declared.class.Class.{Class}
+use Rattle.race_groups.specs.declared.classes.Classes.{Classes}
 use Rattle.race_groups.specs.declared.rows.Sums.{Sums}
 
 -- whether a part counts a pair whose classes have a common lock, or have none
@@ -47,3 +48,7 @@ pub record AreCounted {S : Type 0} (T : List Event) (place : ℕ → ℕ) (class
   pub guarded : (p q : ℕ) → p ≤ q → IsMore T place classes infos lists of_guarded ends (known_before T) p q (count_at of_guarded rows p q)
   pub tells_known : IsCutOf T (IsKnownBefore T) (known_before T)
   pub tells_forced : IsCutOf T (IsForced T) ends
+
+-- the same with the classes as one table
+abbrev pub AreCountedBy : {S : Type 0} → List Event → (ℕ → ℕ) → Classes → IndexMap (ℕ × ℕ) Sums S → Type 0
+AreCountedBy T place classes = AreCounted T place classes.numbers.items classes.infos.items classes.lists.keys

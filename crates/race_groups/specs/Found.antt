@@ -1,11 +1,13 @@
 -- Which rows there are: one for each pair of places with a conflicting pair of events. `T` is the events of a trace;
 -- `place` has the place of each event.
-use Rattle.std.specs.Prelude.{◌≡◌, ℕ, ◌<◌, ◌≤◌, nat_lt, not, ◌&&◌, Bool, true, false, List, [], ◌∷◌, length, All, slice_get, Some}
+use Rattle.std.specs.Prelude.{◌≡◌, ℕ, ◌<◌, ◌≤◌, nat_lt, not, ◌&&◌, Bool, true, false, List, [], ◌∷◌, length, All, slice_get, Some, Result, Err}
 use Rattle.rapid_text.specs.declared.event.Event.{Event}
 use Rattle.event_index.specs.Relations.{IsConflicting}
 use Rattle.race_groups.specs.Groups.{is_between}
 use Rattle.race_groups.specs.Rows.{same_places}
 use Rattle.race_groups.specs.declared.kinds.Row.{Row}
+use Rattle.race_groups.specs.declared.rows.RowsRefusal.{RowsRefusal}
+use Rattle.race_groups.specs.declared.rows.RowsRefusal.TheVariants.{TooMany}
 
 -- two events of these places conflict
 pub record HaveConflict (T : List Event) (place : ℕ → ℕ) (places : ℕ × ℕ) : Type 0 where
@@ -45,3 +47,7 @@ are_places [] [] = true
 are_places [] (k ∷ ks) = false
 are_places (row ∷ rows) [] = false
 are_places (row ∷ rows) (k ∷ ks) = (not (nat_lt row.places.1 row.places.0) && same_places row.places k) && are_places rows ks
+
+-- if the call refuses because there are too many rows, P holds
+abbrev pub IfTooMany : {X : Type 0} → Result X RowsRefusal → Type 0 → Type 0
+IfTooMany answer P = answer ≡ Err TooMany → P

@@ -3,8 +3,10 @@ use Rattle.std.specs.Prelude.{◌≡◌, ◌≢◌, ℕ, ◌<◌, ◌==◌, true
 use Rattle.std.specs.List.{list_any}
 use Rattle.std.specs.declared.alloc.Global.{Global}
 use Rattle.rapid_text.specs.declared.event.Event.{Event}
+use Rattle.rapid_text.specs.declared.event.Op.{Op}
 use Rattle.rapid_text.specs.declared.event.Op.TheVariants.{Acquire}
 use Rattle.event_index.specs.Events.{op_at, thread_at}
+use Rattle.event_index.specs.Relations.{is_access}
 use Rattle.trace_rules.specs.Rules.{hold_count}
 use Rattle.must_order.specs.MustBefore.{IsHeldBefore}
 
@@ -31,6 +33,10 @@ pub record AreLocksOf (T : List Event) (lists : List (Vec ℕ Global)) (e n : �
   pub at : slice_get lists n ≡ Some locks
   pub held : (l : ℕ) → list_any (λ k. k == l) locks.items ≡ true → IsHeldBefore T e l
   pub lent : (l : ℕ) → IsHeldBefore T e l → IsLent T l → list_any (λ k. k == l) locks.items ≡ true
+
+-- the same if event e is an access
+abbrev pub AreAccessLocks : List Event → List (Vec ℕ Global) → ℕ → ℕ → Type 0
+AreAccessLocks T lists e n = (x : ℕ) (op : Op) → op_at T e ≡ Some op → is_access x op ≡ true → AreLocksOf T lists e n
 
 -- List n exists. It has locks that the thread holds after the first m events, and all such locks that more than one
 -- thread acquires.

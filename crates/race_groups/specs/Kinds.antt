@@ -40,6 +40,10 @@ abbrev pub IsNeverShownBetween : List Event → (ℕ → ℕ) → ℕ → ℕ �
 IsNeverShownBetween T place p q =
     (a b : ℕ) (P : List ℕ) → is_between p q (place a) (place b) ≡ true → IsCorrectReordering T P → ¬ Shows T P a b
 
+-- the same for the places of a row
+abbrev pub IsRowNeverShown : List Event → (ℕ → ℕ) → Row → Type 0
+IsRowNeverShown T place row = IsNeverShownBetween T place row.places.0 row.places.1
+
 -- The counts follow from the sums: some are sums, others are differences of sums, and the forced pairs are the rest.
 pub record IsDifference (sums : Sums) (counts : Counts) : Type 0 where
   pub candidates : counts.candidates ≡ sums.candidates

@@ -1,17 +1,24 @@
--- Which classes a later thread skips: those whose events are all its own. No public clause cites this module. `T` is
--- the events of a trace.
+-- Which classes a later thread skips: those whose events are all its own; and the tables of a trace's classes. No
+-- public clause cites this module. `T` is the events of a trace.
 use Rattle.std.specs.Prelude.{◌≡◌, ℕ, ◌<◌, ◌≤◌, List, length, slice_get, slice_index, Some, Vec}
 use Rattle.std.specs.declared.alloc.Global.{Global}
+use Rattle.rapid_text.specs.Recording.{Recording}
 use Rattle.rapid_text.specs.declared.event.Event.{Event}
 use Rattle.event_index.specs.Events.{thread_at}
 use Rattle.race_groups.specs.Classes.{AreWriters}
+use Rattle.race_groups.specs.Totals.{AreSpread, AreTotals}
 use Rattle.race_groups.specs.declared.class.Class.{Class}
+use Rattle.race_groups.specs.declared.classes.Classes.{Classes}
 use Rattle.race_groups.specs.declared.writers.Conflicts.{Conflicts}
 
 -- If the owner of a class is a thread, all events of the class are of this thread.
 abbrev pub AreOwners : List Event → ℕ → List ℕ → List ℕ → Type 0
 AreOwners T threads classes owners =
     (e t : ℕ) → thread_at T e ≡ Some t → slice_index owners (slice_index classes e) < threads → slice_index owners (slice_index classes e) ≡ t
+
+-- the same for the classes of a trace
+abbrev pub AreClassOwners : Recording → Classes → List ℕ → Type 0
+AreClassOwners r c = AreOwners r.events (length r.threads) c.numbers.items
 
 -- the same for the first n events
 abbrev pub AreOwnersBelow : List Event → ℕ → List ℕ → ℕ → List ℕ → Type 0
@@ -40,3 +47,9 @@ pub record AreConflicts (T : List Event) (threads : ℕ) (classes : List ℕ) (i
   pub owners : AreOwners T threads classes c.owners.items
   pub runs : AreRunsOf c.owners.items members c.runs.items
   pub writer_runs : AreRunsOf c.owners.items c.writers.items c.writer_runs.items
+  pub totals : AreTotals T threads classes (length infos) c.totals.items
+  pub spread : AreSpread T threads classes (length infos) c.spread.items
+
+-- the same for the classes of a trace
+abbrev pub AreClassConflicts : Recording → Classes → Conflicts → Type 0
+AreClassConflicts r c = AreConflicts r.events (length r.threads) c.numbers.items c.infos.items c.members.items

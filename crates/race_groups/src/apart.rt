@@ -1,6 +1,6 @@
 //! Pairs of places whose conflicting pairs no correct reordering shows.
 ghost use Rattle.std.specs.Prelude.{◌≡◌, ◌↔◌, IsTrue, true, slice_index};
-ghost use Rattle.race_groups.specs.Kinds.{IsRow, IsNeverShownBetween};
+ghost use Rattle.race_groups.specs.Kinds.{IsRow, IsRowNeverShown};
 
 use crate::kinds::Row;
 use event_index::Indexed;
@@ -12,7 +12,7 @@ pub fn is_apart(indexed: &Indexed, places: &[u32], row: Row) -> bool
     requires { IsRow indexed.now (slice_index places.now) row }
     ensures counts { IsTrue result ↔ ((row.counts.candidates ≡ 0) × (row.counts.open_pairs ≡ 0)) }
     // Then no correct reordering shows a pair of events of these places.
-    ensures never { result ≡ true → IsNeverShownBetween indexed.now.events (slice_index places.now) row.places.0 row.places.1 }
+    ensures never { result ≡ true → IsRowNeverShown indexed.now.events (slice_index places.now) row }
 {
     apart_is_never_shown();
     let _len = indexed.len();

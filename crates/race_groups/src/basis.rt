@@ -1,8 +1,8 @@
 //! The tables from which the pairs of a trace are counted.
-ghost use Rattle.std.specs.Prelude.{◌≡◌, ◌<◌, ◌≤◌, length, slice_index};
+ghost use Rattle.std.specs.Prelude.{◌≡◌, ◌<◌, slice_index};
 ghost use Rattle.race_groups.specs.Basis.{IsBasis};
-ghost use Rattle.race_groups.specs.Classes.{AreClasses, AreMembers};
-ghost use Rattle.race_groups.specs.Owners.{AreConflicts};
+ghost use Rattle.race_groups.specs.ClassTables.{AreFewClasses, HaveClasses, HaveMembers};
+ghost use Rattle.race_groups.specs.Owners.{AreClassConflicts};
 
 use crate::classes::Classes;
 use crate::writers::Conflicts;
@@ -39,11 +39,10 @@ impl<'a> Basis<'a> {
     ) -> Basis<'a>
         requires clocks { clocks.now ≡ indexed.now }
         requires must { must.now ≡ indexed.now }
-        requires classes { AreClasses indexed.now.events (slice_index _places.now) classes.now.numbers.items classes.now.infos.items }
-        requires few { length classes.now.infos.items ≤ 1048576 }
-        requires members { AreMembers classes.now.infos.items classes.now.members.items }
-        requires conflicts { AreConflicts indexed.now.events (length indexed.now.threads) classes.now.numbers.items classes.now.infos.items
-            classes.now.members.items conflicts.now }
+        requires classes { HaveClasses indexed.now.events (slice_index _places.now) classes.now }
+        requires few { AreFewClasses classes.now }
+        requires members { HaveMembers classes.now }
+        requires conflicts { AreClassConflicts indexed.now classes.now conflicts.now }
         requires every { 0 < every }
         ensures basis { IsBasis result }
         ensures indexed { result.indexed.now ≡ indexed.now }

@@ -1,5 +1,6 @@
 //! Numbers the classes. The class of most events is known already, so a guess comes before the table.
-ghost use Rattle.std.specs.Prelude.{◌≡◌, ◌++◌, ◌∷◌, ◌⊎◌, [], ◌<◌, ℕ, IfOk, OnOk, Some, length, slice_get};
+ghost use Rattle.std.specs.Prelude.{◌≡◌, ◌<◌, ℕ, IfOk, OnOk, Some, length, slice_get};
+ghost use Rattle.race_groups.specs.Building.{AreClassesGrown};
 
 use crate::class::Class;
 use crate::classes::is_at;
@@ -87,7 +88,7 @@ pub(crate) fn class_number(
 ) -> Result<u32, OutOfMemory>
     requires few { length infos.old.items < 1048576 }
     ensures found { IfOk result (λ n. slice_get infos.new.items n ≡ Some class) }
-    ensures grown { OnOk result ((infos.new.items ≡ infos.old.items) ⊎ (infos.new.items ≡ infos.old.items ++ class ∷ [])) }
+    ensures grown { OnOk result (AreClassesGrown class infos.old.items infos.new.items) }
 {
     let slot = keys.slot(class);
     let guess = keys.guess(slot);
@@ -107,7 +108,7 @@ fn looked_up(
 ) -> Result<u32, OutOfMemory>
     requires few { length infos.old.items < 1048576 }
     ensures found { IfOk result (λ n. slice_get infos.new.items n ≡ Some class) }
-    ensures grown { OnOk result ((infos.new.items ≡ infos.old.items) ⊎ (infos.new.items ≡ infos.old.items ++ class ∷ [])) }
+    ensures grown { OnOk result (AreClassesGrown class infos.old.items infos.new.items) }
 {
     let key = key_of(class);
     if let Some(at) = keys.get_index_of(&key) {

@@ -1,10 +1,11 @@
 //! The classes of a trace's events.
 ghost use Rattle.std.specs.Prelude.{◌≡◌, ◌+◌, ◌++◌, ◌∷◌, ◌⊎◌, [], ◌<◌, ◌≤◌, ℕ, true, false, IfOk, OnOk, All, Some, None, IfSome, length, slice_get, slice_index};
 ghost use Rattle.event_index.specs.Relations.{is_access};
-ghost use Rattle.race_groups.specs.Building.{AreNumbered, AreMembersBelow, IsGrown};
-ghost use Rattle.race_groups.specs.Classes.{AreClasses, AreLocks, AreMembers};
+ghost use Rattle.race_groups.specs.Building.{AreNumbered, AreMembersBelow, IsGrown, IsNumberedUpTo};
+ghost use Rattle.race_groups.specs.ClassTables.{AreFewClasses, HaveClasses, HaveLocks, HaveMembers};
+ghost use Rattle.race_groups.specs.Classes.{AreMembers};
 ghost use Rattle.race_groups.specs.Holding.{AreHeld, AreKnown};
-ghost use Rattle.race_groups.specs.Takers.{AreTakers};
+ghost use Rattle.race_groups.specs.Takers.{AreTakersOf};
 
 use crate::class::{Class, LockLists};
 use crate::class_keys::{ClassKeys, class_number};
@@ -34,13 +35,12 @@ impl Classes {
     /// The classes of all events. `places` has the number of each event's place. Fails if memory runs out.
     pub fn of(alloc: Global, indexed: &Indexed, places: &[u32]) -> Result<Classes, OutOfMemory>
         requires places { length places.now ≡ length indexed.now.events }
-        ensures classes { IfOk result
-            (λ made. AreClasses indexed.now.events (slice_index places.now) made.numbers.items made.infos.items) }
-        ensures few { IfOk result (λ made. length made.infos.items ≤ 1048576) }
-        ensures members { IfOk result (λ made. AreMembers made.infos.items made.members.items) }
+        ensures classes { IfOk result (HaveClasses indexed.now.events (slice_index places.now)) }
+        ensures few { IfOk result AreFewClasses }
+        ensures members { IfOk result HaveMembers }
         // The locks of a class are held by the threads of its accesses before them. The list has each such lock that
         // more than one thread acquires.
-        ensures locks { IfOk result (λ made. AreLocks indexed.now.events made.lists.keys made.numbers.items made.infos.items) }
+        ensures locks { IfOk result (HaveLocks indexed.now.events) }
     {
         let _len = indexed.len();
         let takers = takers_of(alloc, indexed)?;
@@ -81,11 +81,10 @@ impl Regrouped {
     ) -> Result<Classes, OutOfMemory>
         requires numbered { AreNumbered indexed.now.events (slice_index _places.now) (length indexed.now.events)
             self.numbers.items self.infos.items lists.keys }
-        ensures classes { IfOk result
-            (λ made. AreClasses indexed.now.events (slice_index _places.now) made.numbers.items made.infos.items) }
-        ensures few { IfOk result (λ made. length made.infos.items ≤ 1048576) }
-        ensures members { IfOk result (λ made. AreMembers made.infos.items made.members.items) }
-        ensures locks { IfOk result (λ made. AreLocks indexed.now.events made.lists.keys made.numbers.items made.infos.items) }
+        ensures classes { IfOk result (HaveClasses indexed.now.events (slice_index _places.now)) }
+        ensures few { IfOk result AreFewClasses }
+        ensures members { IfOk result HaveMembers }
+        ensures locks { IfOk result (HaveLocks indexed.now.events) }
     {
         let _len = indexed.len();
         let Regrouped { numbers, infos } = self;
@@ -117,9 +116,8 @@ fn numbering_of(
     takers: &[u32],
 ) -> Result<Numbering, OutOfMemory>
     requires places { length places.now ≡ length indexed.now.events }
-    requires takers { AreTakers indexed.now.events (length indexed.now.threads) takers.now }
-    ensures { IfOk result (λ made. AreNumbered indexed.now.events (slice_index places.now) (length indexed.now.events)
-        made.numbers.items made.infos.items made.lists.keys) }
+    requires takers { AreTakersOf indexed.now takers.now }
+    ensures { IfOk result (IsNumberedUpTo indexed.now places.now (length indexed.now.events)) }
 {
     let mut numbering = Numbering::new(alloc, indexed, places)?;
     let mut held = begin(alloc, indexed)?;
@@ -140,8 +138,7 @@ impl Numbering {
     fn new(alloc: Global, indexed: &Indexed, places: &[u32]) -> Result<Numbering, OutOfMemory>
         ensures known { IfOk result (λ made. AreKnown indexed.now.events 0 made.lists.keys made.listing.known.items) }
         ensures threads { IfOk result (λ made. length made.listing.known.items ≡ length indexed.now.threads) }
-        ensures numbered { IfOk result (λ made. AreNumbered indexed.now.events (slice_index places.now) 0
-            made.numbers.items made.infos.items made.lists.keys) }
+        ensures numbered { IfOk result (IsNumberedUpTo indexed.now places.now 0) }
     {
         let keyed = indexed.trace().raw().keyed();
         let keys = ClassKeys::new(alloc, places, keyed)?;
@@ -159,15 +156,13 @@ impl Numbering {
     fn add(&mut self, holds: Holds<'_>, places: &[u32], event: u32) -> Result<(), OutOfMemory>
         requires event { event < length holds.indexed.now.events }
         requires places { length places.now ≡ length holds.indexed.now.events }
-        requires takers { AreTakers holds.indexed.now.events (length holds.indexed.now.threads) holds.takers.now }
+        requires takers { AreTakersOf holds.indexed.now holds.takers.now }
         requires held { AreHeld holds.indexed.now.events event holds.held.now }
         requires len { length holds.held.now ≡ length holds.indexed.now.threads }
         requires known { AreKnown holds.indexed.now.events event self.old.lists.keys self.old.listing.known.items }
         requires threads { length self.old.listing.known.items ≡ length holds.indexed.now.threads }
-        requires numbered { AreNumbered holds.indexed.now.events (slice_index places.now) event
-            self.old.numbers.items self.old.infos.items self.old.lists.keys }
-        ensures numbered { OnOk result (AreNumbered holds.entry.indexed.now.events (slice_index places.now) (event + 1)
-            self.new.numbers.items self.new.infos.items self.new.lists.keys) }
+        requires numbered { IsNumberedUpTo holds.indexed.now places.now event self.old }
+        ensures numbered { OnOk result (IsNumberedUpTo holds.entry.indexed.now places.now (event + 1) self.new) }
         ensures known { OnOk result (AreKnown holds.entry.indexed.now.events (event + 1) self.new.lists.keys
             self.new.listing.known.items) }
         ensures threads { OnOk result (length self.new.listing.known.items ≡ length self.old.listing.known.items) }

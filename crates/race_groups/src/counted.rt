@@ -1,13 +1,13 @@
 //! Counts a trace's conflicting pairs between three cuts: what is earlier in the trace, what SHB keeps before, and
 //! what is forced. For each later thread, the events of the others are counted by class when they come below the
 //! cuts. Several workers may share the threads and the classes.
-ghost use Rattle.std.specs.Prelude.{◌≡◌, ℕ, ◌+◌, ◌<◌, ◌≤◌, length, All, IfOk, OnOk, Err, Some, slice_get, slice_index, sum_by};
+ghost use Rattle.std.specs.Prelude.{◌≡◌, ℕ, ◌+◌, ◌<◌, ◌≤◌, length, All, IfOk, OnOk, Some, slice_get, slice_index, sum_by};
 ghost use Rattle.indexmap.specs.IndexMap.{index_map_len};
 ghost use Rattle.event_index.specs.Lookups.{events_of};
-ghost use Rattle.race_groups.specs.Basis.{AreAdded, AreFew, AreFewAll, AreFrontsBefore, AreInTurn, AreJoined, HasRoom, IsBasis, IsPart, later_of, thread_in, thread_of, unflagged_of};
-ghost use Rattle.race_groups.specs.Classes.{AreClasses, AreMembers};
-ghost use Rattle.race_groups.specs.Counts.{AreCounted};
-ghost use Rattle.race_groups.specs.Found.{AreTooMany};
+ghost use Rattle.race_groups.specs.Basis.{AreAdded, AreFewAll, AreFrontsBefore, AreJoined, HasRoom, IsBasis, IsPart, thread_of, AreAllInTurn, AreMoreThan, IsLaterAdded, IsLightAdded, IsOwnAdded};
+ghost use Rattle.race_groups.specs.ClassTables.{AreFewClasses, HaveClasses, HaveMembers};
+ghost use Rattle.race_groups.specs.Counts.{AreCountedBy};
+ghost use Rattle.race_groups.specs.Found.{AreTooMany, IfTooMany};
 ghost use Rattle.race_groups.specs.Rows.{Part, count_at, AreMore, AreRows};
 
 use crate::basis::Basis;
@@ -49,8 +49,7 @@ fn add_later(
     requires rows { AreRows rows.old }
     requires room { HasRoom 0 rows.old }
     ensures fronts { OnOk result (AreFrontsBefore basis.entry thread (at + 1) fronts.new) }
-    ensures ok { OnOk result (AreAdded basis.entry
-        (later_of basis.entry thread (slice_index (events_of basis.entry.indexed.now.events thread) at)) rows.old rows.new) }
+    ensures ok { OnOk result (IsLaterAdded basis.entry thread at rows.old rows.new) }
     ensures rows { OnOk result (AreRows rows.new) }
 {
     let class = class_of(basis.classes, basis.indexed.thread_events(thread)[at]);
@@ -80,8 +79,7 @@ fn add_light(
     requires rows { AreRows rows.old }
     requires room { HasRoom 0 rows.old }
     ensures fronts { OnOk result (AreFrontsBefore basis.entry thread (at + 1) fronts.new) }
-    ensures ok { OnOk result (AreAdded basis.entry
-        (unflagged_of basis.entry thread flags.now (slice_index (events_of basis.entry.indexed.now.events thread) at)) rows.old rows.new) }
+    ensures ok { OnOk result (IsLightAdded basis.entry thread at flags.now rows.old rows.new) }
     ensures rows { OnOk result (AreRows rows.new) }
 {
     let classes = basis.classes;
@@ -111,13 +109,10 @@ fn add_thread(
     ensures rows { OnOk result (AreRows rows.new) }
     ensures kept { OnOk result (index_map_len rows.new ≤ limit) }
     // If there are too many rows, none of them counts more pairs than exist.
-    ensures too_many { result ≡ Err RowsRefusal.TooMany → AreMore limit rows.new × AreFew basis.entry (thread_of basis.entry thread) rows.old rows.new }
+    ensures too_many { IfTooMany result (AreMoreThan limit basis.entry thread rows.old rows.new) }
 {
     let flags = heavies(alloc, basis, thread)?;
-    match add_flags(alloc, rows, basis, limit, thread, flags.as_slice()) {
-        Ok(()) => Ok(()),
-        Err(refusal) => Err(refusal),
-    }
+    add_flags(alloc, rows, basis, limit, thread, flags.as_slice())
 }
 
 // The same, if it is the turn of the thread.
@@ -133,18 +128,15 @@ fn add_own(
     requires rows { AreRows rows.old }
     requires kept { index_map_len rows.old ≤ limit }
     requires room { HasRoom (sum_by (λ e. length basis.indexed.now.events) (events_of basis.indexed.now.events thread)) rows.old }
-    ensures ok { OnOk result (AreAdded basis.entry (thread_in basis.entry basis.entry.from thread) rows.old rows.new) }
+    ensures ok { OnOk result (IsOwnAdded basis.entry thread rows.old rows.new) }
     ensures rows { OnOk result (AreRows rows.new) }
     ensures kept { OnOk result (index_map_len rows.new ≤ limit) }
-    ensures too_many { result ≡ Err RowsRefusal.TooMany → AreMore limit rows.new × AreFew basis.entry (thread_of basis.entry thread) rows.old rows.new }
+    ensures too_many { IfTooMany result (AreMoreThan limit basis.entry thread rows.old rows.new) }
 {
     if thread as usize % basis.every != basis.from {
         return Ok(());
     }
-    match add_thread(alloc, rows, basis, limit, thread) {
-        Ok(()) => Ok(()),
-        Err(refusal) => Err(refusal),
-    }
+    add_thread(alloc, rows, basis, limit, thread)
 }
 
 // The same; the pairs of each flagged class are counted together.
@@ -165,7 +157,7 @@ fn add_flags(
     ensures ok { OnOk result (AreAdded basis.entry (thread_of basis.entry thread) rows.old rows.new) }
     ensures rows { OnOk result (AreRows rows.new) }
     ensures kept { OnOk result (index_map_len rows.new ≤ limit) }
-    ensures too_many { result ≡ Err RowsRefusal.TooMany → AreMore limit rows.new × AreFew basis.entry (thread_of basis.entry thread) rows.old rows.new }
+    ensures too_many { IfTooMany result (AreMoreThan limit basis.entry thread rows.old rows.new) }
 {
     add_classes(alloc, rows, basis, limit, thread, flags)?;
     let mut fronts = Fronts::new(alloc, basis)?;
@@ -191,13 +183,12 @@ pub(crate) fn count_cuts(
 ) -> Result<Rows, RowsRefusal>
     requires clocks { clocks.now ≡ indexed.now }
     requires must { must.now ≡ indexed.now }
-    requires classes { AreClasses indexed.now.events (slice_index places.now) classes.now.numbers.items classes.now.infos.items }
-    requires few { length classes.now.infos.items ≤ 1048576 }
-    requires members { AreMembers classes.now.infos.items classes.now.members.items }
-    ensures counted { IfOk result (AreCounted indexed.now.events (slice_index places.now)
-        classes.now.numbers.items classes.now.infos.items classes.now.lists.keys) }
+    requires classes { HaveClasses indexed.now.events (slice_index places.now) classes.now }
+    requires few { AreFewClasses classes.now }
+    requires members { HaveMembers classes.now }
+    ensures counted { IfOk result (AreCountedBy indexed.now.events (slice_index places.now) classes.now) }
     ensures kept { IfOk result (λ rows. index_map_len rows ≤ limit) }
-    ensures too_many { result ≡ Err RowsRefusal.TooMany → AreTooMany indexed.now.events (slice_index places.now) limit }
+    ensures too_many { IfTooMany result (AreTooMany indexed.now.events (slice_index places.now) limit) }
 {
     let conflicts = Conflicts::of(alloc, indexed, classes)?;
     let basis = Basis::of(indexed, places, clocks, must, classes, &conflicts, 1);
@@ -218,24 +209,21 @@ pub(crate) fn count_in_turn(
     limit: u32,
 ) -> Result<Rows, RowsRefusal>
     requires basis { IsBasis basis }
-    requires classes { AreClasses basis.indexed.now.events (slice_index _places.now) basis.classes.now.numbers.items basis.classes.now.infos.items }
+    requires classes { HaveClasses basis.indexed.now.events (slice_index _places.now) basis.classes.now }
     ensures { IsPart basis.entry (slice_index _places.now) limit basis.entry.from result }
 {
     let mut rows = GrowingRows::new(alloc, basis.classes)?;
-    match add_pairs(alloc, &mut rows, basis, limit) {
-        Ok(()) => Ok(rows.into_rows()),
-        Err(refusal) => Err(refusal),
-    }
+    add_pairs(alloc, &mut rows, basis, limit)?;
+    Ok(rows.into_rows())
 }
 
 /// The sums of all workers are the counts of the trace.
 pub(crate) fn are_all(_rows: &Rows, _places: &[u32], _basis: Basis<'_>)
     requires basis { IsBasis _basis }
-    requires classes { AreClasses _basis.indexed.now.events (slice_index _places.now) _basis.classes.now.numbers.items _basis.classes.now.infos.items }
+    requires classes { HaveClasses _basis.indexed.now.events (slice_index _places.now) _basis.classes.now }
     requires rows { AreRows _rows.now }
     requires joined { AreJoined _basis _basis.every _rows.now }
-    ensures { AreCounted _basis.entry.indexed.now.events (slice_index _places.now)
-        _basis.entry.classes.now.numbers.items _basis.entry.classes.now.infos.items _basis.entry.classes.now.lists.keys _rows.now }
+    ensures { AreCountedBy _basis.entry.indexed.now.events (slice_index _places.now) _basis.entry.classes.now _rows.now }
 {}
 
 // Adds all pairs of the worker's classes, and the pairs of its threads below one cut and not below the next.
@@ -249,10 +237,10 @@ fn add_pairs(
     requires rows { AreRows rows.old }
     requires kept { index_map_len rows.old ≤ limit }
     requires empty { (k : Part) (p q : ℕ) → p ≤ q → count_at k rows.old p q ≡ 0 }
-    ensures ok { OnOk result (AreInTurn basis.entry basis.entry.from (length basis.entry.indexed.now.threads) rows.new) }
+    ensures ok { OnOk result (AreAllInTurn basis.entry basis.entry.from rows.new) }
     ensures rows { OnOk result (AreRows rows.new) }
     ensures kept { OnOk result (index_map_len rows.new ≤ limit) }
-    ensures too_many { result ≡ Err RowsRefusal.TooMany → AreMore limit rows.new × AreFewAll basis.entry rows.new }
+    ensures too_many { IfTooMany result (AreMore limit rows.new × AreFewAll basis.entry rows.new) }
 {
     let indexed = basis.indexed;
     add_totals(alloc, rows, basis, limit)?;

@@ -5,7 +5,7 @@ ghost use Rattle.rapid_text.specs.Recording.{IsWellFormed};
 ghost use Rattle.event_index.specs.Events.{thread_at};
 ghost use Rattle.event_index.specs.Lookups.{events_of};
 ghost use Rattle.race_groups.specs.Cuts.{IsCut};
-ghost use Rattle.race_groups.specs.Counting.{AreCounts, AreFronts, class_count};
+ghost use Rattle.race_groups.specs.Counting.{class_count, AreClassCounts, AreFrontsOf, AreRaised};
 
 use event_index::Indexed;
 use rapid_text::OutOfMemory;
@@ -62,13 +62,13 @@ impl Front {
     pub(crate) fn advance<C: Cut>(&mut self, classed: Classed<'_>, cut: &C, later: Later)
         requires len { length classed.numbers.now ≡ length classed.indexed.now.events }
         requires classes { All (λ c. c < length self.old.counts.items) classed.numbers.now }
-        requires counts { AreCounts classed.indexed.now.events (length classed.indexed.now.threads) classed.numbers.now self.old.fronts.items self.old.counts.items }
+        requires counts { AreClassCounts classed self.old.fronts.items self.old.counts.items }
         requires can { (t : ℕ) → t < length classed.indexed.now.threads → C.can_end cut.now later.event t }
         requires own { slice_index self.old.fronts.items later.thread ≡ 0 }
         requires behind { (t : ℕ) → t < length classed.indexed.now.threads → t ≢ later.thread → slice_index self.old.fronts.items t ≤ C.end_of cut.now later.event t }
         requires within { (t : ℕ) → t < length classed.indexed.now.threads → C.end_of cut.now later.event t ≤ length (events_of classed.indexed.now.events t) }
-        ensures counts { AreCounts classed.entry.indexed.now.events (length classed.entry.indexed.now.threads) classed.entry.numbers.now self.new.fronts.items self.new.counts.items }
-        ensures fronts { AreFronts (length classed.entry.indexed.now.threads) later.thread (C.end_of cut.now later.event) self.new.fronts.items }
+        ensures counts { AreClassCounts classed.entry self.new.fronts.items self.new.counts.items }
+        ensures fronts { AreFrontsOf classed.entry later (C.end_of cut.now) self.new.fronts.items }
         ensures len { length self.new.counts.items ≡ length self.old.counts.items }
     {
         advance(
@@ -86,8 +86,7 @@ pub(crate) fn count(counts: &mut [u64], classes: &[u32], events: &[u32])
     requires events { All (λ e. e < length classes.now) events.now }
     requires classes { All (λ c. c < length counts.old) classes.now }
     requires room { (c : ℕ) → c < length counts.old → slice_index counts.old c + length events.now < 2 ^ 32 }
-    ensures counted { (c : ℕ) → c < length counts.new
-        → slice_index counts.new c ≡ slice_index counts.old c + class_count classes.now c events.now }
+    ensures counted { AreRaised (λ c. class_count classes.now c events.now) counts.old counts.new }
 {
     for event in events {
         counts[classes[*event as usize] as usize] += 1;
@@ -100,10 +99,10 @@ fn move_on(counts: &mut [u64], fronts: &mut [u32], classed: Classed<'_>, thread:
     requires thread { thread < length classed.indexed.now.threads }
     requires len { length classed.numbers.now ≡ length classed.indexed.now.events }
     requires classes { All (λ c. c < length counts.old) classed.numbers.now }
-    requires counts { AreCounts classed.indexed.now.events (length classed.indexed.now.threads) classed.numbers.now fronts.old counts.old }
+    requires counts { AreClassCounts classed fronts.old counts.old }
     requires from { slice_index fronts.old thread ≤ to }
     requires to { to ≤ length (events_of classed.indexed.now.events thread) }
-    ensures counts { AreCounts classed.entry.indexed.now.events (length classed.entry.indexed.now.threads) classed.entry.numbers.now fronts.new counts.new }
+    ensures counts { AreClassCounts classed.entry fronts.new counts.new }
     ensures fronts { fronts.new ≡ slice_set fronts.old thread to }
 {
     let from = fronts[thread as usize] as usize;
@@ -125,13 +124,13 @@ fn advance<C: Cut>(
 )
     requires len { length classed.numbers.now ≡ length classed.indexed.now.events }
     requires classes { All (λ c. c < length counts.old) classed.numbers.now }
-    requires counts { AreCounts classed.indexed.now.events (length classed.indexed.now.threads) classed.numbers.now fronts.old counts.old }
+    requires counts { AreClassCounts classed fronts.old counts.old }
     requires can { (t : ℕ) → t < length classed.indexed.now.threads → C.can_end cut.now later.event t }
     requires own { slice_index fronts.old later.thread ≡ 0 }
     requires behind { (t : ℕ) → t < length classed.indexed.now.threads → t ≢ later.thread → slice_index fronts.old t ≤ C.end_of cut.now later.event t }
     requires within { (t : ℕ) → t < length classed.indexed.now.threads → C.end_of cut.now later.event t ≤ length (events_of classed.indexed.now.events t) }
-    ensures counts { AreCounts classed.entry.indexed.now.events (length classed.entry.indexed.now.threads) classed.entry.numbers.now fronts.new counts.new }
-    ensures fronts { AreFronts (length classed.entry.indexed.now.threads) later.thread (C.end_of cut.now later.event) fronts.new }
+    ensures counts { AreClassCounts classed.entry fronts.new counts.new }
+    ensures fronts { AreFrontsOf classed.entry later (C.end_of cut.now) fronts.new }
 {
     for thread in 0..classed.indexed.threads() {
         if thread != later.thread {

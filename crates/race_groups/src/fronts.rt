@@ -1,8 +1,7 @@
 //! The events below the three cuts, for one later event of a thread after the other.
-ghost use Rattle.std.specs.Prelude.{◌≡◌, ℕ, ◌+◌, ◌<◌, IfOk, length, slice_index};
+ghost use Rattle.std.specs.Prelude.{◌≡◌, ℕ, ◌+◌, ◌<◌, IfOk, length};
 ghost use Rattle.event_index.specs.Lookups.{events_of};
-ghost use Rattle.race_groups.specs.Basis.{AreFrontsBefore, IsBasis};
-ghost use Rattle.race_groups.specs.Counting.{AreMoved};
+ghost use Rattle.race_groups.specs.Basis.{AreFrontsBefore, IsBasis, AreMovedTo};
 
 use crate::basis::Basis;
 use crate::counting::{Classed, Front, Later};
@@ -54,8 +53,7 @@ impl Fronts {
         requires at { at < length (events_of basis.indexed.now.events thread) }
         requires fronts { AreFrontsBefore basis thread at self.old }
         ensures fronts { AreFrontsBefore basis.entry thread (at + 1) self.new }
-        ensures moved { AreMoved basis.entry.indexed.now.events (length basis.entry.indexed.now.threads) thread basis.entry.forced.now
-            (slice_index (events_of basis.entry.indexed.now.events thread) at) self.new }
+        ensures moved { AreMovedTo basis.entry thread at self.new }
     {
         let indexed = basis.indexed;
         let event = indexed.thread_events(thread)[at];

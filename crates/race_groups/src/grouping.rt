@@ -1,6 +1,6 @@
 //! Sorts classes by their variables, so that a walk over those of one variable goes through memory in one direction.
 ghost use Rattle.std.specs.Prelude.{◌≡◌, ◌≤◌, ◌<◌, ℕ, All, IfOk, Some, length, slice_get, slice_index};
-ghost use Rattle.race_groups.specs.Building.{AreAlike, AreElements, IsRenumbered};
+ghost use Rattle.race_groups.specs.Building.{AreAlike, AreElements, IsRegrouped};
 ghost use Rattle.rapid_text.specs.Appended.{IfFound};
 
 use crate::class::Class;
@@ -24,7 +24,7 @@ pub(crate) fn grouped(
     members: &[Vec<u32>],
 ) -> Result<Option<Regrouped>, OutOfMemory>
     requires { All (λ c. c < length infos.now) numbers.now }
-    ensures { IfFound result (λ made. IsRenumbered numbers.now infos.now made.numbers.items made.infos.items) }
+    ensures { IfFound result (IsRegrouped numbers.now infos.now) }
 {
     let order = order_of(alloc, infos, members)?;
     let made = picked(alloc, infos, order.as_slice())?;

@@ -1,12 +1,13 @@
 //! Counts the pairs of many later events of one class together. It visits each earlier event once for all of them,
 //! however many there are.
-ghost use Rattle.std.specs.Prelude.{◌≡◌, ℕ, ◌<◌, ◌≤◌, length, true, IfOk, OnOk, Err, sum_by};
+ghost use Rattle.std.specs.Prelude.{◌≡◌, ℕ, ◌<◌, ◌≤◌, length, true, IfOk, OnOk, sum_by};
 ghost use Rattle.indexmap.specs.IndexMap.{index_map_len};
 ghost use Rattle.event_index.specs.Lookups.{events_of};
 ghost use Rattle.event_index.specs.Relations.{is_access};
-ghost use Rattle.race_groups.specs.Basis.{AreAdded, AreBlank, AreFew, HasRoom, IsBasis, all_flagged, class_of, flagged_of, thread_of};
+ghost use Rattle.race_groups.specs.Basis.{AreAdded, AreBlank, HasRoom, IsBasis, class_of, AreFlaggedAdded, AreMoreThan, IsFlaggedAdded};
+ghost use Rattle.race_groups.specs.Found.{IfTooMany};
 ghost use Rattle.race_groups.specs.Owners.{AreRuns};
-ghost use Rattle.race_groups.specs.Rows.{AreMore, AreRows};
+ghost use Rattle.race_groups.specs.Rows.{AreRows};
 
 use crate::basis::Basis;
 use crate::below::Below;
@@ -35,10 +36,7 @@ fn add_class(
     ensures rows { OnOk result (AreRows rows.new) }
 {
     let mut below = Below::new(alloc, basis)?;
-    match add_sums(rows, &mut below, basis, thread, class) {
-        Ok(()) => Ok(()),
-        Err(refused) => Err(refused),
-    }
+    add_sums(rows, &mut below, basis, thread, class)
 }
 
 // The same with sums that are still empty.
@@ -82,14 +80,13 @@ fn add_flagged(
     requires flags { length flags.now ≡ length basis.classes.now.infos.items }
     requires rows { AreRows rows.old }
     requires room { HasRoom 0 rows.old }
-    ensures ok { OnOk result (AreAdded basis.entry (flagged_of basis.entry thread flags.now class) rows.old rows.new) }
+    ensures ok { OnOk result (IsFlaggedAdded basis.entry thread flags.now class rows.old rows.new) }
     ensures rows { OnOk result (AreRows rows.new) }
 {
     if flags[class as usize] != 1 {
         return Ok(());
     }
-    add_class(alloc, rows, basis, thread, class)?;
-    Ok(())
+    add_class(alloc, rows, basis, thread, class)
 }
 
 /// Adds the pairs whose later event is of the thread and of a class that is flagged with 1.
@@ -107,10 +104,10 @@ pub(crate) fn add_classes(
     requires rows { AreRows rows.old }
     requires kept { index_map_len rows.old ≤ limit }
     requires room { HasRoom (sum_by (λ e. length basis.indexed.now.events) (events_of basis.indexed.now.events thread)) rows.old }
-    ensures ok { OnOk result (AreAdded basis.entry (all_flagged basis.entry thread flags.now (length basis.entry.classes.now.infos.items)) rows.old rows.new) }
+    ensures ok { OnOk result (AreFlaggedAdded basis.entry thread flags.now rows.old rows.new) }
     ensures rows { OnOk result (AreRows rows.new) }
     ensures kept { OnOk result (index_map_len rows.new ≤ limit) }
-    ensures too_many { result ≡ Err RowsRefusal.TooMany → AreMore limit rows.new × AreFew basis.entry (thread_of basis.entry thread) rows.old rows.new }
+    ensures too_many { IfTooMany result (AreMoreThan limit basis.entry thread rows.old rows.new) }
 {
     for class in 0..flags.len() {
         add_flagged(alloc, rows, basis, thread, flags, class as u32)?;

@@ -4,8 +4,7 @@ ghost use Rattle.indexmap.specs.IndexMap.{IsUnique, index_map_len, keys};
 ghost use Rattle.race_groups.specs.Found.{AreComplete, AreOnce, AreTooMany, HaveConflict, are_places};
 ghost use Rattle.race_groups.specs.Rows.{same_places};
 ghost use Rattle.race_groups.specs.ClassTables.{AreFewClasses, HaveClasses, HaveLocks, HaveMembers};
-ghost use Rattle.race_groups.specs.Classes.{AreClasses, AreLocks};
-ghost use Rattle.race_groups.specs.Counts.{AreCounted};
+ghost use Rattle.race_groups.specs.Counts.{AreCountedBy};
 ghost use Rattle.race_groups.specs.Kinds.{IsDifference, IsRow};
 
 use crate::classes::Classes;
@@ -145,10 +144,9 @@ fn groups_in(
     classes: &Classes,
     index: Rows,
 ) -> Result<Groups, OutOfMemory>
-    requires classes { AreClasses indexed.now.events (slice_index places.now) classes.now.numbers.items classes.now.infos.items }
-    requires locks { AreLocks indexed.now.events classes.now.lists.keys classes.now.numbers.items classes.now.infos.items }
-    requires counted { AreCounted indexed.now.events (slice_index places.now)
-        classes.now.numbers.items classes.now.infos.items classes.now.lists.keys index }
+    requires classes { HaveClasses indexed.now.events (slice_index places.now) classes.now }
+    requires locks { HaveLocks indexed.now.events classes.now }
+    requires counted { AreCountedBy indexed.now.events (slice_index places.now) classes.now index }
     ensures rows { IfOk result (λ found. All (IsRow indexed.now (slice_index places.now)) found.rows.items) }
     ensures complete { IfOk result (λ found. AreComplete indexed.now.events (slice_index places.now) found.rows.items) }
     ensures there { IfOk result (λ found. All (λ row. HaveConflict indexed.now.events (slice_index places.now) row.places) found.rows.items) }
@@ -172,10 +170,9 @@ fn rows_of(
     classes: &Classes,
     counted: &Rows,
 ) -> Result<Vec<Row>, OutOfMemory>
-    requires classes { AreClasses indexed.now.events (slice_index places.now) classes.now.numbers.items classes.now.infos.items }
-    requires locks { AreLocks indexed.now.events classes.now.lists.keys classes.now.numbers.items classes.now.infos.items }
-    requires counted { AreCounted indexed.now.events (slice_index places.now)
-        classes.now.numbers.items classes.now.infos.items classes.now.lists.keys counted.now }
+    requires classes { HaveClasses indexed.now.events (slice_index places.now) classes.now }
+    requires locks { HaveLocks indexed.now.events classes.now }
+    requires counted { AreCountedBy indexed.now.events (slice_index places.now) classes.now counted.now }
     ensures rows { IfOk result (λ rows. All (IsRow indexed.now (slice_index places.now)) rows.items) }
     ensures places { IfOk result (λ rows. map (λ row. row.places) rows.items ≡ keys counted.now) }
     ensures once { IsUnique same_places counted.now }

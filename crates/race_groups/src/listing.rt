@@ -1,14 +1,9 @@
 //! Numbers the lists of locks that threads hold. A thread's list is made again only after an event of the thread that
 //! is not an access.
-ghost use Rattle.std.specs.Prelude.{◌≡◌, ◌+◌, ◌<◌, ℕ, IfOk, OnOk, Some, Vec, filter, length, slice_get, true};
-ghost use Rattle.std.specs.List.Sorted.{IsPermutation};
-ghost use Rattle.std.specs.declared.alloc.Global.{Global};
-ghost use Rattle.event_index.specs.Events.{op_at};
-ghost use Rattle.rapid_text.specs.declared.event.Op.{Op};
-ghost use Rattle.event_index.specs.Relations.{is_access};
+ghost use Rattle.std.specs.Prelude.{◌≡◌, ◌+◌, ◌<◌, IfOk, OnOk, Some, length};
 ghost use Rattle.race_groups.specs.Building.{IsGrown, text_at};
-ghost use Rattle.race_groups.specs.Holding.{AreHeld, AreKnown, AreLocksOf, AreLocksOfThread, AreUnknown};
-ghost use Rattle.race_groups.specs.Takers.{AreTakers, is_lent};
+ghost use Rattle.race_groups.specs.Holding.{AreHeld, AreKnown, AreLocksOfThread, AreUnknown, AreAccessLocks};
+ghost use Rattle.race_groups.specs.Takers.{AreLentLocks, AreTakersOf};
 
 use crate::class::LockLists;
 use crate::classes::variable_of;
@@ -74,13 +69,12 @@ impl Listing {
     ) -> Result<u32, OutOfMemory>
         requires few { length lists.old.keys < 1048576 }
         requires event { event < length holds.indexed.now.events }
-        requires takers { AreTakers holds.indexed.now.events (length holds.indexed.now.threads) holds.takers.now }
+        requires takers { AreTakersOf holds.indexed.now holds.takers.now }
         requires held { AreHeld holds.indexed.now.events event holds.held.now }
         requires len { length holds.held.now ≡ length holds.indexed.now.threads }
         requires known { AreKnown holds.indexed.now.events event lists.old.keys self.old.known.items }
         requires threads { length self.old.known.items ≡ length holds.indexed.now.threads }
-        ensures at { IfOk result (λ n. (x : ℕ) (op : Op) → op_at holds.entry.indexed.now.events event ≡ Some op → is_access x op ≡ true
-            → AreLocksOf holds.entry.indexed.now.events lists.new.keys event n) }
+        ensures at { IfOk result (AreAccessLocks holds.entry.indexed.now.events lists.new.keys event) }
         ensures grown { OnOk result (IsGrown lists.old.keys lists.new.keys) }
         ensures known { OnOk result (AreKnown holds.entry.indexed.now.events (event + 1) lists.new.keys self.new.known.items) }
         ensures threads { OnOk result (length self.new.known.items ≡ length self.old.known.items) }
@@ -105,12 +99,12 @@ impl Listing {
     ) -> Result<u32, OutOfMemory>
         requires few { length lists.old.keys < 1048576 }
         requires thread { thread < length holds.indexed.now.threads }
-        requires takers { AreTakers holds.indexed.now.events (length holds.indexed.now.threads) holds.takers.now }
+        requires takers { AreTakersOf holds.indexed.now holds.takers.now }
         requires held { AreHeld holds.indexed.now.events _event holds.held.now }
         requires len { length holds.held.now ≡ length holds.indexed.now.threads }
         requires known { AreKnown holds.indexed.now.events _event lists.old.keys self.old.known.items }
         requires threads { length self.old.known.items ≡ length holds.indexed.now.threads }
-        ensures at { IfOk result (λ n. AreLocksOfThread holds.entry.indexed.now.events lists.new.keys _event thread n) }
+        ensures at { IfOk result (AreLocksOfThread holds.entry.indexed.now.events lists.new.keys _event thread) }
         ensures grown { OnOk result (IsGrown lists.old.keys lists.new.keys) }
         ensures known { OnOk result (AreKnown holds.entry.indexed.now.events _event lists.new.keys self.new.known.items) }
         ensures threads { OnOk result (length self.new.known.items ≡ length self.old.known.items) }
@@ -127,8 +121,7 @@ impl Listing {
     // Makes the thread's list: the locks that it holds and that more than one thread acquires, in rising order.
     fn gather(&mut self, holds: Holds<'_>, thread: u32) -> Result<(), OutOfMemory>
         requires thread { thread < length holds.held.now }
-        ensures lent { OnOk result ((u : Vec ℕ Global) → slice_get holds.entry.held.now thread ≡ Some u
-            → IsPermutation (filter (is_lent holds.entry.takers.now (length holds.entry.indexed.now.threads)) u.items) self.new.lent.items) }
+        ensures lent { OnOk result (AreLentLocks holds.entry thread self.new.lent.items) }
         ensures known { self.new.known ≡ self.old.known }
     {
         let locks = holds.held[thread as usize].as_slice();

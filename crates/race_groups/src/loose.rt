@@ -1,8 +1,7 @@
 //! Adds the loose pairs: those below one cut and not below the next.
 ghost use Rattle.std.specs.Prelude.{◌≡◌, ◌<◌, OnOk, true, length};
-ghost use Rattle.event_index.specs.Lookups.{before};
 ghost use Rattle.event_index.specs.Relations.{is_access};
-ghost use Rattle.race_groups.specs.Adding.{AreGrown, loose_in};
+ghost use Rattle.race_groups.specs.Adding.{AreLooseAdded};
 ghost use Rattle.race_groups.specs.Basis.{AreLoose, HasRoom, IsBasis};
 ghost use Rattle.race_groups.specs.Rows.{AreRows};
 
@@ -29,8 +28,7 @@ pub(crate) fn add_loose(
     requires access { is_access variable later.op ≡ true }
     requires rows { AreRows rows.old }
     requires room { HasRoom 0 rows.old }
-    ensures ok { OnOk result (AreGrown basis.entry.classes.now later (loose_in loose.entry)
-        (before (length basis.entry.classes.now.infos.items)) rows.old rows.new) }
+    ensures ok { OnOk result (AreLooseAdded basis.entry.classes.now later loose.entry rows.old rows.new) }
     ensures rows { OnOk result (AreRows rows.new) }
 {
     let walk = conflicting(basis.classes, basis.conflicts, variable, later.op);

@@ -1,6 +1,6 @@
 //! Finds the classes whose events are all of one thread. No event is in a pair with one of its own thread.
 ghost use Rattle.std.specs.Prelude.{◌≡◌, ◌+◌, ◌<◌, length, All, IfOk, IfSome, slice_index};
-ghost use Rattle.race_groups.specs.Owners.{AreOwners, AreOwnersBelow};
+ghost use Rattle.race_groups.specs.Owners.{AreOwnersBelow, AreClassOwners};
 
 use crate::classes::Classes;
 use event_index::Indexed;
@@ -15,7 +15,7 @@ pub(crate) fn owners_of(
 ) -> Result<Vec<u32>, OutOfMemory>
     requires numbers { length classes.now.numbers.items ≡ length indexed.now.events }
     requires classes { All (λ c. c < length classes.now.infos.items) classes.now.numbers.items }
-    ensures { IfOk result (λ owners. AreOwners indexed.now.events (length indexed.now.threads) classes.now.numbers.items owners.items) }
+    ensures { IfOk result (λ owners. AreClassOwners indexed.now classes.now owners.items) }
 {
     let numbers = classes.numbers.as_slice();
     let many = indexed.threads();

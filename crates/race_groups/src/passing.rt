@@ -3,7 +3,7 @@
 //! others, so no event's thread is looked up.
 ghost use Rattle.std.specs.Prelude.{◌≡◌, ◌==◌, ℕ, ◌+◌, ◌^◌, ◌<◌, length, All, IfOk, count_by, replicate, slice_index};
 ghost use Rattle.event_index.specs.Lookups.{events_of};
-ghost use Rattle.race_groups.specs.Counting.{IsPassed};
+ghost use Rattle.race_groups.specs.Counting.{IsPassed, AreRaised};
 
 use event_index::Indexed;
 use rapid_text::OutOfMemory;
@@ -52,8 +52,7 @@ impl Passed {
         requires room { (c : ℕ) → c < length self.old.counts.items → slice_index self.old.counts.items c + length classes.now < 2 ^ 32 }
         ensures upto { self.new.upto ≡ self.old.upto }
         ensures len { length self.new.counts.items ≡ length self.old.counts.items }
-        ensures counted { (c : ℕ) → c < length self.new.counts.items
-            → slice_index self.new.counts.items c ≡ slice_index self.old.counts.items c + count_by (λ k. k == c) classes.now }
+        ensures counted { AreRaised (λ c. count_by (λ k. k == c) classes.now) self.old.counts.items self.new.counts.items }
     {
         count_each(self.counts.as_mut_slice(), classes);
     }
@@ -63,8 +62,7 @@ impl Passed {
 fn count_each(counts: &mut [u64], classes: &[u32])
     requires classes { All (λ c. c < length counts.old) classes.now }
     requires room { (c : ℕ) → c < length counts.old → slice_index counts.old c + length classes.now < 2 ^ 32 }
-    ensures counted { (c : ℕ) → c < length counts.new
-        → slice_index counts.new c ≡ slice_index counts.old c + count_by (λ k. k == c) classes.now }
+    ensures counted { AreRaised (λ c. count_by (λ k. k == c) classes.now) counts.old counts.new }
 {
     for class in classes {
         counts[*class as usize] += 1;

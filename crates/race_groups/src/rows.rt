@@ -1,9 +1,9 @@
 //! Rows by pair of places, each with its counts.
-ghost use Rattle.std.specs.Prelude.{◌≡◌, ℕ, ◌+◌, ◌^◌, ◌<◌, ◌≤◌, OnErr, OnOk, IfOk, IfSome, true, Some, None, slice_get, if◌then◌else◌};
-ghost use Rattle.indexmap.specs.IndexMap.{get, keys, index_map_len, IsEmpty, IsUnchanged, IsUnique, Updates, with_value_at};
+ghost use Rattle.std.specs.Prelude.{◌≡◌, ℕ, ◌+◌, ◌^◌, ◌<◌, ◌≤◌, OnErr, OnOk, IfOk, IfSome, true, Some, None, slice_get};
+ghost use Rattle.indexmap.specs.IndexMap.{get, keys, index_map_len, IsEmpty, IsUnchanged, IsUnique};
 ghost use Rattle.race_groups.specs.Groups.{is_between};
-ghost use Rattle.race_groups.specs.Rows.{Part, part, same_places, count_at, AreRows};
-ghost use Rattle.race_groups.specs.Waiting.{AreWaiting, rows_with, waiting_at, with_more};
+ghost use Rattle.race_groups.specs.Rows.{Part, part, same_places, count_at, AreRows, AreGrownBy, IsEntryAt, IsEntryGrown, added_sums};
+ghost use Rattle.race_groups.specs.Waiting.{AreWaiting, rows_with, waiting_at, with_more, IsEntrySettled};
 
 use crate::classes::Classes;
 use crate::guesses::Guesses;
@@ -88,8 +88,7 @@ impl GrowingRows {
         requires more { (k : Part) × (0 < part k more) }
         requires rows { AreRows self.old }
         requires room { (k : Part) (p q : ℕ) → p ≤ q → count_at k self.old p q + part k more < 2 ^ 64 }
-        ensures ok { OnOk result ((k : Part) (p q : ℕ) → p ≤ q
-            → count_at k self.new p q ≡ count_at k self.old p q + (if is_between p q first second then part k more else 0)) }
+        ensures ok { OnOk result (AreGrownBy (added_sums first second more) self.old self.new) }
         ensures rows { OnOk result (AreRows self.new) }
     {
         add_or_wait(
@@ -196,8 +195,7 @@ fn add_or_wait(
     requires more { (k : Part) × (0 < part k more) }
     requires waiting { AreWaiting waiting.old.cells.items rows.old }
     requires room { (k : Part) (p q : ℕ) → p ≤ q → count_at k (rows_with waiting.old.cells.items rows.old) p q + part k more < 2 ^ 64 }
-    ensures ok { OnOk result ((k : Part) (p q : ℕ) → p ≤ q → count_at k (rows_with waiting.new.cells.items rows.new) p q
-        ≡ count_at k (rows_with waiting.old.cells.items rows.old) p q + (if is_between p q first second then part k more else 0)) }
+    ensures ok { OnOk result (AreGrownBy (added_sums first second more) (rows_with waiting.old.cells.items rows.old) (rows_with waiting.new.cells.items rows.new)) }
     ensures waiting { AreWaiting waiting.new.cells.items rows.new }
 {
     if waiting.keep(first, second, more) {
@@ -223,8 +221,7 @@ fn settle_at(rows: &mut Rows, waiting: &Waiting, at: usize)
     requires at { at < index_map_len rows.old }
     requires fits { (e : (ℕ × ℕ) × Sums) → slice_get rows.old.entries at ≡ Some e
         → e.1.candidates + waiting_at waiting.now.cells.items e.0.0 e.0.1 < 2 ^ 64 }
-    ensures { (e : (ℕ × ℕ) × Sums) → slice_get rows.old.entries at ≡ Some e
-        → rows.new ≡ with_value_at rows.old at (with_more e.1 (waiting_at waiting.now.cells.items e.0.0 e.0.1)) }
+    ensures { IsEntrySettled waiting.now at rows.old rows.new }
 {
     let (places, sums) = rows.pair_mut(at);
     let more = waiting.of(places.0, places.1);
@@ -242,8 +239,7 @@ fn add(
     requires more { (k : Part) × (0 < part k more) }
     requires rows { AreRows rows.old }
     requires room { (k : Part) (p q : ℕ) → p ≤ q → count_at k rows.old p q + part k more < 2 ^ 64 }
-    ensures ok { OnOk result ((k : Part) (p q : ℕ) → p ≤ q
-        → count_at k rows.new p q ≡ count_at k rows.old p q + (if is_between p q first second then part k more else 0)) }
+    ensures ok { OnOk result (AreGrownBy (added_sums first second more) rows.old rows.new) }
     ensures rows { OnOk result (AreRows rows.new) }
     ensures err { OnErr result (IsUnchanged rows.old rows.new) }
 {
@@ -265,7 +261,7 @@ fn guessed_at(
     later: u32,
     places: (u32, u32),
 ) -> Option<usize>
-    ensures found { IfSome result (λ at. (v : Sums) × (slice_get rows.now.entries at ≡ Some (places, v)) × (get same_places rows.now places ≡ Some v)) }
+    ensures found { IfSome result (IsEntryAt rows.now places) }
     ensures none { result ≡ None → get same_places rows.now places ≡ None }
 {
     if let Some(at) = guesses.guess(earlier, later) {
@@ -280,7 +276,7 @@ fn guessed_at(
 
 // Whether the row at this index has these places.
 fn is_at(rows: &Rows, at: usize, places: (u32, u32)) -> bool
-    ensures { result ≡ true → (v : Sums) × (slice_get rows.now.entries at ≡ Some (places, v)) × (get same_places rows.now places ≡ Some v) }
+    ensures { result ≡ true → IsEntryAt rows.now places at }
 {
     match rows.get_index(at) {
         Some((key, _)) => key.0 == places.0 && key.1 == places.1,
@@ -290,7 +286,7 @@ fn is_at(rows: &Rows, at: usize, places: (u32, u32)) -> bool
 
 /// The index of the row of a pair of places, the lesser place first; None if there is no row.
 pub(crate) fn row_at(rows: &Rows, places: (u32, u32)) -> Option<usize>
-    ensures found { IfSome result (λ at. (v : Sums) × (slice_get rows.now.entries at ≡ Some (places, v)) × (get same_places rows.now places ≡ Some v)) }
+    ensures found { IfSome result (IsEntryAt rows.now places) }
     ensures none { result ≡ None → get same_places rows.now places ≡ None }
 {
     let (at, _, _) = rows.get_full(&places)?;
@@ -302,8 +298,7 @@ fn grow(rows: &mut Rows, at: usize, more: Sums)
     requires at { at < index_map_len rows.old }
     requires room { (k : Part) (e : (ℕ × ℕ) × Sums) → slice_get rows.old.entries at ≡ Some e → part k e.1 + part k more < 2 ^ 64 }
     ensures keys { keys rows.new ≡ keys rows.old }
-    ensures updates { (e : (ℕ × ℕ) × Sums) → slice_get rows.old.entries at ≡ Some e
-        → (w : Sums) × (Updates same_places rows.old rows.new e.0 (Some w)) × ((k : Part) → part k w ≡ part k e.1 + part k more) }
+    ensures updates { IsEntryGrown at more rows.old rows.new }
 {
     let (_, sums) = rows.pair_mut(at);
     *sums = sums.plus(more);

@@ -2,7 +2,7 @@
 ghost use Rattle.std.specs.Prelude.{◌≡◌, ◌-◌, ◌*◌, ◌<◌, ◌≤◌, ◌^◌, ℕ, All, Bool, true, false, length, slice_index, if◌then◌else◌};
 ghost use Rattle.race_groups.specs.Counts.{is_counted};
 ghost use Rattle.race_groups.specs.Rows.{Part, part, amount, by_part};
-ghost use Rattle.race_groups.specs.Totals.{entries_at, weighed_sum};
+ghost use Rattle.race_groups.specs.Totals.{entries_at, weighed_sum, pairs_of_class};
 
 use crate::rows::Sums;
 
@@ -121,8 +121,7 @@ impl Total<'_> {
         requires within { All (λ e. e.0 < length self.now.weights.now) (entries_at self.now.spread.now class) }
         requires less { weighed_sum (slice_index self.now.weights.now) (entries_at self.now.spread.now class) ≤ self.now.times * slice_index self.now.totals.now class }
         requires fits { self.now.times * slice_index self.now.totals.now class < 2 ^ 63 }
-        ensures { result ≡ self.now.times * slice_index self.now.totals.now class
-            - weighed_sum (slice_index self.now.weights.now) (entries_at self.now.spread.now class) }
+        ensures { result ≡ pairs_of_class self.now class }
     {
         let all = self.times * self.totals[class as usize];
         all - weighed(self.weights, self.spread[class as usize].as_slice())

@@ -1,8 +1,8 @@
 //! The threads that have events of each class, and how many each has.
-ghost use Rattle.std.specs.Prelude.{◌≡◌, ℕ, ◌+◌, ◌-◌, ◌==◌, ◌<◌, ◌^◌, [], cond, length, All, IfOk, IfSome, OnOk, Some, slice_get};
+ghost use Rattle.std.specs.Prelude.{◌≡◌, ℕ, ◌+◌, ◌-◌, ◌<◌, ◌^◌, [], length, All, IfOk, IfSome, OnOk, Some, slice_get};
 ghost use Rattle.rapid_text.specs.Recording.{IsWellFormed};
 ghost use Rattle.event_index.specs.Lookups.{events_of};
-ghost use Rattle.race_groups.specs.Totals.{AreNoted, AreSpread, entries_at, weighed_sum};
+ghost use Rattle.race_groups.specs.Totals.{AreNoted, entries_at, weighed_sum, AllStayBelow, IsClassNoted, IsClassSpread, IsOneNoted, StayBelow};
 
 use crate::classes::Classes;
 use event_index::Indexed;
@@ -20,8 +20,7 @@ pub(crate) fn spread_of(
 ) -> Result<Spread, OutOfMemory>
     requires numbers { length classes.now.numbers.items ≡ length indexed.now.events }
     requires classes { All (λ c. c < length classes.now.infos.items) classes.now.numbers.items }
-    ensures { IfOk result (λ spread. AreSpread indexed.now.events (length indexed.now.threads) classes.now.numbers.items
-        (length classes.now.infos.items) spread.items) }
+    ensures { IfOk result (λ spread. IsClassSpread indexed.now classes.now spread.items) }
 {
     let _len = indexed.len();
     let numbers = classes.numbers.as_slice();
@@ -75,9 +74,8 @@ fn note_thread(
     ensures within { OnOk result ((c : ℕ) → All (λ e. e.0 < length indexed.now.threads) (entries_at spread.new.items c)) }
     ensures noted { OnOk result (AreNoted numbers.now (events_of indexed.now.events thread) thread spread.old.items spread.new.items) }
 {
-    for at in 0..indexed.thread_events(thread).len() {
-        let event = indexed.thread_events(thread)[at];
-        note_class(spread, numbers[event as usize], thread)?;
+    for event in indexed.thread_events(thread) {
+        note_class(spread, numbers[*event as usize], thread)?;
     }
     Ok(())
 }
@@ -87,10 +85,8 @@ fn note_class(spread: &mut Spread, class: u32, thread: u32) -> Result<(), OutOfM
     requires class { class < length spread.old.items }
     requires room { weighed_sum (λ t. 1) (entries_at spread.old.items class) < 2 ^ 32 - 1 }
     ensures len { OnOk result (length spread.new.items ≡ length spread.old.items) }
-    ensures within { OnOk result ((n c : ℕ) → thread < n → All (λ e. e.0 < n) (entries_at spread.old.items c)
-        → All (λ e. e.0 < n) (entries_at spread.new.items c)) }
-    ensures noted { OnOk result ((c : ℕ) (w : ℕ → ℕ) → weighed_sum w (entries_at spread.new.items c)
-        ≡ weighed_sum w (entries_at spread.old.items c) + cond (class == c) (w thread) 0) }
+    ensures within { OnOk result (AllStayBelow thread spread.old.items spread.new.items) }
+    ensures noted { OnOk result (IsClassNoted class thread spread.old.items spread.new.items) }
 {
     note(&mut spread[class as usize], thread)?;
     Ok(())
@@ -99,8 +95,8 @@ fn note_class(spread: &mut Spread, class: u32, thread: u32) -> Result<(), OutOfM
 // Adds one event of the thread. Events of one thread are added in a row.
 fn note(entries: &mut Vec<(u32, u32)>, thread: u32) -> Result<(), OutOfMemory>
     requires room { weighed_sum (λ t. 1) entries.old.items < 2 ^ 32 - 1 }
-    ensures within { OnOk result ((n : ℕ) → thread < n → All (λ e. e.0 < n) entries.old.items → All (λ e. e.0 < n) entries.new.items) }
-    ensures noted { OnOk result ((w : ℕ → ℕ) → weighed_sum w entries.new.items ≡ weighed_sum w entries.old.items + w thread) }
+    ensures within { OnOk result (StayBelow thread entries.old.items entries.new.items) }
+    ensures noted { OnOk result (IsOneNoted thread entries.old.items entries.new.items) }
 {
     match last_count(entries.as_slice(), thread) {
         Some(count) => {

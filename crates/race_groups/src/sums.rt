@@ -2,7 +2,7 @@
 ghost use Rattle.std.specs.Prelude.{◌≡◌, ℕ, ◌<◌, ◌≤◌, length, replicate, All};
 ghost use Rattle.rapid_text.specs.Recording.{IsWellFormed};
 ghost use Rattle.event_index.specs.Lookups.{events_of};
-ghost use Rattle.race_groups.specs.Counting.{AreBelowSums, IsBlank, class_count};
+ghost use Rattle.race_groups.specs.Counting.{IsBlank, class_count, AreSumsBelow};
 ghost use Rattle.race_groups.specs.Cuts.{IsCut};
 
 use crate::counting::{Classed, Cut, Front, Later};
@@ -23,7 +23,7 @@ pub(crate) fn sum_below<C: Cut>(
     requires can { (b t : ℕ) → b < length classed.indexed.now.events → t < length classed.indexed.now.threads → C.can_end cut.now b t }
     requires cut { IsCut classed.indexed.now.events (C.end_of cut.now) }
     ensures len { length front.new.counts.items ≡ length front.old.counts.items }
-    ensures counted { AreBelowSums classed.entry.indexed.now.events (length classed.entry.indexed.now.threads) classed.entry.numbers.now own (C.end_of cut.now) class front.new.counts.items }
+    ensures counted { AreSumsBelow classed.entry own (C.end_of cut.now) class front.new.counts.items }
 {
     let _len = classed.indexed.len();
     let sums = front.counts.as_mut_slice();
@@ -63,7 +63,7 @@ fn sum_up<C: Cut>(
     requires cut { IsCut classed.indexed.now.events (C.end_of cut.now) }
     requires fronts { fronts.old ≡ replicate (length classed.indexed.now.threads) 0 }
     requires sums { sums.old ≡ replicate (length sums.old) 0 }
-    ensures counted { AreBelowSums classed.entry.indexed.now.events (length classed.entry.indexed.now.threads) classed.entry.numbers.now own (C.end_of cut.now) class sums.new }
+    ensures counted { AreSumsBelow classed.entry own (C.end_of cut.now) class sums.new }
 {
     let indexed = classed.indexed;
     let lane = indexed.thread_events(own);

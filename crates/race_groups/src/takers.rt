@@ -3,7 +3,7 @@
 ghost use Rattle.std.specs.Prelude.{◌≡◌, ◌≢◌, ◌+◌, ◌<◌, ℕ, IfOk, IfSome, OnOk, None, Some, filter, length};
 ghost use Rattle.event_index.specs.Events.{op_at};
 ghost use Rattle.rapid_text.specs.declared.event.Op.TheVariants.{Acquire};
-ghost use Rattle.race_groups.specs.Takers.{AreTakers, AreTakersBelow, is_lent};
+ghost use Rattle.race_groups.specs.Takers.{AreTakersBelow, is_lent, AreTakersOf};
 
 use crate::holding::acquired;
 use crate::owners::owner_of;
@@ -13,7 +13,7 @@ use std::alloc::Global;
 
 /// For each lock the thread that acquires it; if more than one does, the number of threads.
 pub(crate) fn takers_of(alloc: Global, indexed: &Indexed) -> Result<Vec<u32>, OutOfMemory>
-    ensures { IfOk result (λ takers. AreTakers indexed.now.events (length indexed.now.threads) takers.items) }
+    ensures { IfOk result (λ takers. AreTakersOf indexed.now takers.items) }
 {
     let many = indexed.threads();
     let mut takers = vec![in alloc; many; indexed.locks() as usize]?;

@@ -1,8 +1,8 @@
 //! Candidates that wait to be added to their rows. Most candidates belong to places that have a row. They are only
 //! counted here, and the counts for the places of one later event are side by side.
-ghost use Rattle.std.specs.Prelude.{◌≡◌, ◌≢◌, ◌⊎◌, ◌+◌, ◌<◌, ℕ, true, false, IfOk, slice_index};
+ghost use Rattle.std.specs.Prelude.{◌≡◌, ◌≢◌, ◌+◌, ◌<◌, ℕ, true, false, IfOk, slice_index};
 ghost use Rattle.race_groups.specs.Rows.{Part, part};
-ghost use Rattle.race_groups.specs.Waiting.{cell_at, waiting_at, waiting_of};
+ghost use Rattle.race_groups.specs.Waiting.{cell_at, waiting_at, waiting_of, AreCellsKept, AreOthersKept, IsCellOpened, IsCellRaised, IsNumberOpened};
 
 use crate::class::Class;
 use crate::guesses::width_of;
@@ -34,9 +34,9 @@ impl Waiting {
     /// Lets the counts wait, and returns whether it did. Only candidates of a known row can wait.
     pub(crate) fn keep(&mut self, earlier: u32, later: u32, more: Sums) -> bool
         ensures known { result ≡ true → 0 < cell_at self.old.cells.items later earlier }
-        ensures more { result ≡ true → cell_at self.new.cells.items later earlier ≡ cell_at self.old.cells.items later earlier + more.candidates }
-        ensures others { (p q : ℕ) → ¬ ((q ≡ later) × (p ≡ earlier)) → cell_at self.new.cells.items q p ≡ cell_at self.old.cells.items q p }
-        ensures same { result ≡ false → (p q : ℕ) → cell_at self.new.cells.items q p ≡ cell_at self.old.cells.items q p }
+        ensures more { result ≡ true → IsCellRaised later earlier more.candidates self.old self.new }
+        ensures others { AreOthersKept later earlier self.old self.new }
+        ensures same { result ≡ false → AreCellsKept self.old self.new }
         ensures candidates { result ≡ true → (k : Part) → part k more ≡ waiting_of k more.candidates }
     {
         if !are_candidates(more) || later as usize >= self.cells.len() {
@@ -51,8 +51,7 @@ impl Waiting {
 
     /// Records that the row of the places exists. For one place twice nothing waits.
     pub(crate) fn open(&mut self, earlier: u32, later: u32)
-        ensures { (p q : ℕ) → (cell_at self.new.cells.items q p ≡ cell_at self.old.cells.items q p)
-            ⊎ ((q ≡ later) × (p ≡ earlier) × (q ≢ p) × (cell_at self.old.cells.items q p ≡ 0) × (cell_at self.new.cells.items q p ≡ 1)) }
+        ensures { IsCellOpened later earlier self.old self.new }
     {
         if earlier == later || later as usize >= self.cells.len() {
             return;
@@ -110,7 +109,7 @@ fn raise(row: &mut [u32], at: usize, more: u64) -> bool
 
 // Changes 0 at this index to 1.
 fn begin(row: &mut [u32], at: usize)
-    ensures { (p : ℕ) → (slice_index row.new p ≡ slice_index row.old p) ⊎ ((p ≡ at) × (slice_index row.old p ≡ 0) × (slice_index row.new p ≡ 1)) }
+    ensures { IsNumberOpened at row.old row.new }
 {
     if at < row.len() && row[at] == 0 {
         row[at] = 1;

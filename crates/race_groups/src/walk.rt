@@ -1,11 +1,10 @@
 //! Adds to the rows what one later event, or all those of one class of a thread, have with earlier events.
-ghost use Rattle.std.specs.Prelude.{◌≡◌, ℕ, ◌+◌, ◌^◌, ◌<◌, ◌≤◌, length, All, Bool, Some, true, false, IfSome, OnOk, if◌then◌else◌, slice_index};
+ghost use Rattle.std.specs.Prelude.{◌≡◌, ℕ, ◌+◌, ◌^◌, ◌<◌, ◌≤◌, length, All, Bool, true, false, IfSome, OnOk, slice_index};
 ghost use Rattle.event_index.specs.Relations.{is_clash_of_ops};
-ghost use Rattle.race_groups.specs.Adding.{added_of, AreGrown, HasRoomFor};
-ghost use Rattle.race_groups.specs.Classes.{adds_to};
-ghost use Rattle.race_groups.specs.Counts.{is_counted, keeps};
+ghost use Rattle.race_groups.specs.Adding.{AreGrown, HasRoomFor, class_share, kept_share, numbered_share};
+ghost use Rattle.race_groups.specs.Counts.{is_counted};
 ghost use Rattle.race_groups.specs.Owners.{AreRuns};
-ghost use Rattle.race_groups.specs.Rows.{Part, part, amount, count_at, AreRows};
+ghost use Rattle.race_groups.specs.Rows.{Part, part, amount, count_at, AreRows, AreGrownBy};
 
 use crate::class::{Class, LockLists};
 use crate::classes::Classes;
@@ -18,7 +17,7 @@ use rapid_text::{Op, OutOfMemory};
 
 // The sums of pairs of two classes. A common lock of these matters only if SHB orders some of the pairs.
 fn sums_of(lists: &LockLists, earlier: Class, later: Class, share: Share) -> Sums
-    ensures { (k : Part) → part k result ≡ (if keeps lists.now.keys k earlier later then amount k share else 0) }
+    ensures { (k : Part) → part k result ≡ kept_share lists.now.keys earlier later share k }
 {
     if share.ordered == 0 {
         return share.sums(false);
@@ -39,8 +38,7 @@ fn add_pairs(
     requires some { (k : Part) × (0 < amount k share) × ((b : Bool) → is_counted k b ≡ true) }
     requires rows { AreRows rows.old }
     requires room { (k : Part) (p q : ℕ) → p ≤ q → count_at k rows.old p q + amount k share < 2 ^ 64 }
-    ensures ok { OnOk result ((k : Part) (p q : ℕ) → p ≤ q → count_at k rows.new p q ≡ count_at k rows.old p q
-        + (if adds_to (keeps lists.now.keys k) p q later (Some earlier) then amount k share else 0)) }
+    ensures ok { OnOk result (AreGrownBy (class_share lists.now.keys earlier later share) rows.old rows.new) }
     ensures rows { OnOk result (AreRows rows.new) }
 {
     if !clash(earlier.op, later.op) {
@@ -64,8 +62,7 @@ fn add_share(
     requires member { member < length classes.now.infos.items }
     requires rows { AreRows rows.old }
     requires room { (k : Part) (p q : ℕ) → p ≤ q → count_at k rows.old p q + amount k share < 2 ^ 64 }
-    ensures ok { OnOk result ((k : Part) (p q : ℕ) → p ≤ q
-        → count_at k rows.new p q ≡ count_at k rows.old p q + added_of classes.now later k p q member (amount k share)) }
+    ensures ok { OnOk result (AreGrownBy (numbered_share classes.now member later share) rows.old rows.new) }
     ensures rows { OnOk result (AreRows rows.new) }
 {
     if share.is_nothing() {
@@ -103,8 +100,7 @@ fn add_run<A: Shares>(
     ensures rows { OnOk result (AreRows rows.new) }
 {
     for member in members {
-        let share = shares.share(*member);
-        add_share(rows, classes, *member, later, share)?;
+        add_share(rows, classes, *member, later, shares.share(*member))?;
     }
     Ok(())
 }
@@ -164,8 +160,7 @@ pub(crate) fn add_all<A: Shares>(
     ensures rows { OnOk result (AreRows rows.new) }
 {
     match owner {
-        Some(thread) => add_members(rows, shares, classes, walk, later, thread)?,
-        None => add_run(rows, shares, classes, walk.members, later)?,
+        Some(thread) => add_members(rows, shares, classes, walk, later, thread),
+        None => add_run(rows, shares, classes, walk.members, later),
     }
-    Ok(())
 }

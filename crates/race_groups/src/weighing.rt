@@ -3,7 +3,7 @@
 ghost use Rattle.std.specs.Prelude.{◌≡◌, ◌≢◌, ℕ, ◌+◌, ◌^◌, ◌<◌, ◌≤◌, length, All, sum_by, slice_index, slice_set};
 ghost use Rattle.rapid_text.specs.Recording.{IsWellFormed};
 ghost use Rattle.event_index.specs.Lookups.{events_of};
-ghost use Rattle.race_groups.specs.Counting.{AreFronts, AreWeighed, weigh as weighed};
+ghost use Rattle.race_groups.specs.Counting.{weigh as weighed, AreFrontsOf, AreInside, AreRaised, AreWeighedBy};
 
 use crate::counting::{Classed, Cut, Later};
 
@@ -12,8 +12,7 @@ fn weigh(sums: &mut [u64], classes: &[u32], events: &[u32], left: u64)
     requires events { All (λ e. e < length classes.now) events.now }
     requires classes { All (λ c. c < length sums.old) classes.now }
     requires room { (c : ℕ) → c < length sums.old → slice_index sums.old c + sum_by (weighed classes.now left c) events.now < 2 ^ 64 }
-    ensures counted { (c : ℕ) → c < length sums.new
-        → slice_index sums.new c ≡ slice_index sums.old c + sum_by (weighed classes.now left c) events.now }
+    ensures counted { AreRaised (λ c. sum_by (weighed classes.now left c) events.now) sums.old sums.new }
 {
     for event in events {
         sums[classes[*event as usize] as usize] += left;
@@ -39,7 +38,7 @@ fn weigh_on(
     requires left { left ≤ 1048576 }
     requires room { (c : ℕ) → c < length sums.old → slice_index sums.old c ≤ 2 ^ 42 }
     ensures fronts { fronts.new ≡ slice_set fronts.old thread to }
-    ensures moved { AreWeighed classed.entry.indexed.now.events (length classed.entry.indexed.now.threads) classed.entry.numbers.now left fronts.old sums.old fronts.new sums.new }
+    ensures moved { AreWeighedBy classed.entry left fronts.old sums.old fronts.new sums.new }
 {
     let from = fronts[thread as usize] as usize;
     weigh(
@@ -63,16 +62,16 @@ pub(crate) fn weigh_all<C: Cut>(
     requires len { length classed.numbers.now ≡ length classed.indexed.now.events }
     requires classes { All (λ c. c < length sums.old) classed.numbers.now }
     requires fronts_len { length fronts.old ≡ length classed.indexed.now.threads }
-    requires inside { (t : ℕ) → t < length classed.indexed.now.threads → slice_index fronts.old t ≤ length (events_of classed.indexed.now.events t) }
+    requires inside { AreInside classed fronts.old }
     requires can { (t : ℕ) → t < length classed.indexed.now.threads → C.can_end cut.now later.event t }
     requires own { slice_index fronts.old later.thread ≡ 0 }
     requires behind { (t : ℕ) → t < length classed.indexed.now.threads → t ≢ later.thread → slice_index fronts.old t ≤ C.end_of cut.now later.event t }
     requires within { (t : ℕ) → t < length classed.indexed.now.threads → C.end_of cut.now later.event t ≤ length (events_of classed.indexed.now.events t) }
     requires left { left ≤ 1048576 }
     requires room { (c : ℕ) → c < length sums.old → slice_index sums.old c ≤ 2 ^ 41 }
-    ensures fronts { AreFronts (length classed.entry.indexed.now.threads) later.thread (C.end_of cut.now later.event) fronts.new }
-    ensures inside { (t : ℕ) → t < length classed.entry.indexed.now.threads → slice_index fronts.new t ≤ length (events_of classed.entry.indexed.now.events t) }
-    ensures moved { AreWeighed classed.entry.indexed.now.events (length classed.entry.indexed.now.threads) classed.entry.numbers.now left fronts.old sums.old fronts.new sums.new }
+    ensures fronts { AreFrontsOf classed.entry later (C.end_of cut.now) fronts.new }
+    ensures inside { AreInside classed.entry fronts.new }
+    ensures moved { AreWeighedBy classed.entry left fronts.old sums.old fronts.new sums.new }
 {
     for thread in 0..classed.indexed.threads() {
         if thread != later.thread {

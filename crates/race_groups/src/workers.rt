@@ -1,12 +1,12 @@
 //! Counts a trace's pairs with several workers: each counts the threads and classes whose turn it is, and then all
 //! are summed.
-ghost use Rattle.std.specs.Prelude.{◌≡◌, ℕ, ◌+◌, ◌^◌, ◌<◌, ◌≤◌, Err, IfOk, OnOk, length, slice_index};
+ghost use Rattle.std.specs.Prelude.{◌≡◌, ℕ, ◌+◌, ◌^◌, ◌<◌, ◌≤◌, IfOk, OnOk, length, slice_index};
 ghost use Rattle.indexmap.specs.IndexMap.{index_map_len};
-ghost use Rattle.race_groups.specs.Basis.{AreFewAll, AreJoined, AreParts, IsBasis, IsPart};
-ghost use Rattle.race_groups.specs.Classes.{AreClasses, AreMembers};
-ghost use Rattle.race_groups.specs.Counts.{AreCounted};
-ghost use Rattle.race_groups.specs.Found.{AreTooMany};
-ghost use Rattle.race_groups.specs.Rows.{Part, AreMore, AreRows, count_at, count_below};
+ghost use Rattle.race_groups.specs.Basis.{AreFewAll, AreJoined, AreParts, IsBasis, IsPart, AreTooManyIn};
+ghost use Rattle.race_groups.specs.ClassTables.{AreFewClasses, HaveClasses, HaveMembers};
+ghost use Rattle.race_groups.specs.Counts.{AreCountedBy};
+ghost use Rattle.race_groups.specs.Found.{AreTooMany, IfTooMany};
+ghost use Rattle.race_groups.specs.Rows.{Part, AreMore, AreRows, count_at, AreGrownBy, AreGrownUpTo, IsRowAdded};
 
 use crate::basis::Basis;
 use crate::classes::Classes;
@@ -35,14 +35,13 @@ pub(crate) fn count_by_workers<R: Threads + Sync>(
 ) -> Result<Rows, RowsRefusal>
     requires clocks { clocks.now ≡ indexed.now }
     requires must { must.now ≡ indexed.now }
-    requires classes { AreClasses indexed.now.events (slice_index places.now) classes.now.numbers.items classes.now.infos.items }
-    requires few { length classes.now.infos.items ≤ 1048576 }
-    requires members { AreMembers classes.now.infos.items classes.now.members.items }
+    requires classes { HaveClasses indexed.now.events (slice_index places.now) classes.now }
+    requires few { AreFewClasses classes.now }
+    requires members { HaveMembers classes.now }
     requires workers { 0 < workers }
-    ensures counted { IfOk result (AreCounted indexed.now.events (slice_index places.now)
-        classes.now.numbers.items classes.now.infos.items classes.now.lists.keys) }
+    ensures counted { IfOk result (AreCountedBy indexed.now.events (slice_index places.now) classes.now) }
     ensures kept { IfOk result (λ rows. index_map_len rows ≤ limit) }
-    ensures too_many { result ≡ Err RowsRefusal.TooMany → AreTooMany indexed.now.events (slice_index places.now) limit }
+    ensures too_many { IfTooMany result (AreTooMany indexed.now.events (slice_index places.now) limit) }
 {
     let conflicts = Conflicts::of(alloc, indexed, classes)?;
     let basis = Basis::of(indexed, places, clocks, must, classes, &conflicts, workers);
@@ -64,15 +63,15 @@ fn in_turns<R: Threads + Sync>(
     limit: u32,
 ) -> Result<Rows, RowsRefusal>
     requires basis { IsBasis basis }
-    requires classes { AreClasses basis.indexed.now.events (slice_index places.now) basis.classes.now.numbers.items basis.classes.now.infos.items }
+    requires classes { HaveClasses basis.indexed.now.events (slice_index places.now) basis.classes.now }
     ensures rows { IfOk result (λ rows. AreRows rows) }
     ensures joined { IfOk result (AreJoined basis.entry basis.entry.every) }
     ensures kept { IfOk result (λ rows. index_map_len rows ≤ limit) }
-    ensures too_many { result ≡ Err RowsRefusal.TooMany → AreTooMany basis.entry.indexed.now.events (slice_index places.now) limit }
+    ensures too_many { IfTooMany result (AreTooManyIn basis.entry (slice_index places.now) limit) }
 {
     let count = |worker: usize| -> Result<Rows, RowsRefusal>
         requires basis { IsBasis basis }
-        requires classes { AreClasses basis.indexed.now.events (slice_index places.now) basis.classes.now.numbers.items basis.classes.now.infos.items }
+        requires classes { HaveClasses basis.indexed.now.events (slice_index places.now) basis.classes.now }
         ensures { IsPart basis.entry (slice_index places.entry.now) limit worker result }
     { count_some(alloc, places, basis, limit, worker) };
     let parts = thread::map_indices(rt, alloc, basis.every, &count)?;
@@ -88,7 +87,7 @@ fn count_some(
     worker: usize,
 ) -> Result<Rows, RowsRefusal>
     requires basis { IsBasis basis }
-    requires classes { AreClasses basis.indexed.now.events (slice_index places.now) basis.classes.now.numbers.items basis.classes.now.infos.items }
+    requires classes { HaveClasses basis.indexed.now.events (slice_index places.now) basis.classes.now }
     ensures { IsPart basis.entry (slice_index places.now) limit worker result }
 {
     let own = Basis {
@@ -112,19 +111,17 @@ fn joined(
     parts: &[Result<Rows, RowsRefusal>],
 ) -> Result<Rows, RowsRefusal>
     requires basis { IsBasis basis }
-    requires classes { AreClasses basis.indexed.now.events (slice_index places.now) basis.classes.now.numbers.items basis.classes.now.infos.items }
+    requires classes { HaveClasses basis.indexed.now.events (slice_index places.now) basis.classes.now }
     requires len { length parts.now ≡ basis.every }
     requires parts { AreParts basis (slice_index places.now) limit parts.now }
     ensures rows { IfOk result (λ rows. AreRows rows) }
     ensures joined { IfOk result (AreJoined basis.entry basis.entry.every) }
     ensures kept { IfOk result (λ rows. index_map_len rows ≤ limit) }
-    ensures too_many { result ≡ Err RowsRefusal.TooMany → AreTooMany basis.entry.indexed.now.events (slice_index places.now) limit }
+    ensures too_many { IfTooMany result (AreTooManyIn basis.entry (slice_index places.now) limit) }
 {
     let mut all = GrowingRows::new(alloc, basis.classes)?;
-    match add_parts(&mut all, places, basis, limit, parts) {
-        Ok(()) => Ok(all.into_rows()),
-        Err(refusal) => Err(refusal),
-    }
+    add_parts(&mut all, places, basis, limit, parts)?;
+    Ok(all.into_rows())
 }
 
 // Adds all parts.
@@ -136,7 +133,7 @@ fn add_parts(
     parts: &[Result<Rows, RowsRefusal>],
 ) -> Result<(), RowsRefusal>
     requires basis { IsBasis basis }
-    requires classes { AreClasses basis.indexed.now.events (slice_index _places.now) basis.classes.now.numbers.items basis.classes.now.infos.items }
+    requires classes { HaveClasses basis.indexed.now.events (slice_index _places.now) basis.classes.now }
     requires len { length parts.now ≡ basis.every }
     requires parts { AreParts basis (slice_index _places.now) limit parts.now }
     requires all { AreRows all.old }
@@ -145,14 +142,10 @@ fn add_parts(
     ensures all { OnOk result (AreRows all.new) }
     ensures joined { OnOk result (AreJoined basis.entry basis.entry.every all.new) }
     ensures kept { OnOk result (index_map_len all.new ≤ limit) }
-    ensures too_many { result ≡ Err RowsRefusal.TooMany → AreTooMany basis.entry.indexed.now.events (slice_index _places.now) limit }
+    ensures too_many { IfTooMany result (AreTooManyIn basis.entry (slice_index _places.now) limit) }
 {
     for worker in 0..parts.len() {
-        let part = &parts[worker];
-        match add_part(all, _places, basis, limit, part, worker) {
-            Ok(()) => {}
-            Err(refusal) => return Err(refusal),
-        }
+        add_part(all, _places, basis, limit, &parts[worker], worker)?;
     }
     Ok(())
 }
@@ -167,7 +160,7 @@ fn add_part(
     _worker: usize,
 ) -> Result<(), RowsRefusal>
     requires basis { IsBasis _basis }
-    requires classes { AreClasses _basis.indexed.now.events (slice_index _places.now) _basis.classes.now.numbers.items _basis.classes.now.infos.items }
+    requires classes { HaveClasses _basis.indexed.now.events (slice_index _places.now) _basis.classes.now }
     requires worker { _worker < _basis.every }
     requires part { IsPart _basis (slice_index _places.now) limit _worker part.now }
     requires all { AreRows all.old }
@@ -176,7 +169,7 @@ fn add_part(
     ensures all { OnOk result (AreRows all.new) }
     ensures joined { OnOk result (AreJoined _basis.entry (_worker + 1) all.new) }
     ensures kept { OnOk result (index_map_len all.new ≤ limit) }
-    ensures too_many { result ≡ Err RowsRefusal.TooMany → AreTooMany _basis.entry.indexed.now.events (slice_index _places.now) limit }
+    ensures too_many { IfTooMany result (AreTooManyIn _basis.entry (slice_index _places.now) limit) }
 {
     match part {
         Ok(rows) => match add_rows(all, limit, rows) {
@@ -195,9 +188,8 @@ fn add_rows(all: &mut GrowingRows, limit: u32, part: &Rows) -> Result<(), RowsRe
     requires room { (k : Part) (p q : ℕ) → p ≤ q → count_at k all.old p q + count_at k part.now p q ≤ 2 ^ 43 }
     ensures all { OnOk result (AreRows all.new) }
     ensures kept { OnOk result (index_map_len all.new ≤ limit) }
-    ensures added { OnOk result ((k : Part) (p q : ℕ) → p ≤ q → count_at k all.new p q ≡ count_at k all.old p q + count_at k part.now p q) }
-    ensures too_many { result ≡ Err RowsRefusal.TooMany → AreMore limit all.new
-        × ((k : Part) (p q : ℕ) → p ≤ q → count_at k all.new p q ≤ count_at k all.old p q + count_at k part.now p q) }
+    ensures added { OnOk result (AreGrownBy (λ k. count_at k part.now) all.old all.new) }
+    ensures too_many { IfTooMany result (AreMore limit all.new × AreGrownUpTo (λ k. count_at k part.now) all.old all.new) }
 {
     let rows = part.len();
     for at in 0..rows {
@@ -216,8 +208,7 @@ fn add_row(all: &mut GrowingRows, part: &Rows, at: usize) -> Result<(), OutOfMem
     requires at { at < index_map_len part.now }
     requires room { (k : Part) (p q : ℕ) → p ≤ q → count_at k all.old p q + count_at k part.now p q ≤ 2 ^ 44 }
     ensures all { OnOk result (AreRows all.new) }
-    ensures added { OnOk result ((k : Part) (p q : ℕ) → p ≤ q → count_at k all.new p q + count_below k at part.now p q
-        ≡ count_at k all.old p q + count_below k (at + 1) part.now p q) }
+    ensures added { OnOk result (IsRowAdded part.now at all.old all.new) }
 {
     let Some((places, sums)) = part.get_index(at) else {
         return Ok(());

@@ -1,19 +1,23 @@
 //! The classes with which an operation conflicts: a read forms no pair with another read, and no event with one of
-//! its thread.
+//! its thread. What follows from the classes of a trace alone is computed once, and lent to all workers.
 ghost use Rattle.std.specs.Prelude.{◌≡◌, ◌<◌, ◌≤◌, All, IfOk, filter, length, slice_get};
 ghost use Rattle.event_index.specs.Relations.{is_access};
+ghost use Rattle.race_groups.specs.ClassTables.{HaveMembers};
 ghost use Rattle.race_groups.specs.Classes.{AreConflicting, AreMembers, AreWriters, is_writing, is_writing_op};
-ghost use Rattle.race_groups.specs.Owners.{AreConflicts, AreRuns, AreRunsOf};
+ghost use Rattle.race_groups.specs.Owners.{AreRuns, AreRunsOf, AreClassConflicts};
 
 use crate::class::Class;
 use crate::classes::Classes;
 use crate::owners::owners_of;
 use crate::runs::runs_of;
+use crate::spread::{Spread, spread_of};
+use crate::totals::totals_of;
 use event_index::Indexed;
 use rapid_text::{Op, OutOfMemory};
 use std::alloc::Global;
 
-/// For each variable the classes that write it; and tables to skip the classes of one thread.
+/// For each variable the classes that write it; tables to skip the classes of one thread; and the number of events of
+/// each class. All workers read the same tables.
 #[derive(Drop)]
 pub(crate) struct Conflicts {
     pub(crate) writers: Vec<Vec<u32>>,
@@ -23,6 +27,10 @@ pub(crate) struct Conflicts {
     pub(crate) runs: Vec<Vec<usize>>,
     /// The same among those that write the variable.
     pub(crate) writer_runs: Vec<Vec<usize>>,
+    /// The number of events of each class.
+    pub(crate) totals: Vec<u64>,
+    /// The threads of these events, class by class.
+    pub(crate) spread: Spread,
 }
 
 /// The classes with which an operation conflicts, and the ends of the runs with one owner among them.
@@ -42,9 +50,8 @@ impl Conflicts {
     ) -> Result<Conflicts, OutOfMemory>
         requires numbers { length classes.now.numbers.items ≡ length indexed.now.events }
         requires classes { All (λ c. c < length classes.now.infos.items) classes.now.numbers.items }
-        requires members { AreMembers classes.now.infos.items classes.now.members.items }
-        ensures { IfOk result (AreConflicts indexed.now.events (length indexed.now.threads) classes.now.numbers.items
-            classes.now.infos.items classes.now.members.items) }
+        requires members { HaveMembers classes.now }
+        ensures { IfOk result (AreClassConflicts indexed.now classes.now) }
     {
         let members = classes.members.as_slice();
         let writers = writers_of(alloc, classes.infos.as_slice(), members)?;
@@ -56,6 +63,8 @@ impl Conflicts {
             owners,
             runs,
             writer_runs,
+            totals: totals_of(alloc, indexed, classes)?,
+            spread: spread_of(alloc, indexed, classes)?,
         })
     }
 }
@@ -116,7 +125,7 @@ pub(crate) fn conflicting<'a>(
     op: Op,
 ) -> Walk<'a>
     requires variable { variable < length classes.now.members.items }
-    requires members { AreMembers classes.now.infos.items classes.now.members.items }
+    requires members { HaveMembers classes.now }
     requires writers { AreWriters classes.now.infos.items classes.now.members.items conflicts.now.writers.items }
     requires runs { AreRunsOf conflicts.now.owners.items classes.now.members.items conflicts.now.runs.items }
     requires writer_runs { AreRunsOf conflicts.now.owners.items conflicts.now.writers.items conflicts.now.writer_runs.items }

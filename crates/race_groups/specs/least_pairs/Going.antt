@@ -1,6 +1,6 @@
 -- What holds while the variables are visited. No public clause cites this module. `r` is a recording; `place` has the
 -- place of each event. `rows` are the rows of all pairs of places, and `most` is the most open pairs that are kept.
-use Rattle.std.specs.Prelude.{◌≡◌, ◌≢◌, ◌⊎◌, ℕ, ◌+◌, ◌%◌, ◌<◌, ◌≤◌, ◌||◌, true, false, Bool, List, length, All, Some, slice_get, slice_index, Vec}
+use Rattle.std.specs.Prelude.{◌≡◌, ◌≢◌, ◌⊎◌, ℕ, ◌+◌, ◌%◌, ◌<◌, ◌≤◌, ◌||◌, true, false, Bool, List, length, All, Contains, Some, slice_get, slice_index, Vec}
 use Rattle.std.specs.declared.alloc.Global.{Global}
 use Rattle.rapid_text.specs.Recording.{Recording, IsWellFormed}
 use Rattle.trace_rules.specs.Rules.{IsDisciplined}
@@ -22,6 +22,8 @@ use Rattle.race_groups.specs.least_pairs.Making.{IsBegun}
 use Rattle.race_groups.specs.least_pairs.Taking.{HoldsTry, HoldsUp}
 use Rattle.race_groups.specs.least_pairs.Noting.{IsMore, IsSoFar}
 use Rattle.race_groups.specs.least_pairs.Pairs.{AreAt, AreGroups, IsOf, IsPair, is_access_at}
+use Rattle.race_groups.specs.least_pairs.Windows.{of_window}
+use Rattle.race_groups.specs.declared.least_pairs.lanes.Bunch.{Bunch}
 use Rattle.race_groups.specs.declared.least_pairs.lanes.Lane.{Lane}
 use Rattle.race_groups.specs.declared.least_pairs.lanes.Later.{Later}
 use Rattle.race_groups.specs.declared.least_pairs.least.Least.{Least}
@@ -116,6 +118,19 @@ pub record IsSound (s : Search) : Type 0 where
   pub no_candidate : s.has_candidates ≡ false → All (λ (row : Row). row.counts.candidates ≡ 0) s.groups.now.rows.items
   pub no_open : s.has_open ≡ false → All (λ (row : Row). row.counts.open_pairs ≡ 0) s.groups.now.rows.items
 
+-- the row at this index has the places of the two events
+abbrev pub IsRowOfPair : Search → ℕ → ℕ → ℕ → Type 0
+IsRowOfPair s a b at =
+    (row : Row) × (slice_get s.groups.now.rows.items at ≡ Some row) × AreAt (slice_index s.places.now) row.places a b
+
+-- whether the lists of locks of the two events have a common lock
+abbrev pub is_guarded_pair : Search → ℕ → ℕ → Bool
+is_guarded_pair s a b = is_kept_pair (keeps_shared s.classes.now.lists.keys) s.classes.now.numbers.items s.classes.now.infos.items a b
+
+-- the number of events of thread t that the row of event b's base counts
+abbrev pub forced_below : Search → ℕ → ℕ → ℕ
+forced_below s b t = counted_before s.rows.now s.indexed.now.events b t
+
 -- the variables whose turn it is: their numbers leave this remainder
 abbrev pub IsTurn : ℕ → ℕ → ℕ → Type 0
 IsTurn every from x = x % every ≡ from
@@ -126,6 +141,10 @@ IsOwn s = IsTurn s.every s.from
 -- the findings so far on the variables whose turn it is
 abbrev pub AreFoundBelow : Search → ℕ → List Least → Type 0
 AreFoundBelow s x leasts = AreSoFar s.indexed.now (slice_index s.places.now) s.groups.now.rows.items s.most (IsOwn s) x leasts
+
+-- all pairs of the variable are taken
+abbrev pub AreAllTakenOf : Search → ℕ → List Least → Type 0
+AreAllTakenOf s = AreAllTaken s.indexed.now (slice_index s.places.now) s.groups.now.rows.items s.most
 
 -- The same while x, one of these variables, is visited.
 pub record AreFound (s : Search) (x : ℕ) (leasts : List Least) : Type 0 where
@@ -155,6 +174,14 @@ abbrev pub AreTakenWith : Search → List Least → Lane → Later → Type 0
 AreTakenWith s leasts l later =
     (k : ℕ) → k < length l.events.items → IsPair s.indexed.now.events (slice_index l.events.items k) later.event
     → IsTaken s.indexed.now (slice_index s.places.now) s.groups.now.rows.items s.most later.variable leasts (slice_index l.events.items k) later.event
+
+-- the same for all lanes
+abbrev pub AreTakenWithAll : Search → List Least → List Lane → Later → Type 0
+AreTakenWithAll s leasts lanes later = (at : ℕ) (l : Lane) → slice_get lanes at ≡ Some l → AreTakenWith s leasts l later
+
+-- the lane has no event, or its events do not conflict with the later one
+abbrev pub AreNotClashing : Lane → Later → Type 0
+AreNotClashing l later = (length l.events.items ≡ 0) ⊎ (l.thread ≡ later.thread) ⊎ ((l.is_writing ≡ false) × (later.is_writing ≡ false))
 
 -- A lane of events that are not after the later one, and conflict with it.
 pub record AreClashing (s : Search) (l : Lane) (later : Later) : Type 0 where
@@ -197,3 +224,26 @@ pub record IsWindow (sought : Sought) (s : Search) (w : Window) : Type 0 where
 abbrev pub WasSeen : Sought → Search → Window → ℕ → ℕ → Type 0
 WasSeen Candidates s w p k = slice_index w.lane.now.events.items k < p
 WasSeen Opens s w p k = place_of s.indexed.now.events (slice_index w.lane.now.events.items k) < known_before s.indexed.now.events p w.lane.now.thread
+
+-- the events of the window below index n were compared with the previous event
+abbrev pub WereSeen : Sought → Search → Window → ℕ → Type 0
+WereSeen sought s w n = (k : ℕ) → w.from ≤ k → k < n → (p : ℕ) × (w.later.previous ≡ Some p) × WasSeen sought s w p k
+
+-- the pair of the lane's event at index k with the later one is held
+abbrev pub HasEventAt : Sought → Search → List Least → Window → ℕ → Type 0
+HasEventAt sought s leasts w k = Has sought s leasts (of_window w) (slice_index w.lane.now.events.items k) w.later.event
+
+-- all pairs of the window are held
+abbrev pub HasWindow : Sought → Search → List Least → Window → Type 0
+HasWindow sought s leasts w = (k : ℕ) → w.from ≤ k → k < w.end → HasEventAt sought s leasts w k
+
+-- those of the kind that is sought
+abbrev pub HasOfKind : Sought → Search → List Least → Window → Type 0
+HasOfKind sought s leasts w =
+    (k : ℕ) → w.from ≤ k → k < w.end
+    → IsKind s.indexed.now (slice_index w.lane.now.events.items k) w.later.event (kind_of sought) → HasEventAt sought s leasts w k
+
+-- those of one bunch
+abbrev pub HasOfBunch : Sought → Search → List Least → Window → Bunch → Type 0
+HasOfBunch sought s leasts w bunch =
+    (k : ℕ) → w.from ≤ k → k < w.end → Contains bunch.events.items (slice_index w.lane.now.events.items k) → HasEventAt sought s leasts w k

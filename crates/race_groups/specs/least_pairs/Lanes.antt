@@ -2,6 +2,7 @@
 -- a trace; `numbers` has the number of each event's class.
 use Rattle.std.specs.Prelude.{◌≡◌, ℕ, ◌<◌, ◌≤◌, true, Bool, List, length, filter, All, Contains, IfSome, slice_get, slice_index, Some, Vec}
 use Rattle.std.specs.declared.alloc.Global.{Global}
+use Rattle.rapid_text.specs.Recording.{Recording}
 use Rattle.rapid_text.specs.declared.event.Event.{Event}
 use Rattle.rapid_text.specs.declared.event.Op.{Op}
 use Rattle.rapid_text.specs.declared.event.Op.TheVariants.{Read, Write}
@@ -14,6 +15,10 @@ use Rattle.race_groups.specs.declared.least_pairs.lanes.Later.{Later}
 -- For each variable its accesses, in the order of the trace.
 abbrev pub AreAccesses : List Event → ℕ → List (Vec ℕ Global) → Type 0
 AreAccesses T n accesses = (x : ℕ) (v : Vec ℕ Global) → slice_get accesses x ≡ Some v → v.items ≡ filter (is_access_at T x) (before n)
+
+-- the same for all events of a trace
+abbrev pub AreAllAccesses : Recording → List (Vec ℕ Global) → Type 0
+AreAllAccesses r = AreAccesses r.events (length r.events)
 
 -- a write of the variable, or a read of it
 abbrev pub access_op : Bool → ℕ → Op

@@ -1,5 +1,5 @@
 -- What remembered candidates mean. No public clause cites this module.
-use Rattle.std.specs.Prelude.{◌≡◌, ℕ, ◌<◌, ◌≤◌, All, List, slice_index}
+use Rattle.std.specs.Prelude.{◌≡◌, ℕ, ◌<◌, ◌≤◌, All, Contains, List, slice_index}
 use Rattle.race_groups.specs.least_pairs.Going.{HasCandidate}
 use Rattle.race_groups.specs.least_pairs.Pairs.{IsPair}
 use Rattle.race_groups.specs.declared.least_pairs.least.Least.{Least}
@@ -20,3 +20,8 @@ pub record IsTrueNote (s : Search) (x : ℕ) (leasts : List Least) (n : Note) : 
 
 abbrev pub AreTrueNotes : Search → ℕ → List Least → Noted → Type 0
 AreTrueNotes s x leasts noted = All (IsTrueNote s x leasts) noted.notes.items
+
+-- a note of the variable and the two places whose later event comes before this one
+abbrev pub HasNote : Noted → ℕ → ℕ → ℕ → ℕ → Type 0
+HasNote noted x first second later =
+    (n : Note) × Contains noted.notes.items n × (n.variable ≡ x) × (n.first ≡ first) × (n.second ≡ second) × (n.later < later)

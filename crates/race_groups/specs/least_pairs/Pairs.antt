@@ -1,7 +1,7 @@
 -- The pairs of events that represent a pair of places: the least of a kind, and the least open ones of each variable
 -- and two threads. A pair is given by its later event and then by its earlier one. `T` is the events of a trace, `r`
 -- its recording; `place` has the place of each event. All notions here are this project's own.
-use Rattle.std.specs.Prelude.{◌≡◌, ◌⊎◌, ℕ, ◌<◌, ◌≤◌, true, Bool, List, length, All, AllPairs, Any, Option, Some, None, Vec, ⊤}
+use Rattle.std.specs.Prelude.{◌≡◌, ◌⊎◌, ℕ, ◌<◌, ◌≤◌, true, Bool, List, length, All, AllPairs, Any, slice_get, slice_index, Option, Some, None, Vec, ⊤}
 use Rattle.std.specs.declared.alloc.Global.{Global}
 use Rattle.rapid_text.specs.Recording.{Recording}
 use Rattle.rapid_text.specs.declared.event.Event.{Event}
@@ -15,9 +15,12 @@ use Rattle.race_groups.specs.Found.{AreComplete, AreOnce}
 use Rattle.race_groups.specs.Groups.{is_between, IsCountOf}
 use Rattle.race_groups.specs.Kinds.{IsRow}
 use Rattle.race_groups.specs.declared.class.Class.{Class}
+use Rattle.race_groups.specs.declared.classes.Classes.{Classes}
+use Rattle.race_groups.specs.declared.kinds.Groups.{Groups}
 use Rattle.race_groups.specs.declared.kinds.Row.{Row}
 use Rattle.race_groups.specs.least_pairs.Order.{IsAhead, IsUpTo}
 use Rattle.race_groups.specs.declared.least_pairs.least.Least.{Least}
+use Rattle.race_groups.specs.declared.least_pairs.sharing.Counted.{Counted}
 use Rattle.race_groups.specs.declared.least_pairs.tries.Between.{Between}
 use Rattle.race_groups.specs.declared.least_pairs.tries.Try.{Try}
 use Rattle.race_groups.specs.declared.least_pairs.wanted.Wanted.{Wanted}
@@ -30,6 +33,22 @@ pub record AreGroups (r : Recording) (place : ℕ → ℕ) (numbers : List ℕ) 
   pub rows_are : All (IsRow r place) rows
   pub complete : AreComplete r.events place rows
   pub once : AreOnce rows
+
+-- the same with the classes and the rows as whole tables
+abbrev pub AreGroupsOf : Recording → (ℕ → ℕ) → Classes → Groups → Type 0
+AreGroupsOf r place c g = AreGroups r place c.numbers.items c.infos.items c.lists.keys g.rows.items
+
+-- what was counted is of one trace
+abbrev pub AreCountedGroups : Counted → Type 0
+AreCountedGroups c = AreGroupsOf c.indexed.now (slice_index c.places.now) c.classes.now c.groups.now
+
+-- one element for each row
+abbrev pub IsOneForEach : {X : Type 0} → Groups → Vec X Global → Type 0
+IsOneForEach g found = length found.items ≡ length g.rows.items
+
+-- the same for what was counted
+abbrev pub IsOneForEachRow : {X : Type 0} → Counted → Vec X Global → Type 0
+IsOneForEachRow c = IsOneForEach c.groups.now
 
 -- a and b are events of the trace that conflict, and a is the earlier
 pub record IsPair (T : List Event) (a b : ℕ) : Type 0 where
@@ -58,6 +77,12 @@ abbrev pub IsLeastPair : Recording → (ℕ → ℕ) → ℕ × ℕ → Wanted �
 IsLeastPair r place places wanted None = (a b : ℕ) → ¬ IsFit r place places wanted a b
 IsLeastPair r place places wanted (Some p) =
     IsFit r place places wanted p.1 p.0 × ((a b : ℕ) → IsFit r place places wanted a b → IsUpTo p (b, a))
+
+-- the least conflicting pair of each row
+abbrev pub AreFirstPairs : Recording → (ℕ → ℕ) → Groups → Vec (Option (ℕ × ℕ)) Global → Type 0
+AreFirstPairs r place g found =
+    (at : ℕ) (row : Row) (first : Option (ℕ × ℕ)) → slice_get g.rows.items at ≡ Some row → slice_get found.items at ≡ Some first
+    → IsLeastPair r place row.places AnyKind first
 
 -- whether the event exists and accesses the variable
 abbrev pub is_access_at : List Event → ℕ → ℕ → Bool
@@ -100,3 +125,13 @@ pub record AreLeasts (r : Recording) (place : ℕ → ℕ) (places : ℕ × ℕ)
   pub candidate : IsLeastPair r place places Candidate found.candidate
   pub tries : found.candidate ≡ None → AreFirstTries r place places most found.tries.items
   pub variables : IsCountOf (HasPair r place places) (before (length r.variables)) found.variables
+
+-- the findings on each row
+abbrev pub AreAllLeasts : Recording → (ℕ → ℕ) → Groups → ℕ → Vec Least Global → Type 0
+AreAllLeasts r place g most found =
+    (at : ℕ) (row : Row) (l : Least) → slice_get g.rows.items at ≡ Some row → slice_get found.items at ≡ Some l
+    → AreLeasts r place row.places most l
+
+-- the same for what was counted
+abbrev pub AreLeastsOf : Counted → Vec Least Global → Type 0
+AreLeastsOf c = AreAllLeasts c.indexed.now (slice_index c.places.now) c.groups.now c.most

@@ -55,9 +55,24 @@ pub record AreUses (T : List Event) (place : ℕ → ℕ) (x : ℕ) (es : List �
   pub each : All (IsUse T place x) uses
   pub used : All (IsUsed T place x uses) es
 
+-- the same for the trace and the places that are asked for
+abbrev pub IsUseOf : Places → ℕ → Use → Type 0
+IsUseOf s = IsUse s.indexed.now.events (slice_index s.places.now)
+
+abbrev pub AreUsesOf : Places → ℕ → List ℕ → List Use → Type 0
+AreUsesOf s = AreUses s.indexed.now.events (slice_index s.places.now)
+
+-- the uses of these accesses become those with one more access
+abbrev pub IsAccessNoted : Places → ℕ → ℕ → List Use → List Use → Type 0
+IsAccessNoted s x e old new = (es : List ℕ) → AreUsesOf s x es old → AreUsesOf s x (es ++ e ∷ []) new
+
 -- neither event of the use comes after event e
 abbrev pub IsBehind : ℕ → Use → Type 0
 IsBehind e u = (u.first.event ≤ e) × (u.other.event ≤ e)
+
+-- no event of the uses comes after n, if none did before, and event e does not either
+abbrev pub StayBehind : ℕ → List Use → List Use → Type 0
+StayBehind e old new = (n : ℕ) → e ≤ n → All (IsBehind n) old → All (IsBehind n) new
 
 -- The use v is the use u with one more event f.
 pub record IsWidened (u : Use) (f : Of) (v : Use) : Type 0 where
@@ -67,6 +82,10 @@ pub record IsWidened (u : Use) (f : Of) (v : Use) : Type 0 where
   pub other : (v.other ≡ u.other) ⊎ (v.other ≡ f)
   pub kept : (e t : ℕ) → IsCovered u e t → IsCovered v e t
   pub taken : IsBehind f.event u → IsCovered v f.event f.thread
+
+-- the use at this index is of this place, and of this kind of access
+abbrev pub IsUseAt : List Use → ℕ → Bool → ℕ → Type 0
+IsUseAt uses at writing k = (u : Use) × (slice_get uses k ≡ Some u) × IsAlike at writing u
 
 -- one of the uses got the event f
 pub record IsUseWidened (at : ℕ) (writing : Bool) (f : Of) (old new : List Use) : Type 0 where
@@ -155,3 +174,24 @@ pub record AreUsesHeld (T : List Event) (place : ℕ → ℕ) (x : ℕ) (rows : 
 -- all pairs of the variable x are held
 abbrev pub AreFirstsHeld : List Event → (ℕ → ℕ) → List Row → ℕ → List (Option (ℕ × ℕ)) → Type 0
 AreFirstsHeld T place rows x firsts = (a b : ℕ) → IsPair T a b → is_access_at T x a ≡ true → IsFirstHeld place rows firsts a b
+
+-- the same for the trace and the rows that are asked for
+abbrev pub HasFirsts : Places → List (Option (ℕ × ℕ)) → Type 0
+HasFirsts s = AreFirsts s.indexed.now (slice_index s.places.now) s.groups.now.rows.items
+
+abbrev pub HasNoted : Places → List (Option (ℕ × ℕ)) → List (Option (ℕ × ℕ)) → Type 0
+HasNoted s = AreFirstsNoted s.indexed.now (slice_index s.places.now) s.groups.now.rows.items
+
+abbrev pub HoldsPair : Places → List (Option (ℕ × ℕ)) → ℕ → ℕ → Type 0
+HoldsPair s = IsFirstHeld (slice_index s.places.now) s.groups.now.rows.items
+
+abbrev pub HoldsUses : Places → ℕ → List (Option (ℕ × ℕ)) → Use → Use → Type 0
+HoldsUses s x = AreUsesHeld s.indexed.now.events (slice_index s.places.now) x s.groups.now.rows.items
+
+abbrev pub HoldsVariable : Places → ℕ → List (Option (ℕ × ℕ)) → Type 0
+HoldsVariable s = AreFirstsHeld s.indexed.now.events (slice_index s.places.now) s.groups.now.rows.items
+
+-- if the use u writes, its pairs with all these uses are held
+abbrev pub HoldsAllUses : Places → ℕ → List Use → List (Option (ℕ × ℕ)) → Use → Type 0
+HoldsAllUses s x uses firsts u =
+    u.is_writing ≡ true → (k : ℕ) (v : Use) → slice_get uses k ≡ Some v → HoldsUses s x firsts u v

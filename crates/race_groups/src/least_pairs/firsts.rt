@@ -1,11 +1,8 @@
 //! The least conflicting pair of each pair of places.
-ghost use Rattle.std.specs.Prelude.{◌≡◌, ◌∷◌, ◌++◌, [], ◌≤◌, ℕ, true, filter, All, IfOk, IfSome, List, None, OnOk, Option, Some, length, slice_get, slice_index};
+ghost use Rattle.std.specs.Prelude.{◌≡◌, true, filter, All, IfOk, IfSome, None, OnOk, length, slice_index};
 ghost use Rattle.event_index.specs.Lookups.{before};
-ghost use Rattle.race_groups.specs.declared.kinds.Row.{Row as Counted};
-ghost use Rattle.race_groups.specs.least_pairs.Pairs.{AreAt, AreGroups, IsLeastPair, IsPair, is_access_at};
-ghost use Rattle.race_groups.specs.least_pairs.Uses.{AreFirsts, AreFirstsHeld, AreFirstsNoted, AreRuns, AreUses, AreUsesHeld, HoldsBetween, IsAsked, IsBehind, IsFirstHeld, IsPairBetween, IsPairOf, IsUse};
-ghost use Rattle.race_groups.specs.declared.least_pairs.uses.Use.{Use as Other};
-ghost use Rattle.race_groups.specs.declared.least_pairs.wanted.Wanted.TheVariants.{Any as AnyKind};
+ghost use Rattle.race_groups.specs.least_pairs.Pairs.{AreAt, IsPair, is_access_at, AreFirstPairs, AreGroupsOf, IsOneForEach};
+ghost use Rattle.race_groups.specs.least_pairs.Uses.{AreRuns, HoldsBetween, IsAsked, IsBehind, IsPairBetween, IsPairOf, AreUsesOf, HasFirsts, HasNoted, HoldsAllUses, HoldsPair, HoldsUses, HoldsVariable, IsAccessNoted, IsUseOf, StayBehind};
 
 use crate::least_pairs::lanes::accesses_of;
 use crate::least_pairs::tries::{Pair, lesser};
@@ -26,11 +23,9 @@ pub fn firsts_of(
     groups: &Groups,
 ) -> Result<Vec<Option<Pair>>, OutOfMemory>
     requires places { length places.now ≡ length indexed.now.events }
-    requires groups { AreGroups indexed.now (slice_index places.now) classes.now.numbers.items classes.now.infos.items classes.now.lists.keys
-        groups.now.rows.items }
-    ensures len { IfOk result (λ found. length found.items ≡ length groups.now.rows.items) }
-    ensures firsts { IfOk result (λ found. (at : ℕ) (row : Counted) (first : Option (ℕ × ℕ)) → slice_get groups.now.rows.items at ≡ Some row
-        → slice_get found.items at ≡ Some first → IsLeastPair indexed.now (slice_index places.now) row.places AnyKind first) }
+    requires groups { AreGroupsOf indexed.now (slice_index places.now) classes.now groups.now }
+    ensures len { IfOk result (IsOneForEach groups.now) }
+    ensures firsts { IfOk result (AreFirstPairs indexed.now (slice_index places.now) groups.now) }
 {
     let asked = Places {
         indexed,
@@ -65,11 +60,9 @@ impl Places<'_> {
     ) -> Result<(), OutOfMemory>
         requires asked { IsAsked self.now }
         requires accesses { accesses.now ≡ filter (is_access_at self.now.indexed.now.events variable) (before (length self.now.indexed.now.events)) }
-        requires firsts { AreFirsts self.now.indexed.now (slice_index self.now.places.now) self.now.groups.now.rows.items firsts.old.items }
-        ensures noted { OnOk result (AreFirstsNoted self.now.indexed.now (slice_index self.now.places.now) self.now.groups.now.rows.items
-            firsts.old.items firsts.new.items) }
-        ensures held { OnOk result (AreFirstsHeld self.now.indexed.now.events (slice_index self.now.places.now) self.now.groups.now.rows.items variable
-            firsts.new.items) }
+        requires firsts { HasFirsts self.now firsts.old.items }
+        ensures noted { OnOk result (HasNoted self.now firsts.old.items firsts.new.items) }
+        ensures held { OnOk result (HoldsVariable self.now variable firsts.new.items) }
     {
         let found = self.uses_of(alloc, variable, accesses)?;
         let uses = found.as_slice();
@@ -90,7 +83,7 @@ impl Places<'_> {
     ) -> Result<Vec<Use>, OutOfMemory>
         requires asked { IsAsked self.now }
         requires accesses { accesses.now ≡ filter (is_access_at self.now.indexed.now.events variable) (before (length self.now.indexed.now.events)) }
-        ensures { IfOk result (λ uses. AreUses self.now.indexed.now.events (slice_index self.now.places.now) variable accesses.now uses.items) }
+        ensures { IfOk result (λ uses. AreUsesOf self.now variable accesses.now uses.items) }
     {
         let mut uses = Vec::new(alloc);
         let mut index = IndexMap::new(alloc);
@@ -111,10 +104,8 @@ impl Places<'_> {
         requires asked { IsAsked self.now }
         requires access { is_access_at self.now.indexed.now.events variable event ≡ true }
         requires behind { All (IsBehind event) uses.old.items }
-        ensures uses { OnOk result ((es : List ℕ)
-            → AreUses self.now.indexed.now.events (slice_index self.now.places.now) variable es uses.old.items
-            → AreUses self.now.indexed.now.events (slice_index self.now.places.now) variable (es ++ event ∷ []) uses.new.items) }
-        ensures behind { OnOk result ((n : ℕ) → event ≤ n → All (IsBehind n) uses.old.items → All (IsBehind n) uses.new.items) }
+        ensures uses { OnOk result (IsAccessNoted self.now variable event uses.old.items uses.new.items) }
+        ensures behind { OnOk result (StayBehind event uses.old.items uses.new.items) }
     {
         let found = self.indexed.event(event);
         let of = Of {
@@ -137,14 +128,12 @@ impl Places<'_> {
         one: Use,
     )
         requires asked { IsAsked self.now }
-        requires firsts { AreFirsts self.now.indexed.now (slice_index self.now.places.now) self.now.groups.now.rows.items firsts.old.items }
-        requires uses { All (IsUse self.now.indexed.now.events (slice_index self.now.places.now) variable) uses.now }
-        requires one { IsUse self.now.indexed.now.events (slice_index self.now.places.now) variable one }
+        requires firsts { HasFirsts self.now firsts.old.items }
+        requires uses { All (IsUseOf self.now variable) uses.now }
+        requires one { IsUseOf self.now variable one }
         requires runs { AreRuns uses.now runs.now }
-        ensures noted { AreFirstsNoted self.now.indexed.now (slice_index self.now.places.now) self.now.groups.now.rows.items
-            firsts.old.items firsts.new.items }
-        ensures held { one.is_writing ≡ true → (k : ℕ) (v : Other) → slice_get uses.now k ≡ Some v
-            → AreUsesHeld self.now.indexed.now.events (slice_index self.now.places.now) variable self.now.groups.now.rows.items firsts.new.items one v }
+        ensures noted { HasNoted self.now firsts.old.items firsts.new.items }
+        ensures held { HoldsAllUses self.now variable uses.now firsts.new.items one }
     {
         if !one.is_writing {
             return;
@@ -163,14 +152,12 @@ impl Places<'_> {
     // Adds the least pair of two uses, the first of which writes.
     fn note_uses(&self, firsts: &mut Vec<Option<Pair>>, _variable: u32, one: Use, other: Use)
         requires asked { IsAsked self.now }
-        requires firsts { AreFirsts self.now.indexed.now (slice_index self.now.places.now) self.now.groups.now.rows.items firsts.old.items }
-        requires one { IsUse self.now.indexed.now.events (slice_index self.now.places.now) _variable one }
-        requires other { IsUse self.now.indexed.now.events (slice_index self.now.places.now) _variable other }
+        requires firsts { HasFirsts self.now firsts.old.items }
+        requires one { IsUseOf self.now _variable one }
+        requires other { IsUseOf self.now _variable other }
         requires writes { one.is_writing ≡ true }
-        ensures noted { AreFirstsNoted self.now.indexed.now (slice_index self.now.places.now) self.now.groups.now.rows.items
-            firsts.old.items firsts.new.items }
-        ensures held { AreUsesHeld self.now.indexed.now.events (slice_index self.now.places.now) _variable self.now.groups.now.rows.items
-            firsts.new.items one other }
+        ensures noted { HasNoted self.now firsts.old.items firsts.new.items }
+        ensures held { HoldsUses self.now _variable firsts.new.items one other }
     {
         if let Some(pair) = least_of(one, other) {
             self.note_pair(firsts, one.place, other.place, pair);
@@ -180,12 +167,11 @@ impl Places<'_> {
     // Adds a conflicting pair of two places.
     fn note_pair(&self, firsts: &mut Vec<Option<Pair>>, first: u32, second: u32, pair: Pair)
         requires asked { IsAsked self.now }
-        requires firsts { AreFirsts self.now.indexed.now (slice_index self.now.places.now) self.now.groups.now.rows.items firsts.old.items }
+        requires firsts { HasFirsts self.now firsts.old.items }
         requires pair { IsPair self.now.indexed.now.events pair.1 pair.0 }
         requires places { AreAt (slice_index self.now.places.now) (first, second) pair.1 pair.0 }
-        ensures noted { AreFirstsNoted self.now.indexed.now (slice_index self.now.places.now) self.now.groups.now.rows.items
-            firsts.old.items firsts.new.items }
-        ensures held { IsFirstHeld (slice_index self.now.places.now) self.now.groups.now.rows.items firsts.new.items pair.1 pair.0 }
+        ensures noted { HasNoted self.now firsts.old.items firsts.new.items }
+        ensures held { HoldsPair self.now firsts.new.items pair.1 pair.0 }
     {
         if let Some(row) = self.groups.row_of(first, second) {
             firsts[row] = lesser(firsts[row], Some(pair));

@@ -1,7 +1,7 @@
 //! The accesses of one variable, by thread and kind of access.
 ghost use Rattle.std.specs.Prelude.{◌≡◌, ◌≢◌, ℕ, ◌+◌, [], ◌∷◌, ◌<◌, ◌≤◌, true, length, Contains, IfOk, IfSome, OnOk, None, Some, slice_get, slice_index};
 ghost use Rattle.event_index.specs.Relations.{is_access};
-ghost use Rattle.race_groups.specs.least_pairs.Lanes.{AreAccesses, IsInLanes, IsLater, IsRising, access_op};
+ghost use Rattle.race_groups.specs.least_pairs.Lanes.{AreAccesses, IsInLanes, IsLater, IsRising, access_op, AreAllAccesses};
 ghost use Rattle.race_groups.specs.least_pairs.Making.{AreBegun, AreBunchesGrown, AreLanesGrown, IsBunchOf, IsEventAdded, IsLaneOf, IsOfBunch};
 ghost use Rattle.race_groups.specs.least_pairs.Pairs.{is_access_at};
 ghost use Rattle.rapid_text.specs.Appended.{Appended};
@@ -71,7 +71,7 @@ type Index = IndexMap<(usize, u32), usize, TextKeyed>;
 /// For each variable its accesses, in the order of the trace.
 pub(crate) fn accesses_of(alloc: Global, indexed: &Indexed) -> Result<Vec<Vec<u32>>, OutOfMemory>
     ensures len { IfOk result (λ accesses. length accesses.items ≡ length indexed.now.variables) }
-    ensures accesses { IfOk result (λ accesses. AreAccesses indexed.now.events (length indexed.now.events) accesses.items) }
+    ensures accesses { IfOk result (λ accesses. AreAllAccesses indexed.now accesses.items) }
 {
     let mut accesses = Vec::with_capacity(alloc, indexed.variables() as usize)?;
     for _variable in 0..indexed.variables() {

@@ -83,8 +83,7 @@ impl Least {
         self.variables += part.variables;
         self.last = None;
         self.candidate = lesser(self.candidate, part.candidate);
-        join_tries(&mut self.tries, most, part.tries.as_slice())?;
-        Ok(())
+        join_tries(&mut self.tries, most, part.tries.as_slice())
     }
 }
 

@@ -1,13 +1,12 @@
 //! For each pair of places its least candidate, its least open pairs, and the number of variables with one of either.
-ghost use Rattle.std.specs.Prelude.{◌≡◌, ℕ, ◌+◌, ◌<◌, All, IfOk, OnOk, Some, true, false, filter, length, slice_get, slice_index};
+ghost use Rattle.std.specs.Prelude.{◌≡◌, ◌+◌, ◌<◌, All, IfOk, OnOk, true, false, filter, length, slice_index};
 ghost use Rattle.event_index.specs.Lookups.{before};
 ghost use Rattle.race_groups.specs.declared.kinds.Row.{Row as Counted};
-ghost use Rattle.race_groups.specs.least_pairs.Going.{AreAllTaken, AreFound, AreFoundBelow, AreFoundOf, AreMore, IsOwn, IsSound};
-ghost use Rattle.race_groups.specs.least_pairs.Lanes.{AreAccesses};
+ghost use Rattle.race_groups.specs.least_pairs.Going.{AreFound, AreFoundBelow, AreFoundOf, AreMore, IsOwn, IsSound, AreAllTakenOf};
+ghost use Rattle.race_groups.specs.least_pairs.Lanes.{AreAllAccesses};
 ghost use Rattle.race_groups.specs.least_pairs.Noted.{AreTrueNotes};
 ghost use Rattle.race_groups.specs.least_pairs.Noting.{IsNothing};
-ghost use Rattle.race_groups.specs.least_pairs.Pairs.{AreGroups, AreLeasts, is_access_at};
-ghost use Rattle.race_groups.specs.declared.least_pairs.least.Least.{Least as Found};
+ghost use Rattle.race_groups.specs.least_pairs.Pairs.{is_access_at, AreAllLeasts, AreGroupsOf, IsOneForEach};
 
 use crate::least_pairs::lanes::{Lanes, accesses_of};
 use crate::least_pairs::least::Least;
@@ -34,12 +33,10 @@ pub fn leasts_of(
     requires clocks { clocks.now ≡ indexed.now }
     requires must { must.now ≡ indexed.now }
     requires places { length places.now ≡ length indexed.now.events }
-    requires groups { AreGroups indexed.now (slice_index places.now) classes.now.numbers.items classes.now.infos.items classes.now.lists.keys
-        groups.now.rows.items }
+    requires groups { AreGroupsOf indexed.now (slice_index places.now) classes.now groups.now }
     requires most { 0 < most }
-    ensures len { IfOk result (λ found. length found.items ≡ length groups.now.rows.items) }
-    ensures leasts { IfOk result (λ found. (at : ℕ) (row : Counted) (l : Found) → slice_get groups.now.rows.items at ≡ Some row
-        → slice_get found.items at ≡ Some l → AreLeasts indexed.now (slice_index places.now) row.places most l) }
+    ensures len { IfOk result (IsOneForEach groups.now) }
+    ensures leasts { IfOk result (AreAllLeasts indexed.now (slice_index places.now) groups.now most) }
 {
     known_tells_shb();
     let _len = indexed.len();
@@ -133,7 +130,7 @@ impl Search<'_> {
     ) -> Result<(), OutOfMemory>
         requires sound { IsSound self.now }
         requires len { length accesses.now ≡ length self.now.indexed.now.variables }
-        requires accesses { AreAccesses self.now.indexed.now.events (length self.now.indexed.now.events) accesses.now }
+        requires accesses { AreAllAccesses self.now.indexed.now accesses.now }
         requires found { AreFoundBelow self.now 0 leasts.old }
         ensures { OnOk result (AreFoundOf self.now (IsOwn self.now) leasts.new) }
     {
@@ -162,8 +159,7 @@ impl Search<'_> {
         ensures found { OnOk result (AreFoundBelow self.now (variable + 1) leasts.new) }
         ensures more { OnOk result (AreMore self.now.most variable leasts.old leasts.new) }
         ensures noted { OnOk result (AreTrueNotes self.now (variable + 1) leasts.new noted.new) }
-        ensures taken { OnOk result (IsOwn self.now variable → AreAllTaken self.now.indexed.now (slice_index self.now.places.now)
-            self.now.groups.now.rows.items self.now.most variable leasts.new) }
+        ensures taken { OnOk result (IsOwn self.now variable → AreAllTakenOf self.now variable leasts.new) }
     {
         if !self.is_own(variable) {
             return Ok(());
@@ -198,8 +194,7 @@ impl Search<'_> {
         ensures found { OnOk result (AreFound self.now variable leasts.new) }
         ensures more { OnOk result (AreMore self.now.most variable leasts.old leasts.new) }
         ensures noted { OnOk result (AreTrueNotes self.now variable leasts.new noted.new) }
-        ensures taken { OnOk result (AreAllTaken self.now.indexed.now (slice_index self.now.places.now) self.now.groups.now.rows.items self.now.most
-            variable leasts.new) }
+        ensures taken { OnOk result (AreAllTakenOf self.now variable leasts.new) }
     {
         let mut lanes = Lanes::new(alloc, self.classes);
         for event in accesses {

@@ -1,7 +1,6 @@
 //! Remembers candidates, so that a candidate that changes nothing is skipped without a look at its row.
-ghost use Rattle.std.specs.Prelude.{◌≡◌, ◌⊎◌, ◌<◌, true, All, Contains, IfOk};
-ghost use Rattle.race_groups.specs.least_pairs.Noted.{IsNothing};
-ghost use Rattle.race_groups.specs.declared.least_pairs.noted.Note.{Note as Other};
+ghost use Rattle.std.specs.Prelude.{◌≡◌, ◌⊎◌, true, All, Contains, IfOk};
+ghost use Rattle.race_groups.specs.least_pairs.Noted.{IsNothing, HasNote};
 
 use rapid_text::OutOfMemory;
 use std::alloc::Global;
@@ -57,8 +56,7 @@ impl Noted {
 
     /// Whether it remembers a candidate of the variable and these places whose later event is before `later`.
     pub(crate) fn has(&self, variable: u32, first: u32, second: u32, later: u32) -> bool
-        ensures { result ≡ true → (n : Other) × Contains self.now.notes.items n × (n.variable ≡ variable) × (n.first ≡ first) × (n.second ≡ second)
-            × (n.later < later) }
+        ensures { result ≡ true → HasNote self.now variable first second later }
     {
         let at = slot(first, second, self.width, self.notes.len());
         let Some(note) = self.notes.get(at) else {

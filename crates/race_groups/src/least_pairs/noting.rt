@@ -1,15 +1,12 @@
 //! Adds a pair that a search visits to the findings.
-ghost use Rattle.std.specs.Prelude.{◌≡◌, ◌≢◌, ℕ, ◌<◌, IfSome, OnOk, None, Some, true, length, slice_get, slice_index};
+ghost use Rattle.std.specs.Prelude.{◌≡◌, ◌≢◌, ℕ, ◌<◌, IfSome, OnOk, None, true, length};
 ghost use Rattle.must_order.specs.Kinds.{IsKind};
 ghost use Rattle.must_order.specs.MustBefore.{IsForced};
 ghost use Rattle.must_order.specs.declared.kind.Kind.TheVariants.{Candidate as CandidateKind};
-ghost use Rattle.race_groups.specs.Classes.{is_kept_pair};
 ghost use Rattle.race_groups.specs.Ends.{IsKnownBefore};
-ghost use Rattle.race_groups.specs.Shared.{keeps_shared};
-ghost use Rattle.race_groups.specs.declared.kinds.Row.{Row as Counted};
-ghost use Rattle.race_groups.specs.least_pairs.Going.{AreFound, AreMore, Has, HasCandidate, HasOpen, IsSought, IsSound};
+ghost use Rattle.race_groups.specs.least_pairs.Going.{AreFound, AreMore, Has, HasCandidate, HasOpen, IsSought, IsSound, IsRowOfPair, is_guarded_pair};
 ghost use Rattle.race_groups.specs.least_pairs.Noted.{AreTrueNotes};
-ghost use Rattle.race_groups.specs.least_pairs.Pairs.{AreAt, IsOf, IsPair, is_access_at};
+ghost use Rattle.race_groups.specs.least_pairs.Pairs.{IsOf, IsPair, is_access_at};
 
 use crate::are_sharing;
 use crate::least_pairs::least::Least;
@@ -150,8 +147,7 @@ impl Search<'_> {
     fn row_of(&self, first: u32, second: u32) -> Option<usize>
         requires sound { IsSound self.now }
         requires pair { IsPair self.now.indexed.now.events first second }
-        ensures found { IfSome result (λ at. (row : Counted) × (slice_get self.now.groups.now.rows.items at ≡ Some row)
-            × AreAt (slice_index self.now.places.now) row.places first second) }
+        ensures found { IfSome result (IsRowOfPair self.now first second) }
         ensures some { result ≢ None }
     {
         self.groups
@@ -162,7 +158,7 @@ impl Search<'_> {
     fn is_guarded(&self, first: u32, second: u32) -> bool
         requires sound { IsSound self.now }
         requires pair { IsPair self.now.indexed.now.events first second }
-        ensures { result ≡ is_kept_pair (keeps_shared self.now.classes.now.lists.keys) self.now.classes.now.numbers.items self.now.classes.now.infos.items first second }
+        ensures { result ≡ is_guarded_pair self.now first second }
     {
         let numbers = self.classes.numbers.as_slice();
         let infos = self.classes.infos.as_slice();

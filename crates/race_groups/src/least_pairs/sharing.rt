@@ -1,12 +1,11 @@
 //! Finds the least pairs with several workers: each visits the variables whose turn it is, and then their findings
 //! are joined.
-ghost use Rattle.std.specs.Prelude.{◌≡◌, ℕ, ◌+◌, ◌<◌, ◌≤◌, All, IfOk, OnOk, Result, Some, Vec, length, slice_get, slice_index, slice_index_or};
+ghost use Rattle.std.specs.Prelude.{◌≡◌, ℕ, ◌+◌, ◌<◌, ◌≤◌, All, IfOk, OnOk, Result, Vec, length, slice_index_or};
 ghost use Rattle.std.specs.declared.alloc.Global.{Global};
-ghost use Rattle.race_groups.specs.declared.kinds.Row.{Row as OneRow};
 ghost use Rattle.race_groups.specs.least_pairs.Going.{AreFoundOf, IsSound, IsTurn};
 ghost use Rattle.race_groups.specs.least_pairs.Joining.{AreJoined, IsBelow};
-ghost use Rattle.race_groups.specs.least_pairs.Lanes.{AreAccesses};
-ghost use Rattle.race_groups.specs.least_pairs.Pairs.{AreGroups, AreLeasts};
+ghost use Rattle.race_groups.specs.least_pairs.Lanes.{AreAllAccesses};
+ghost use Rattle.race_groups.specs.least_pairs.Pairs.{AreCountedGroups, AreLeastsOf, IsOneForEachRow};
 ghost use Rattle.race_groups.specs.least_pairs.Taking.{AreTries};
 ghost use Rattle.race_groups.specs.declared.least_pairs.least.Least.{Least as Found};
 
@@ -52,13 +51,10 @@ pub fn leasts_by_workers<R: Threads + Sync>(
     requires clocks { counted.clocks.now ≡ counted.indexed.now }
     requires must { counted.must.now ≡ counted.indexed.now }
     requires places { length counted.places.now ≡ length counted.indexed.now.events }
-    requires groups { AreGroups counted.indexed.now (slice_index counted.places.now) counted.classes.now.numbers.items
-        counted.classes.now.infos.items counted.classes.now.lists.keys counted.groups.now.rows.items }
+    requires groups { AreCountedGroups counted }
     requires most { 0 < counted.most }
-    ensures len { IfOk result (λ found. length found.items ≡ length counted.entry.groups.now.rows.items) }
-    ensures leasts { IfOk result (λ found. (at : ℕ) (row : OneRow) (l : Found)
-        → slice_get counted.entry.groups.now.rows.items at ≡ Some row → slice_get found.items at ≡ Some l
-        → AreLeasts counted.entry.indexed.now (slice_index counted.entry.places.now) row.places counted.entry.most l) }
+    ensures len { IfOk result (IsOneForEachRow counted.entry) }
+    ensures leasts { IfOk result (AreLeastsOf counted.entry) }
 {
     known_tells_shb();
     let _len = counted.indexed.len();
@@ -102,7 +98,7 @@ fn by_workers<R: Threads + Sync>(
         requires sound { IsSound search.now }
         requires every { 0 < every }
         requires len { length lists.now ≡ length search.now.indexed.now.variables }
-        requires accesses { AreAccesses search.now.indexed.now.events (length search.now.indexed.now.events) lists.now }
+        requires accesses { AreAllAccesses search.now.indexed.now lists.now }
         ensures { IfOk result (λ leasts. AreFoundOf search.entry.now (IsTurn every worker) leasts.items) }
     { part_of(search, alloc, lists, worker, every) };
     let parts = thread::map_indices(rt, alloc, every, &find_some)?;
@@ -120,7 +116,7 @@ fn part_of(
     requires sound { IsSound search.now }
     requires every { 0 < every }
     requires len { length accesses.now ≡ length search.now.indexed.now.variables }
-    requires accesses { AreAccesses search.now.indexed.now.events (length search.now.indexed.now.events) accesses.now }
+    requires accesses { AreAllAccesses search.now.indexed.now accesses.now }
     ensures { IfOk result (λ leasts. AreFoundOf search.now (IsTurn every from) leasts.items) }
 {
     let own = Search {

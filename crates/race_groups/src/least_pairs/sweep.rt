@@ -1,11 +1,10 @@
 //! Compares an access of a variable with all accesses before it.
-ghost use Rattle.std.specs.Prelude.{◌≡◌, ℕ, ◌+◌, ◌<◌, true, OnOk, Some, length, slice_get};
-ghost use Rattle.race_groups.specs.Ends.{known_before, counted_before};
-ghost use Rattle.race_groups.specs.least_pairs.Going.{AreClashing, AreFound, AreMore, AreTakenBefore, AreTakenWith, IsSound};
+ghost use Rattle.std.specs.Prelude.{◌≡◌, ◌+◌, ◌<◌, true, OnOk, length};
+ghost use Rattle.race_groups.specs.Ends.{known_before};
+ghost use Rattle.race_groups.specs.least_pairs.Going.{AreClashing, AreFound, AreMore, AreTakenBefore, AreTakenWith, IsSound, AreTakenWithAll, forced_below};
 ghost use Rattle.race_groups.specs.least_pairs.Lanes.{IsLater};
 ghost use Rattle.race_groups.specs.least_pairs.Making.{AreBegun, IsBegun};
 ghost use Rattle.race_groups.specs.least_pairs.Noted.{AreTrueNotes};
-ghost use Rattle.race_groups.specs.declared.least_pairs.lanes.Lane.{Lane as Other};
 
 use crate::least_pairs::lanes::{Lane, Later};
 use crate::least_pairs::least::Least;
@@ -41,7 +40,7 @@ impl Search<'_> {
         ensures found { OnOk result (AreFound self.now later.variable leasts.new) }
         ensures more { OnOk result (AreMore self.now.most later.variable leasts.old leasts.new) }
         ensures noted { OnOk result (AreTrueNotes self.now later.variable leasts.new noted.new) }
-        ensures taken { OnOk result ((at : ℕ) (lane : Other) → slice_get lanes.now at ≡ Some lane → AreTakenWith self.now leasts.new lane later) }
+        ensures taken { OnOk result (AreTakenWithAll self.now leasts.new lanes.now later) }
     {
         for at in 0..lanes.len() {
             self.below(leasts, noted, &lanes[at], later)?;
@@ -83,7 +82,7 @@ impl Search<'_> {
     fn are_forced(&self, lane: &Lane, later: Later) -> bool
         requires sound { IsSound self.now }
         requires lanes { AreClashing self.now lane.now later }
-        ensures { result ≡ true → lane.now.last < counted_before self.now.rows.now self.now.indexed.now.events later.event lane.now.thread }
+        ensures { result ≡ true → lane.now.last < forced_below self.now later.event lane.now.thread }
     {
         lane.last < self.forced_end(later.event, lane.thread)
     }
@@ -93,7 +92,7 @@ impl Search<'_> {
         requires sound { IsSound self.now }
         requires lanes { AreClashing self.now lane.now later }
         ensures known { result.known ≡ known_before self.now.indexed.now.events later.event lane.now.thread }
-        ensures forced { result.forced ≡ counted_before self.now.rows.now self.now.indexed.now.events later.event lane.now.thread }
+        ensures forced { result.forced ≡ forced_below self.now later.event lane.now.thread }
     {
         Ends {
             known: self.known_end(later.event, lane.thread),
@@ -159,7 +158,7 @@ impl Search<'_> {
         requires sound { IsSound self.now }
         requires event { event < length self.now.indexed.now.events }
         requires thread { thread < length self.now.indexed.now.threads }
-        ensures { result ≡ counted_before self.now.rows.now self.now.indexed.now.events event thread }
+        ensures { result ≡ forced_below self.now event thread }
     {
         match self.indexed.base(event) {
             None => 0,

@@ -1,9 +1,7 @@
 //! Adds the pairs of a window: each one, or the first one of each class.
-ghost use Rattle.std.specs.Prelude.{◌≡◌, ℕ, ◌<◌, ◌≤◌, Contains, OnOk, Some, slice_index};
-ghost use Rattle.must_order.specs.Kinds.{IsKind};
-ghost use Rattle.race_groups.specs.least_pairs.Going.{AreFound, AreMore, AreTakenBefore, Has, IsSound, IsWindow, WasSeen, has_some, kind_of};
+ghost use Rattle.std.specs.Prelude.{◌≡◌, ℕ, ◌<◌, ◌≤◌, Contains, OnOk, Some};
+ghost use Rattle.race_groups.specs.least_pairs.Going.{AreFound, AreMore, AreTakenBefore, IsSound, IsWindow, WasSeen, has_some, HasOfBunch, HasOfKind, HasWindow, WereSeen};
 ghost use Rattle.race_groups.specs.least_pairs.Noted.{AreTrueNotes};
-ghost use Rattle.race_groups.specs.least_pairs.Windows.{of_window};
 
 use crate::least_pairs::lanes::Bunch;
 use crate::least_pairs::least::Least;
@@ -31,9 +29,7 @@ impl Search<'_> {
         ensures found { OnOk result (AreFound self.now window.entry.later.variable leasts.new) }
         ensures more { OnOk result (AreMore self.now.most window.entry.later.variable leasts.old leasts.new) }
         ensures noted { OnOk result (AreTrueNotes self.now window.entry.later.variable leasts.new noted.new) }
-        ensures held { OnOk result ((k : ℕ) → window.entry.from ≤ k → k < window.entry.end
-            → IsKind self.now.indexed.now (slice_index window.entry.lane.now.events.items k) window.entry.later.event (kind_of sought)
-            → Has sought self.now leasts.new (of_window window.entry) (slice_index window.entry.lane.now.events.items k) window.entry.later.event) }
+        ensures held { OnOk result (HasOfKind sought self.now leasts.new window.entry) }
     {
         if !self.has(sought) || window.from >= window.end {
             return Ok(());
@@ -69,8 +65,7 @@ impl Search<'_> {
         requires some { window.from < window.end }
         ensures from { window.entry.from ≤ result }
         ensures within { result ≤ window.entry.end }
-        ensures seen { (k : ℕ) → window.entry.from ≤ k → k < result
-            → (p : ℕ) × (window.entry.later.previous ≡ Some p) × WasSeen sought self.now window.entry p k }
+        ensures seen { WereSeen sought self.now window.entry result }
     {
         match window.later.previous {
             Some(previous) => self.seen(sought, window, previous).max(window.from),
@@ -111,8 +106,7 @@ impl Search<'_> {
         ensures found { OnOk result (AreFound self.now window.entry.later.variable leasts.new) }
         ensures more { OnOk result (AreMore self.now.most window.entry.later.variable leasts.old leasts.new) }
         ensures noted { OnOk result (AreTrueNotes self.now window.entry.later.variable leasts.new noted.new) }
-        ensures held { OnOk result ((k : ℕ) → window.entry.from ≤ k → k < window.entry.end
-            → Has sought self.now leasts.new (of_window window.entry) (slice_index window.entry.lane.now.events.items k) window.entry.later.event) }
+        ensures held { OnOk result (HasWindow sought self.now leasts.new window.entry) }
     {
         for at in window.from..window.end {
             let two = Two {
@@ -145,8 +139,7 @@ impl Search<'_> {
         ensures found { OnOk result (AreFound self.now window.entry.later.variable leasts.new) }
         ensures more { OnOk result (AreMore self.now.most window.entry.later.variable leasts.old leasts.new) }
         ensures noted { OnOk result (AreTrueNotes self.now window.entry.later.variable leasts.new noted.new) }
-        ensures held { OnOk result ((k : ℕ) → window.entry.from ≤ k → k < window.entry.end
-            → Has sought self.now leasts.new (of_window window.entry) (slice_index window.entry.lane.now.events.items k) window.entry.later.event) }
+        ensures held { OnOk result (HasWindow sought self.now leasts.new window.entry) }
     {
         for at in 0..window.lane.bunches.len() {
             self.take_first(sought, leasts, noted, window, &window.lane.bunches[at])?;
@@ -172,9 +165,7 @@ impl Search<'_> {
         ensures found { OnOk result (AreFound self.now window.entry.later.variable leasts.new) }
         ensures more { OnOk result (AreMore self.now.most window.entry.later.variable leasts.old leasts.new) }
         ensures noted { OnOk result (AreTrueNotes self.now window.entry.later.variable leasts.new noted.new) }
-        ensures held { OnOk result ((k : ℕ) → window.entry.from ≤ k → k < window.entry.end
-            → Contains bunch.now.events.items (slice_index window.entry.lane.now.events.items k)
-            → Has sought self.now leasts.new (of_window window.entry) (slice_index window.entry.lane.now.events.items k) window.entry.later.event) }
+        ensures held { OnOk result (HasOfBunch sought self.now leasts.new window.entry bunch.now) }
     {
         let Some(first) = bunch.first(window.lane.events[window.from]) else {
             return Ok(());

@@ -1,9 +1,8 @@
 //! The reads of a variable at one place, or the writes, represented by the first ones.
-ghost use Rattle.std.specs.Prelude.{◌≡◌, ℕ, ◌<◌, true, IfOk, IfSome, OnOk, Some, length, slice_get, slice_index};
+ghost use Rattle.std.specs.Prelude.{◌≡◌, ℕ, ◌<◌, true, IfOk, IfSome, OnOk, length, slice_index};
 ghost use Rattle.event_index.specs.Relations.{is_access};
 ghost use Rattle.race_groups.specs.least_pairs.Lanes.{access_op};
-ghost use Rattle.race_groups.specs.least_pairs.Uses.{AreRuns, IsAlike, IsOwner, IsRun, IsUseNoted, IsWidened};
-ghost use Rattle.race_groups.specs.declared.least_pairs.uses.Use.{Use as Found};
+ghost use Rattle.race_groups.specs.least_pairs.Uses.{AreRuns, IsOwner, IsRun, IsUseNoted, IsWidened, IsUseAt};
 
 use indexmap::IndexMap;
 use rapid_text::{Op, OutOfMemory};
@@ -67,7 +66,7 @@ pub(crate) fn note_use(
 
 // The index of the use of this place, if it is known.
 fn use_number(uses: &[Use], index: &Index, place: u32, is_writing: bool) -> Option<usize>
-    ensures { IfSome result (λ at. (u : Found) × (slice_get uses.now at ≡ Some u) × IsAlike place is_writing u) }
+    ensures { IfSome result (IsUseAt uses.now place is_writing) }
 {
     let at = *index.get(&(place, u32::from(is_writing)))?;
     if is_at(uses, at, place, is_writing) {
@@ -78,7 +77,7 @@ fn use_number(uses: &[Use], index: &Index, place: u32, is_writing: bool) -> Opti
 
 // Whether the use at this index is of this place and kind of access.
 fn is_at(uses: &[Use], at: usize, place: u32, is_writing: bool) -> bool
-    ensures { result ≡ true → (u : Found) × (slice_get uses.now at ≡ Some u) × IsAlike place is_writing u }
+    ensures { result ≡ true → IsUseAt uses.now place is_writing at }
 {
     match uses.get(at) {
         Some(found) => found.place == place && found.is_writing == is_writing,

@@ -1,5 +1,6 @@
 //! The events of a lane with which an access is compared.
-ghost use Rattle.std.specs.Prelude.{◌≡◌, ℕ, ◌<◌, ◌≢◌, ◌⊎◌, ◌||◌, true, false, length};
+ghost use Rattle.std.specs.Prelude.{◌≡◌, ℕ, ◌<◌, ◌≢◌, ◌||◌, true, false, length};
+ghost use Rattle.race_groups.specs.least_pairs.Going.{AreNotClashing};
 
 use crate::least_pairs::lanes::{Lane, Later};
 use crate::least_pairs::tries::Between;
@@ -26,8 +27,7 @@ pub(crate) fn are_clashing(lane: &Lane, later: Later) -> bool
     ensures some { result ≡ true → 0 < length lane.now.events.items }
     ensures threads { result ≡ true → lane.now.thread ≢ later.thread }
     ensures writes { result ≡ true → (lane.now.is_writing || later.is_writing) ≡ true }
-    ensures none { result ≡ false → (length lane.now.events.items ≡ 0) ⊎ (lane.now.thread ≡ later.thread)
-        ⊎ ((lane.now.is_writing ≡ false) × (later.is_writing ≡ false)) }
+    ensures none { result ≡ false → AreNotClashing lane.now later }
 {
     if lane.thread == later.thread {
         return false;

@@ -7,8 +7,8 @@ use Rattle.race_groups.specs.Counts.{keeps}
 use Rattle.race_groups.proofs.WalkLemmas.{share_more, share_fits}
 use Rattle.race_groups.proofs.walk.add_run.Goals as goal
 
-pub share-share-requires : goal.share-share-requires
-share-share-requires g c =
+pub share-requires : goal.share-requires
+share-requires g c =
     let members = c.args.members.now in
     let i = c.loop-member.member-index in
     record { can = c.requires.can (slice_index members i) (All-get_or (λ k. k < length c.args.classes.now.infos.items) members i 0 c.loop-member-test.true c.requires.members) }
@@ -19,7 +19,7 @@ add_share-requires-clause-room g c = λ k p q le.
     let inv = c.loop-member.invariant.counts k p q le in
     let fits = share_fits (keeps c.args.classes.now.lists.keys k) p q c.args.later c.args.classes.now.infos.items counts c.args.members.now c.loop-member.member-index c.loop-member-test.true in
     let room = c.requires.room k p q le in
-    let is = c.share-share.ensures.amounts k in
+    let is = c.share.ensures.amounts k in
     omega (arith, inv, fits, room, is)
 
 pub loop-member-preserved : goal.loop-member-preserved
@@ -35,7 +35,7 @@ loop-member-preserved g c =
           let more = share_more (keeps c.args.classes.now.lists.keys k) p q c.args.later infos counts members i c.loop-member-test.true in
           let now = c.in_ok-add_share.ensures.ok k p q le in
           let inv = c.loop-member.invariant.counts k p q le in
-          let is = c.share-share.ensures.amounts k in
+          let is = c.share.ensures.amounts k in
           let same = ap (λ (n : ℕ). if adds_to (keeps c.args.classes.now.lists.keys k) p q c.args.later (slice_get infos m) then n else 0) is in
           omega (arith, now, inv, more, same);
     }
