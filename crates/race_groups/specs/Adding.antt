@@ -45,5 +45,6 @@ abbrev pub loose_in : Loose → Part → ℕ → ℕ
 loose_in loose = loose_of loose.earlier.now loose.known.now loose.forced.now
 
 -- each part grows by the loose pairs of the class with all classes
-abbrev pub AreLooseAdded : {S : Type 0} → Classes → Class → Loose → IndexMap (ℕ × ℕ) Sums S → IndexMap (ℕ × ℕ) Sums S → Type 0
+abbrev pub AreLooseAdded : {S : Type 0} → Classes → Class → Loose
+    → IndexMap (ℕ × ℕ) Sums S → IndexMap (ℕ × ℕ) Sums S → Type 0
 AreLooseAdded classes later loose = AreGrown classes later (loose_in loose) (before (length classes.infos.items))

@@ -51,7 +51,8 @@ AreFrontsBefore b u i fronts =
 -- the fronts of the three cuts are the ends of the event at index i of thread u
 abbrev pub AreMovedTo : Basis → ℕ → ℕ → Fronts → Type 0
 AreMovedTo b u i =
-    AreMoved b.indexed.now.events (length b.indexed.now.threads) u b.forced.now (slice_index (events_of b.indexed.now.events u) i)
+    AreMoved b.indexed.now.events (length b.indexed.now.threads) u b.forced.now
+    (slice_index (events_of b.indexed.now.events u) i)
 
 -- the number of pairs that event e of thread u has below a cut, among those that are kept and between two places
 abbrev pub later_of : Basis → ℕ → ℕ → (Class → Class → Bool) → (ℕ → ℕ → ℕ) → ℕ → ℕ → ℕ
@@ -89,15 +90,18 @@ abbrev pub IsLaterAdded : {S : Type 0} → Basis → ℕ → ℕ → IndexMap (�
 IsLaterAdded b u i = AreAdded b (later_of b u (slice_index (events_of b.indexed.now.events u) i))
 
 -- The same, unless the event is of a flagged class.
-abbrev pub IsLightAdded : {S : Type 0} → Basis → ℕ → ℕ → List ℕ → IndexMap (ℕ × ℕ) Sums S → IndexMap (ℕ × ℕ) Sums S → Type 0
+abbrev pub IsLightAdded : {S : Type 0} → Basis → ℕ → ℕ → List ℕ
+    → IndexMap (ℕ × ℕ) Sums S → IndexMap (ℕ × ℕ) Sums S → Type 0
 IsLightAdded b u i flags = AreAdded b (unflagged_of b u flags (slice_index (events_of b.indexed.now.events u) i))
 
 -- The same for the events of thread u that are of class c, if the class is flagged.
-abbrev pub IsFlaggedAdded : {S : Type 0} → Basis → ℕ → List ℕ → ℕ → IndexMap (ℕ × ℕ) Sums S → IndexMap (ℕ × ℕ) Sums S → Type 0
+abbrev pub IsFlaggedAdded : {S : Type 0} → Basis → ℕ → List ℕ → ℕ
+    → IndexMap (ℕ × ℕ) Sums S → IndexMap (ℕ × ℕ) Sums S → Type 0
 IsFlaggedAdded b u flags c = AreAdded b (flagged_of b u flags c)
 
 -- The same for all flagged classes.
-abbrev pub AreFlaggedAdded : {S : Type 0} → Basis → ℕ → List ℕ → IndexMap (ℕ × ℕ) Sums S → IndexMap (ℕ × ℕ) Sums S → Type 0
+abbrev pub AreFlaggedAdded : {S : Type 0} → Basis → ℕ → List ℕ
+    → IndexMap (ℕ × ℕ) Sums S → IndexMap (ℕ × ℕ) Sums S → Type 0
 AreFlaggedAdded b u flags = AreAdded b (all_flagged b u flags (length b.classes.now.infos.items))
 
 -- Each part grows by at most what is below its upper cut.

@@ -38,7 +38,8 @@ pub record AreNumbered (T : List Event) (place : ℕ → ℕ) (n : ℕ) (numbers
 
 -- the same as one table; `places` has the number of each event's place
 abbrev pub IsNumberedUpTo : Recording → List ℕ → ℕ → Numbering → Type 0
-IsNumberedUpTo r places n made = AreNumbered r.events (slice_index places) n made.numbers.items made.infos.items made.lists.keys
+IsNumberedUpTo r places n made =
+    AreNumbered r.events (slice_index places) n made.numbers.items made.infos.items made.lists.keys
 
 -- the classes are the same as before, or this one was appended
 abbrev pub AreClassesGrown : Class → List Class → List Class → Type 0

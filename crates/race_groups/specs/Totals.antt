@@ -29,7 +29,8 @@ IsOneNoted t old new = (w : ℕ → ℕ) → weighed_sum w new ≡ weighed_sum w
 -- the entries of this class grow by one event of thread t
 abbrev pub IsClassNoted : ℕ → ℕ → List (Vec (ℕ × ℕ) Global) → List (Vec (ℕ × ℕ) Global) → Type 0
 IsClassNoted class t old new =
-    (c : ℕ) (w : ℕ → ℕ) → weighed_sum w (entries_at new c) ≡ weighed_sum w (entries_at old c) + cond (class == c) (w t) 0
+    (c : ℕ) (w : ℕ → ℕ)
+    → weighed_sum w (entries_at new c) ≡ weighed_sum w (entries_at old c) + cond (class == c) (w t) 0
 
 -- the entries have only threads below n
 abbrev pub AreThreadsBelow : ℕ → List (ℕ × ℕ) → Type 0
@@ -79,7 +80,8 @@ IsClassSpread r c = AreSpread r.events (length r.threads) c.numbers.items (lengt
 
 -- the number of pairs of different threads that the events of a class have with those of class c
 abbrev pub pairs_of_class : Total → ℕ → ℕ
-pairs_of_class t c = t.times * slice_index t.totals.now c - weighed_sum (slice_index t.weights.now) (entries_at t.spread.now c)
+pairs_of_class t c =
+    t.times * slice_index t.totals.now c - weighed_sum (slice_index t.weights.now) (entries_at t.spread.now c)
 
 -- Each weight is the number of events of class j in its thread.
 pub record AreWeights (T : List Event) (threads : ℕ) (classes : List ℕ) (j : ℕ) (weights : List ℕ) : Type 0 where

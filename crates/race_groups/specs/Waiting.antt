@@ -25,7 +25,8 @@ IsCellRaised q p n old new = waiting_cell new q p ≡ waiting_cell old q p + n
 
 -- all cells but this one stay
 abbrev pub AreOthersKept : ℕ → ℕ → Waiting → Waiting → Type 0
-AreOthersKept later earlier old new = (p q : ℕ) → ¬ ((q ≡ later) × (p ≡ earlier)) → waiting_cell new q p ≡ waiting_cell old q p
+AreOthersKept later earlier old new =
+    (p q : ℕ) → ¬ ((q ≡ later) × (p ≡ earlier)) → waiting_cell new q p ≡ waiting_cell old q p
 
 -- all cells stay
 abbrev pub AreCellsKept : Waiting → Waiting → Type 0

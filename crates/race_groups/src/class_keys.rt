@@ -73,10 +73,7 @@ const SPREAD: usize = 40_503;
 
 // The number of places: one more than the greatest number of a place.
 fn width_of(places: &[u32]) -> usize {
-    let mut last = 0;
-    for place in places {
-        last = (*place).max(last);
-    }
+    let last = places.iter().copied().max().unwrap_or(0);
     (last as usize).saturating_add(1)
 }
 

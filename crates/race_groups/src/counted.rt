@@ -223,7 +223,8 @@ pub(crate) fn are_all(_rows: &Rows, _places: &[u32], _basis: Basis<'_>)
     requires classes { HaveClasses _basis.indexed.now.events (slice_index _places.now) _basis.classes.now }
     requires rows { AreRows _rows.now }
     requires joined { AreJoined _basis _basis.every _rows.now }
-    ensures { AreCountedBy _basis.entry.indexed.now.events (slice_index _places.now) _basis.entry.classes.now _rows.now }
+    ensures { AreCountedBy _basis.entry.indexed.now.events (slice_index _places.now) _basis.entry.classes.now
+        _rows.now }
 {}
 
 // Adds all pairs of the worker's classes, and the pairs of its threads below one cut and not below the next.

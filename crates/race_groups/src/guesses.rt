@@ -48,11 +48,7 @@ pub(crate) fn width_of(infos: &[Class]) -> usize {
 
 // The greatest number of a place.
 fn last_place(infos: &[Class]) -> u32 {
-    let mut last = 0;
-    for info in infos {
-        last = info.place.max(last);
-    }
-    last
+    infos.iter().map(|info| info.place).max().unwrap_or(0)
 }
 
 // The slot of the two places. All slots of one later place are side by side.

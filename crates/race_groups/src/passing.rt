@@ -41,8 +41,7 @@ impl Passed {
     {
         let _len = indexed.len();
         let event = indexed.thread_events(thread)[at];
-        let from = self.upto as usize;
-        self.count(&numbers[from..event as usize]);
+        self.count(&numbers[self.upto as usize..event as usize]);
         self.upto = event + 1;
     }
 
@@ -52,7 +51,8 @@ impl Passed {
         requires room { (c : ℕ) → c < length self.old.counts.items → slice_index self.old.counts.items c + length classes.now < 2 ^ 32 }
         ensures upto { self.new.upto ≡ self.old.upto }
         ensures len { length self.new.counts.items ≡ length self.old.counts.items }
-        ensures counted { AreRaised (λ c. count_by (λ k. k == c) classes.now) self.old.counts.items self.new.counts.items }
+        ensures counted { AreRaised (λ c. count_by (λ k. k == c) classes.now)
+            self.old.counts.items self.new.counts.items }
     {
         count_each(self.counts.as_mut_slice(), classes);
     }

@@ -195,7 +195,8 @@ fn add_or_wait(
     requires more { (k : Part) × (0 < part k more) }
     requires waiting { AreWaiting waiting.old.cells.items rows.old }
     requires room { (k : Part) (p q : ℕ) → p ≤ q → count_at k (rows_with waiting.old.cells.items rows.old) p q + part k more < 2 ^ 64 }
-    ensures ok { OnOk result (AreGrownBy (added_sums first second more) (rows_with waiting.old.cells.items rows.old) (rows_with waiting.new.cells.items rows.new)) }
+    ensures ok { OnOk result (AreGrownBy (added_sums first second more)
+        (rows_with waiting.old.cells.items rows.old) (rows_with waiting.new.cells.items rows.new)) }
     ensures waiting { AreWaiting waiting.new.cells.items rows.new }
 {
     if waiting.keep(first, second, more) {
@@ -309,9 +310,5 @@ pub(crate) fn ordered(first: u32, second: u32) -> (u32, u32)
     ensures rising { result.0 ≤ result.1 }
     ensures same { is_between result.0 result.1 first second ≡ true }
 {
-    if first <= second {
-        (first, second)
-    } else {
-        (second, first)
-    }
+    (first.min(second), first.max(second))
 }

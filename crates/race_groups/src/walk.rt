@@ -78,8 +78,7 @@ fn clash(first: Op, second: Op) -> bool
     ensures { result ≡ is_clash_of_ops first second }
 {
     match (first, second) {
-        (Op::Read(x), Op::Write(y)) | (Op::Write(x), Op::Read(y)) | (Op::Write(x), Op::Write(y)) =>
-            x == y,
+        (Op::Write(x), Op::Read(y) | Op::Write(y)) | (Op::Read(x), Op::Write(y)) => x == y,
         _ => false,
     }
 }

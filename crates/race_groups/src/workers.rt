@@ -189,7 +189,8 @@ fn add_rows(all: &mut GrowingRows, limit: u32, part: &Rows) -> Result<(), RowsRe
     ensures all { OnOk result (AreRows all.new) }
     ensures kept { OnOk result (index_map_len all.new ≤ limit) }
     ensures added { OnOk result (AreGrownBy (λ k. count_at k part.now) all.old all.new) }
-    ensures too_many { IfTooMany result (AreMore limit all.new × AreGrownUpTo (λ k. count_at k part.now) all.old all.new) }
+    ensures too_many { IfTooMany result (AreMore limit all.new
+        × AreGrownUpTo (λ k. count_at k part.now) all.old all.new) }
 {
     let rows = part.len();
     for at in 0..rows {

@@ -125,7 +125,8 @@ IsRowOfPair s a b at =
 
 -- whether the lists of locks of the two events have a common lock
 abbrev pub is_guarded_pair : Search → ℕ → ℕ → Bool
-is_guarded_pair s a b = is_kept_pair (keeps_shared s.classes.now.lists.keys) s.classes.now.numbers.items s.classes.now.infos.items a b
+is_guarded_pair s a b =
+    is_kept_pair (keeps_shared s.classes.now.lists.keys) s.classes.now.numbers.items s.classes.now.infos.items a b
 
 -- the number of events of thread t that the row of event b's base counts
 abbrev pub forced_below : Search → ℕ → ℕ → ℕ
@@ -181,7 +182,8 @@ AreTakenWithAll s leasts lanes later = (at : ℕ) (l : Lane) → slice_get lanes
 
 -- the lane has no event, or its events do not conflict with the later one
 abbrev pub AreNotClashing : Lane → Later → Type 0
-AreNotClashing l later = (length l.events.items ≡ 0) ⊎ (l.thread ≡ later.thread) ⊎ ((l.is_writing ≡ false) × (later.is_writing ≡ false))
+AreNotClashing l later =
+    (length l.events.items ≡ 0) ⊎ (l.thread ≡ later.thread) ⊎ ((l.is_writing ≡ false) × (later.is_writing ≡ false))
 
 -- A lane of events that are not after the later one, and conflict with it.
 pub record AreClashing (s : Search) (l : Lane) (later : Later) : Type 0 where
@@ -241,9 +243,11 @@ HasWindow sought s leasts w = (k : ℕ) → w.from ≤ k → k < w.end → HasEv
 abbrev pub HasOfKind : Sought → Search → List Least → Window → Type 0
 HasOfKind sought s leasts w =
     (k : ℕ) → w.from ≤ k → k < w.end
-    → IsKind s.indexed.now (slice_index w.lane.now.events.items k) w.later.event (kind_of sought) → HasEventAt sought s leasts w k
+    → IsKind s.indexed.now (slice_index w.lane.now.events.items k) w.later.event (kind_of sought)
+    → HasEventAt sought s leasts w k
 
 -- those of one bunch
 abbrev pub HasOfBunch : Sought → Search → List Least → Window → Bunch → Type 0
 HasOfBunch sought s leasts w bunch =
-    (k : ℕ) → w.from ≤ k → k < w.end → Contains bunch.events.items (slice_index w.lane.now.events.items k) → HasEventAt sought s leasts w k
+    (k : ℕ) → w.from ≤ k → k < w.end → Contains bunch.events.items (slice_index w.lane.now.events.items k)
+    → HasEventAt sought s leasts w k

@@ -24,4 +24,5 @@ AreTrueNotes s x leasts noted = All (IsTrueNote s x leasts) noted.notes.items
 -- a note of the variable and the two places whose later event comes before this one
 abbrev pub HasNote : Noted → ℕ → ℕ → ℕ → ℕ → Type 0
 HasNote noted x first second later =
-    (n : Note) × Contains noted.notes.items n × (n.variable ≡ x) × (n.first ≡ first) × (n.second ≡ second) × (n.later < later)
+    (n : Note) × Contains noted.notes.items n × (n.variable ≡ x) × (n.first ≡ first) × (n.second ≡ second)
+    × (n.later < later)

@@ -81,7 +81,8 @@ IsLeastPair r place places wanted (Some p) =
 -- the least conflicting pair of each row
 abbrev pub AreFirstPairs : Recording → (ℕ → ℕ) → Groups → Vec (Option (ℕ × ℕ)) Global → Type 0
 AreFirstPairs r place g found =
-    (at : ℕ) (row : Row) (first : Option (ℕ × ℕ)) → slice_get g.rows.items at ≡ Some row → slice_get found.items at ≡ Some first
+    (at : ℕ) (row : Row) (first : Option (ℕ × ℕ)) → slice_get g.rows.items at ≡ Some row
+    → slice_get found.items at ≡ Some first
     → IsLeastPair r place row.places AnyKind first
 
 -- whether the event exists and accesses the variable

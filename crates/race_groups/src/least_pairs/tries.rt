@@ -34,11 +34,7 @@ pub struct Try {
 pub(crate) fn is_less(first: Pair, second: Pair) -> bool
     ensures { IsTrue result ↔ IsAhead first second }
 {
-    if first.0 == second.0 {
-        first.1 < second.1
-    } else {
-        first.0 < second.0
-    }
+    first.0 < second.0 || (first.0 == second.0 && first.1 < second.1)
 }
 
 /// The lesser of two pairs, or the one that exists.
@@ -47,11 +43,10 @@ pub(crate) fn lesser(one: Option<Pair>, other: Option<Pair>) -> Option<Pair>
     ensures one { (p : ℕ × ℕ) → HoldsUp p one → HoldsUp p result }
     ensures other { (p : ℕ × ℕ) → HoldsUp p other → HoldsUp p result }
 {
-    match (one, other) {
-        (Some(first), Some(second)) => { if is_less(first, second) { one } else { other } }
-        (Some(_), None) => one,
-        (None, _) => other,
-    }
+    let (Some(first), Some(second)) = (one, other) else {
+        return one.or(other);
+    };
+    if is_less(first, second) { one } else { other }
 }
 
 /// Adds the open pairs of a list.

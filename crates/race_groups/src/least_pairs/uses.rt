@@ -69,10 +69,7 @@ fn use_number(uses: &[Use], index: &Index, place: u32, is_writing: bool) -> Opti
     ensures { IfSome result (IsUseAt uses.now place is_writing) }
 {
     let at = *index.get(&(place, u32::from(is_writing)))?;
-    if is_at(uses, at, place, is_writing) {
-        return Some(at);
-    }
-    None
+    is_at(uses, at, place, is_writing).then_some(at)
 }
 
 // Whether the use at this index is of this place and kind of access.
