@@ -194,13 +194,7 @@ pub(crate) fn is_at(infos: &[Class], at: usize, class: Class) -> bool
 fn is_same(first: Class, second: Class) -> bool
     ensures { result ≡ true → first ≡ second }
 {
-    if first.place != second.place {
-        return false;
-    }
-    if first.held != second.held {
-        return false;
-    }
-    is_same_op(first.op, second.op)
+    first.place == second.place && first.held == second.held && is_same_op(first.op, second.op)
 }
 
 fn is_same_op(first: Op, second: Op) -> bool

@@ -71,13 +71,9 @@ impl Front {
         ensures fronts { AreFrontsOf classed.entry later (C.end_of cut.now) self.new.fronts.items }
         ensures len { length self.new.counts.items ≡ length self.old.counts.items }
     {
-        advance(
-            self.counts.as_mut_slice(),
-            self.fronts.as_mut_slice(),
-            classed,
-            cut,
-            later,
-        );
+        let counts = self.counts.as_mut_slice();
+        let fronts = self.fronts.as_mut_slice();
+        advance(counts, fronts, classed, cut, later);
     }
 }
 
@@ -106,11 +102,8 @@ fn move_on(counts: &mut [u64], fronts: &mut [u32], classed: Classed<'_>, thread:
     ensures fronts { fronts.new ≡ slice_set fronts.old thread to }
 {
     let from = fronts[thread as usize] as usize;
-    count(
-        counts,
-        classed.numbers,
-        &classed.indexed.thread_events(thread)[from..to as usize],
-    );
+    let passed = &classed.indexed.thread_events(thread)[from..to as usize];
+    count(counts, classed.numbers, passed);
     fronts[thread as usize] = to;
 }
 

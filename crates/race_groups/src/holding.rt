@@ -85,11 +85,7 @@ pub(crate) fn acquired(op: Op) -> Option<u32>
 {
     match op {
         Op::Acquire(lock) => Some(lock),
-        Op::Read(_) => None,
-        Op::Write(_) => None,
-        Op::Release(_) => None,
-        Op::Fork(_) => None,
-        Op::Join(_) => None,
+        Op::Read(_) | Op::Write(_) | Op::Release(_) | Op::Fork(_) | Op::Join(_) => None,
     }
 }
 
@@ -100,11 +96,7 @@ fn released(op: Op) -> Option<u32>
 {
     match op {
         Op::Release(lock) => Some(lock),
-        Op::Read(_) => None,
-        Op::Write(_) => None,
-        Op::Acquire(_) => None,
-        Op::Fork(_) => None,
-        Op::Join(_) => None,
+        Op::Read(_) | Op::Write(_) | Op::Acquire(_) | Op::Fork(_) | Op::Join(_) => None,
     }
 }
 

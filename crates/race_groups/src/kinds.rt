@@ -92,10 +92,8 @@ pub fn groups_of(
     // It fails only if more than `limit` pairs of places have a conflicting pair, or if memory runs out.
     ensures too_many { result ≡ Err RowsRefusal.TooMany → AreTooMany indexed.now.events (slice_index places.now) limit }
 {
-    match count_cuts(alloc, indexed, places, clocks, must, classes, limit) {
-        Ok(index) => Ok(groups_in(alloc, indexed, places, classes, index)?),
-        Err(refusal) => Err(refusal),
-    }
+    let index = count_cuts(alloc, indexed, places, clocks, must, classes, limit)?;
+    Ok(groups_in(alloc, indexed, places, classes, index)?)
 }
 
 /// The same with `workers` workers, which share the counting. They are threads if threads can be started.
@@ -128,12 +126,10 @@ pub fn groups_by_workers<R: Threads + Sync>(
     // It fails only if more than `limit` pairs of places have a conflicting pair, or if memory runs out.
     ensures too_many { result ≡ Err RowsRefusal.TooMany → AreTooMany indexed.now.events (slice_index places.now) limit }
 {
-    match count_by_workers(
+    let index = count_by_workers(
         rt, alloc, indexed, places, clocks, must, classes, limit, workers,
-    ) {
-        Ok(index) => Ok(groups_in(alloc, indexed, places, classes, index)?),
-        Err(refusal) => Err(refusal),
-    }
+    )?;
+    Ok(groups_in(alloc, indexed, places, classes, index)?)
 }
 
 // The same after all pairs are counted.

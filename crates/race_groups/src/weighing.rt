@@ -41,12 +41,8 @@ fn weigh_on(
     ensures moved { AreWeighedBy classed.entry left fronts.old sums.old fronts.new sums.new }
 {
     let from = fronts[thread as usize] as usize;
-    weigh(
-        sums,
-        classed.numbers,
-        &classed.indexed.thread_events(thread)[from..to as usize],
-        left,
-    );
+    let passed = &classed.indexed.thread_events(thread)[from..to as usize];
+    weigh(sums, classed.numbers, passed, left);
     fronts[thread as usize] = to;
 }
 

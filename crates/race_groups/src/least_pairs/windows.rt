@@ -29,11 +29,5 @@ pub(crate) fn are_clashing(lane: &Lane, later: Later) -> bool
     ensures writes { result ≡ true → (lane.now.is_writing || later.is_writing) ≡ true }
     ensures none { result ≡ false → AreNotClashing lane.now later }
 {
-    if lane.thread == later.thread {
-        return false;
-    }
-    if !lane.is_writing && !later.is_writing {
-        return false;
-    }
-    !lane.events.is_empty()
+    lane.thread != later.thread && (lane.is_writing || later.is_writing) && !lane.events.is_empty()
 }
