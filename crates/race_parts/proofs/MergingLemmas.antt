@@ -11,7 +11,7 @@ use Rattle.serde_json.specs.View.{view}
 use Rattle.serde_json.specs.Data.{Data}
 use Rattle.race_parts.specs.Lines.{AreLines, IsUnread}
 use Rattle.race_parts.specs.Merging.{IsPartRefused, IsRefused, IsReportRefused, IsUnsound, is_merged, is_merged_head, IsClash, IsLineRefused, IsPartText, IsSound, IsUnputOr, IsUntaken, ListsReport, ClashesIn, told_of}
-use Rattle.race_parts.specs.Parts.{AreThere, HasOther, IfClash, IsPutFault, held_at, held_from, joined, single, text_at, told_in}
+use Rattle.race_parts.specs.Parts.{AreThere, HasOther, HasPart, IfClash, IsPutFault, held_at, held_from, joined, single, text_at, told_in}
 use Rattle.race_parts.specs.declared.lines.PartRefusal.{PartRefusal}
 use Rattle.race_parts.specs.declared.lines.PartRefusal.TheVariants.{Line, Version, Clash, OutOfMemory}
 use Rattle.race_parts.specs.declared.parts.Part.{Part}
@@ -19,10 +19,6 @@ use Rattle.race_parts.proofs.UnionLemmas.{held-joined, joined-assoc, or-assoc, o
 
 abbrev Named : Type 0
 Named = BTreeMap (Vec ℕ Global) Part
-
--- the name has the text that it is given
-abbrev IsThere : Named → List ℕ × List ℕ → Type 0
-IsThere parts p = (key : Vec ℕ Global) → key.items ≡ p.0 → text_at parts key ≡ Some p.1
 
 -- Of these lines, some were taken in, and the others are left. All are of the file of this number.
 pub record IsTaking (old now : Named) (file : ℕ) (lines left : List Value) (place : ℕ) : Type 0 where
@@ -42,7 +38,7 @@ taking_begins old file lines = record {
   all = refl;
   place_is = refl;
   held = λ q. sym (or-none (held_at old q));
-  there = All-nil (IsThere old);
+  there = All-nil (HasPart old);
 }
 
 -- one line more
@@ -53,23 +49,23 @@ held-more file done v q =
     ∙ ap (held_from file) (told-append (map told_of done) (told_of v ∷ []) q)
     ∙ held-joined file (told_in (map told_of done) q) (told_in (told_of v ∷ []) q)
 
-pub there-one : (parts : Named) (p : List ℕ × List ℕ) → IsThere parts p → AreThere parts (p ∷ [])
-there-one parts p h = All-cons (IsThere parts) p [] h (All-nil (IsThere parts))
+pub there-one : (parts : Named) (p : List ℕ × List ℕ) → HasPart parts p → AreThere parts (p ∷ [])
+there-one parts p h = All-cons (HasPart parts) p [] h (All-nil (HasPart parts))
 
 -- a text that was there stays
 there-stays : (now new : Named) (v : Value) (p : List ℕ × List ℕ)
     → ((q : Vec ℕ Global) → text_at new q ≡ joined (text_at now q) (single (told_of v).0 (told_of v).1 q.items))
-    → IsThere now p → IsThere new p
+    → HasPart now p → HasPart new p
 there-stays now new v p took h key same = took key ∙ ap (λ o. joined o (single (told_of v).0 (told_of v).1 key.items)) (h key same)
 
 there-more : (now new : Named) (done : List Value) (v : Value) → AreThere now (map told_of done)
     → ((q : Vec ℕ Global) → text_at new q ≡ joined (text_at now q) (single (told_of v).0 (told_of v).1 q.items))
-    → IsThere new (told_of v)
+    → HasPart new (told_of v)
     → AreThere new (map told_of (done ++ v ∷ []))
 there-more now new done v all took puts =
     subst (AreThere new) (sym (map-append told_of done (v ∷ [])))
-    (All-append (IsThere new) (map told_of done) (told_of v ∷ [])
-    (All-weaker (IsThere now) (IsThere new) (λ p. there-stays now new v p took) (map told_of done) all) (there-one new (told_of v) puts))
+    (All-append (HasPart new) (map told_of done) (told_of v ∷ [])
+    (All-weaker (HasPart now) (HasPart new) (λ p. there-stays now new v p took) (map told_of done) all) (there-one new (told_of v) puts))
 
 pub taking_goes_on : (old now new : Named) (file : ℕ) (lines left behind : List Value) (v : Value) (place next : ℕ)
     → IsTaking old now file lines left place

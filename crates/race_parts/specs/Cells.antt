@@ -1,5 +1,5 @@
 -- The rows of all parts, and the order in which a report prints them. All notions here are this project's own.
-use Rattle.std.specs.Prelude.{◌≡◌, ℕ, suc, Bool, ◌&&◌, cond, List, [], ◌∷◌, map, flat_map, drop, Vec, bytes_eq}
+use Rattle.std.specs.Prelude.{◌≡◌, ℕ, suc, Bool, ◌&&◌, cond, List, [], ◌∷◌, ◌++◌, map, flat_map, drop, slice_index_or, Vec, bytes_eq, Result, OnOk}
 use Rattle.std.specs.declared.alloc.Global.{Global}
 use Rattle.std.specs.declared.cmp.Ordering.{Ordering}
 use Rattle.std.specs.Ordering.{nat_cmp, ordering_then, is_gt}
@@ -10,9 +10,14 @@ use Rattle.race_parts.specs.Said.{Said, fact_said, said_in}
 use Rattle.race_parts.specs.declared.cells.Cell.{Cell}
 use Rattle.race_parts.specs.declared.cells.Row.{Row}
 use Rattle.race_parts.specs.declared.parts.Part.{Part}
+use Rattle.race_parts.specs.declared.presorting.Quick.{Quick}
 
 abbrev pub row_said : Row → Said
 row_said r = fact_said r.part.now r.line.now r.fact
+
+-- unless the answer is an error, these rows were appended
+abbrev pub AppendedRows : {T E : Type 0} → Result T E → Vec Row Global → Vec Row Global → List Said → Type 0
+AppendedRows answer old new said = OnOk answer (map row_said new.items ≡ map row_said old.items ++ said)
 
 -- the rows of a part: each line of its text but the first
 abbrev pub rows_of_part : List ℕ → Part → List Said
@@ -64,6 +69,10 @@ cell_key c = record {
   earlier = c.earlier;
   number = c.number;
 }
+
+-- for each key the cell with its number; `other` if there is none
+abbrev pub cells_by : List Cell → Cell → List Quick → List Cell
+cells_by cells other keys = map (λ k. slice_index_or cells k.number other) keys
 
 abbrev pub key_cmp : Key → Key → Ordering
 key_cmp a b =

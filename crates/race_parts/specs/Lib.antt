@@ -4,6 +4,8 @@ pub mod Facts
 pub mod Kept
 pub mod Laws
 pub mod Lines
+pub mod Made
+pub mod Marks
 pub mod Members
 pub mod Merging
 pub mod Objects

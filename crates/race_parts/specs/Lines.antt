@@ -40,6 +40,10 @@ pub record StopsAt (text : List ℕ) (line : ℕ) : Type 0 where
   pub line_is : line ≡ length before
   pub wrong : IsNoLine (length before) rest
 
+-- the text begins with this line, and `behind` is what follows its line feed
+abbrev pub IsLineCut : List ℕ → List ℕ → List ℕ → Type 0
+IsLineCut text line behind = (text ≡ line ++ 10 ∷ behind) × HasNoFeed line
+
 -- the reason why the lines of a text cannot be read
 abbrev pub IsUnread : List ℕ → PartRefusal → Type 0
 IsUnread text (Line line) = StopsAt text line

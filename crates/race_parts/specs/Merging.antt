@@ -8,7 +8,7 @@ use Rattle.serde_json.specs.View.{view}
 use Rattle.serde_json.specs.declared.value.Value.{Value}
 use Rattle.race_parts.specs.Lines.{AreLines, StopsAt}
 use Rattle.race_parts.specs.Members.{has_number, has_text, is_kind, said_number, said_text}
-use Rattle.race_parts.specs.Parts.{HasOther, held_at, held_from, told_in}
+use Rattle.race_parts.specs.Parts.{AreMerged, AreMergedFrom, AreThere, HasOther, held_at, held_from, single, told_in}
 use Rattle.race_parts.specs.Rows.{is_other_version, wrong_line}
 use Rattle.race_parts.specs.declared.lines.PartRefusal.{PartRefusal}
 use Rattle.race_parts.specs.declared.lines.PartRefusal.TheVariants.{Line, Version, Clash, OutOfMemory}
@@ -62,8 +62,14 @@ abbrev pub part_lines : List Value → List Value
 part_lines [] = []
 part_lines (v ∷ vs) = take (part_count (view v)) vs
 
+abbrev pub name_told : Value → List ℕ
+name_told v = said_text (codes "name") (view v)
+
+abbrev pub text_told : Value → List ℕ
+text_told v = said_text (codes "text") (view v)
+
 abbrev pub told_of : Value → List ℕ × List ℕ
-told_of v = (said_text (codes "name") (view v), said_text (codes "text") (view v))
+told_of v = (name_told v, text_told v)
 
 abbrev pub told_parts : List Value → List (List ℕ × List ℕ)
 told_parts vs = map told_of (part_lines vs)
@@ -82,11 +88,43 @@ GivesReport text given =
 abbrev pub IsSound : List ℕ → Data → Type 0
 IsSound text d = (ds : List Data) × AreLines text (d ∷ ds) × (is_other_version d ≡ false) × (wrong_line (d ∷ ds) ≡ None)
 
+-- the text is a part, d is its first line, and it was added under this name
+abbrev pub IsPartAdded :
+    BTreeMap (Vec ℕ Global) Part → BTreeMap (Vec ℕ Global) Part → List ℕ → List ℕ → Data → Type 0
+IsPartAdded old new name text d = IsSound text d × AreMerged old new (single name text)
+
+-- the text in a part line is a part, and was added under its name
+abbrev pub IsLineAdded : BTreeMap (Vec ℕ Global) Part → BTreeMap (Vec ℕ Global) Part → Value → Type 0
+IsLineAdded old new v = IsPartText (text_told v) × AreMerged old new (single (name_told v) (text_told v))
+
+-- the texts are parts, and were added under their names
+abbrev pub AreTextsAdded : BTreeMap (Vec ℕ Global) Part → BTreeMap (Vec ℕ Global) Part → List (List ℕ × List ℕ) → Type 0
+AreTextsAdded old new given = All (λ p. IsPartText p.1) given × AreMerged old new (told_in given)
+
+-- the lines are those of a merged report, and its parts were added
+abbrev pub IsReportAdded : BTreeMap (Vec ℕ Global) Part → BTreeMap (Vec ℕ Global) Part → List Value → Type 0
+IsReportAdded old new vs =
+    (wrong_merged vs ≡ None) × All (λ p. IsPartText p.1) (told_parts vs) × AreMerged old new (told_in (told_parts vs))
+
 -- a file with this name gives these parts
 abbrev pub Gives : List ℕ → List ℕ → List (List ℕ × List ℕ) → Type 0
 Gives name text given =
     ((d : Data) × IsSound text d × (is_merged_head d ≡ false) × (given ≡ (name, text) ∷ []))
     ⊎ GivesReport text given
+
+-- What a file gives was added. `P` says which parts it gives.
+abbrev pub IsFileAdded :
+    BTreeMap (Vec ℕ Global) Part → BTreeMap (Vec ℕ Global) Part → (List (List ℕ × List ℕ) → Type 0) → Type 0
+IsFileAdded old new P = (given : List (List ℕ × List ℕ)) × P given × AreMerged old new (told_in given)
+
+-- the same with the number of the file
+abbrev pub IsFileAddedFrom :
+    ℕ → BTreeMap (Vec ℕ Global) Part → BTreeMap (Vec ℕ Global) Part → (List (List ℕ × List ℕ) → Type 0) → Type 0
+IsFileAddedFrom file old new P = (given : List (List ℕ × List ℕ)) × P given × AreMergedFrom file old new (told_in given)
+
+-- what the file gives is among the parts
+abbrev pub IsFileThere : BTreeMap (Vec ℕ Global) Part → (List (List ℕ × List ℕ) → Type 0) → Type 0
+IsFileThere parts P = (given : List (List ℕ × List ℕ)) × P given × AreThere parts given
 
 -- the line with this index does not fit
 abbrev pub IsAt : Option ℕ → PartRefusal → Type 0
@@ -190,6 +228,22 @@ pub record IsClash (old : BTreeMap (Vec ℕ Global) Part) (number : ℕ) (given 
   pub part : IsPartText one.1
   pub other : HasOther (λ key. option_or (held_at old key) (held_from number (told_in done key.items))) one.0 one.1 file
 
+-- A part in a file with this number has the name of another part. `P` says which names with texts the file gives.
+abbrev pub ClashesBy : BTreeMap (Vec ℕ Global) Part → (List (List ℕ × List ℕ) → Type 0) → ℕ → ℕ → Type 0
+ClashesBy old P number file = (given : List (List ℕ × List ℕ)) × P given × IsClash old number given file
+
 -- a part in a file with this name and number has the name of another part
 abbrev pub ClashesIn : BTreeMap (Vec ℕ Global) Part → List ℕ → List ℕ → ℕ → ℕ → Type 0
-ClashesIn old name text number file = (given : List (List ℕ × List ℕ)) × Lists name text given × IsClash old number given file
+ClashesIn old name text number file = ClashesBy old (Lists name text) number file
+
+-- the text is a part, d is its first line, and its name has another text, which came from the file `file`
+abbrev pub HasOtherPart : BTreeMap (Vec ℕ Global) Part → List ℕ → List ℕ → Data → ℕ → Type 0
+HasOtherPart old name text d file = IsSound text d × HasOther (held_at old) name text file
+
+-- the same for the part in a line
+abbrev pub HasOtherLine : BTreeMap (Vec ℕ Global) Part → Value → ℕ → Type 0
+HasOtherLine old v file = IsPartText (text_told v) × HasOther (held_at old) (name_told v) (text_told v) file
+
+-- the lines are those of a merged report, and one of its parts has the name of another part
+abbrev pub HasOtherIn : BTreeMap (Vec ℕ Global) Part → ℕ → List Value → ℕ → Type 0
+HasOtherIn old number vs file = (wrong_merged vs ≡ None) × IsClash old number (told_parts vs) file

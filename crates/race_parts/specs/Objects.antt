@@ -7,6 +7,7 @@ use Rattle.serde_json.specs.Data.{Data, number, unsigned, string, object, no_mem
 use Rattle.serde_json.specs.Written.{compact_text}
 use Rattle.race_parts.specs.Texts.{is_new, one_if, run_count}
 use Rattle.race_parts.specs.declared.cells.Cell.{Cell}
+use Rattle.race_parts.specs.declared.objects.Tally.{Tally}
 use Rattle.race_parts.specs.declared.parts.Part.{Part}
 
 -- a number
@@ -62,6 +63,10 @@ pair_object c races undecided apart unmet =
     (member (codes "verdict") (string (verdict_word c.rank))
     no_members))))))))))))
 
+-- the same for numbers of parts that were counted
+abbrev pub tally_object : Cell → Tally → Data
+tally_object c t = pair_object c t.races t.undecided t.apart t.unmet
+
 abbrev pub pair_object_at : ℕ → Cell → List Cell → Data
 pair_object_at parts c cs =
     pair_object c (run_count c 0 cs) (run_count c 1 cs) (run_count c 2 cs)
@@ -70,11 +75,15 @@ pair_object_at parts c cs =
 abbrev pub part_lines : List (Vec ℕ Global × Part) → List ℕ
 part_lines es = flat_map (λ e. json_line (part_object e.0.items e.1.text.items)) es
 
+-- the line of a pair of locations, whose first cell is c
+abbrev pub pair_line : ℕ → Cell → List Cell → List ℕ
+pair_line parts c cs = json_line (pair_object_at parts c cs)
+
 -- a line for each pair of locations
 abbrev pub pair_lines : ℕ → Option Cell → List Cell → List ℕ
 pair_lines parts before [] = []
 pair_lines parts before (c ∷ cs) =
-    cond (is_new before c) (json_line (pair_object_at parts c (c ∷ cs))) [] ++ pair_lines parts (Some c) cs
+    cond (is_new before c) (pair_line parts c (c ∷ cs)) [] ++ pair_lines parts (Some c) cs
 
 -- the number of pairs of locations
 abbrev pub news_count : Option Cell → List Cell → ℕ

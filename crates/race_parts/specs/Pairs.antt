@@ -1,6 +1,7 @@
 -- The pairs of locations in a report, each with the row to print and the parts' verdicts. All notions here are this
 -- project's own.
-use Rattle.std.specs.Prelude.{ℕ, Bool, true, false, cond, List, [], ◌∷◌, ◌++◌, slice_get, Option, Some, None}
+use Rattle.std.specs.Prelude.{◌≡◌, ℕ, Bool, true, false, cond, List, [], ◌∷◌, ◌++◌, map, slice_get, Option, Some, None, Result, OnOk, Vec}
+use Rattle.std.specs.declared.alloc.Global.{Global}
 use Rattle.race_parts.specs.Texts.{is_head, run_count}
 use Rattle.race_parts.specs.declared.cells.Cell.{Cell}
 use Rattle.race_parts.specs.declared.cells.Row.{Row}
@@ -25,6 +26,10 @@ pair_shown p = record {
   undecided = p.undecided;
   apart = p.apart;
 }
+
+-- unless the answer is an error, these pairs were appended
+abbrev pub AppendedPairs : {T E : Type 0} → Result T E → Vec Pair Global → Vec Pair Global → List Shown → Type 0
+AppendedPairs answer old new shown = OnOk answer (map pair_shown new.items ≡ map pair_shown old.items ++ shown)
 
 abbrev pub line_by : Option Row → List ℕ
 line_by None = []

@@ -1,11 +1,12 @@
 -- Parts, stored by name, and how they are joined. All notions here are this project's own.
-use Rattle.std.specs.Prelude.{◌≡◌, ◌≢◌, ℕ, cond, All, List, Vec, Option, Some, None, option_map, ⊤}
+use Rattle.std.specs.Prelude.{◌≡◌, ◌≢◌, ℕ, cond, All, List, Vec, Option, Some, None, option_map, Result, IfErr, ⊤}
 use Rattle.std.specs.declared.alloc.Global.{Global}
 use Rattle.std.specs.declared.cmp.Ordering.{Ordering}
 use Rattle.std.specs.BTreeMap.{BTreeMap, get, is_at}
 use Rattle.std.specs.Cmp.Lexicographic.{slice_cmp}
 use Rattle.std.specs.Ordering.{nat_cmp}
 use Rattle.std.specs.Map.{lookup}
+use Rattle.std.specs.Option.{option_or}
 use Rattle.race_parts.specs.declared.lines.PartRefusal.{PartRefusal}
 use Rattle.race_parts.specs.declared.lines.PartRefusal.TheVariants.{Line, Version, Clash, OutOfMemory}
 use Rattle.race_parts.specs.declared.parts.Part.{Part}
@@ -42,9 +43,22 @@ single name text q = cond (is_at (bytes_cmp q) name) (Some text) None
 abbrev pub told_in : List (List ℕ × List ℕ) → List ℕ → Option (List ℕ)
 told_in given q = lookup (is_at (bytes_cmp q)) given
 
+-- The new parts are the old ones, and those whose texts `added` gives for their names. A text that was there stays.
+abbrev pub AreMerged : BTreeMap (Vec ℕ Global) Part → BTreeMap (Vec ℕ Global) Part → (List ℕ → Option (List ℕ)) → Type 0
+AreMerged old new added = (q : Vec ℕ Global) → text_at new q ≡ joined (text_at old q) (added q.items)
+
+-- the same with the numbers of their files: what was added is of this file
+abbrev pub AreMergedFrom :
+    ℕ → BTreeMap (Vec ℕ Global) Part → BTreeMap (Vec ℕ Global) Part → (List ℕ → Option (List ℕ)) → Type 0
+AreMergedFrom file old new added = (q : Vec ℕ Global) → held_at new q ≡ option_or (held_at old q) (held_from file (added q.items))
+
+-- this name has this text among the parts
+abbrev pub HasPart : BTreeMap (Vec ℕ Global) Part → List ℕ × List ℕ → Type 0
+HasPart parts p = (key : Vec ℕ Global) → key.items ≡ p.0 → text_at parts key ≡ Some p.1
+
 -- each of these names has its text among the parts
 abbrev pub AreThere : BTreeMap (Vec ℕ Global) Part → List (List ℕ × List ℕ) → Type 0
-AreThere parts given = All (λ p. (key : Vec ℕ Global) → key.items ≡ p.0 → text_at parts key ≡ Some p.1) given
+AreThere parts given = All (HasPart parts) given
 
 -- adding a part fails only because of a clash, or if memory runs out
 abbrev pub IsPutFault : PartRefusal → Type 0
@@ -63,3 +77,7 @@ IfClash (Line line) P = ⊤
 IfClash Version P = ⊤
 IfClash (Clash file) P = P file
 IfClash OutOfMemory P = ⊤
+
+-- if the answer is a clash, P holds for its file
+abbrev pub OnClash : {T : Type 0} → Result T PartRefusal → (ℕ → Type 0) → Type 0
+OnClash answer P = IfErr answer (λ why. IfClash why P)

@@ -1,6 +1,6 @@
 -- The lines of a part: the counts, and a row for each race, each undecided pair of locations and each apart pair. All
 -- notions here are this project's own.
-use Rattle.std.specs.Prelude.{ℕ, ◌+◌, nat_eq, Bool, ◌&&◌, ◌||◌, not, false, cond, List, [], ◌∷◌, length, map, count_by, position, Option, Some, None, is_some, option_and_then, codes, bytes_eq}
+use Rattle.std.specs.Prelude.{◌≡◌, ℕ, ◌+◌, nat_eq, Bool, ◌&&◌, ◌||◌, not, false, cond, List, [], ◌∷◌, length, map, count_by, position, Option, Some, None, is_some, option_and_then, codes, bytes_eq}
 use Rattle.serde_json.specs.Data.{Data}
 use Rattle.serde_json.specs.Find.{as_array, get}
 use Rattle.race_parts.specs.Members.{access_in, find_number, has_number, has_text, is_kind, said_number, said_text}
@@ -63,6 +63,10 @@ mark_of d = record {
   is_undecided = is_kind (codes "undecided") d;
   is_apart = is_kind (codes "apart") d;
 }
+
+-- the mark is that of a value of which P holds
+abbrev pub HasMark : (Data → Type 0) → Mark → Type 0
+HasMark P mark = (d : Data) × P d × (mark ≡ mark_of d)
 
 -- The counts agree with these numbers of rows. If there are no apart rows, any count of them is right.
 abbrev pub is_whole : Data → ℕ → ℕ → ℕ → Bool

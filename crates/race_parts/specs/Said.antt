@@ -1,5 +1,5 @@
 -- The values of a row that decide where it is sorted. All notions here are this project's own.
-use Rattle.std.specs.Prelude.{ℕ, List}
+use Rattle.std.specs.Prelude.{◌≡◌, ℕ, List}
 use Rattle.serde_json.specs.Data.{Data}
 use Rattle.serde_json.specs.View.{view}
 use Rattle.race_parts.specs.Accesses.{event_in, location_in, rank_of, size_of}
@@ -52,3 +52,7 @@ fact_said name line (of_value v) = said_by name line (view v)
 -- the row in this line
 abbrev pub said_in : List ℕ → List ℕ → Said
 said_in name line = said_by name line (data_in line)
+
+-- the fact is what this line says of its row
+abbrev pub IsFactOf : List ℕ → Fact → Type 0
+IsFactOf line fact = (name : List ℕ) → fact_said name line fact ≡ said_in name line

@@ -1,9 +1,7 @@
 //! Appends words, numbers and counts to a text.
-ghost use Rattle.std.specs.Prelude.{◌++◌};
 ghost use Rattle.rapid_text.specs.Appended.{Appended};
 ghost use Rattle.serde_json.specs.View.{view};
-ghost use Rattle.race_parts.specs.Members.{said_number};
-ghost use Rattle.race_parts.specs.Texts.{count_line, named_text, number_text, shown};
+ghost use Rattle.race_parts.specs.Texts.{count_line, field_text, named_text, number_text, shown};
 
 use crate::members::number_of;
 use itoa::Buffer;
@@ -24,8 +22,7 @@ pub(crate) fn append_number(out: &mut Vec<u8>, number: u64) -> Result<(), OutOfM
 {
     let mut digits = Buffer::new();
     append_words(out, b" ")?;
-    append_words(out, digits.format(number).as_bytes())?;
-    Ok(())
+    append_words(out, digits.format(number).as_bytes())
 }
 
 /// Appends a word, a blank, the number, and a line feed.
@@ -34,8 +31,7 @@ pub(crate) fn append_count(out: &mut Vec<u8>, word: &[u8], number: u64) -> Resul
 {
     append_words(out, word)?;
     append_number(out, number)?;
-    append_words(out, b"\n")?;
-    Ok(())
+    append_words(out, b"\n")
 }
 
 /// Appends bytes of a part. Prints a line feed among them as `?`.
@@ -55,11 +51,10 @@ pub(crate) fn append_field(
     value: &Value,
     name: &str,
 ) -> Result<(), OutOfMemory>
-    ensures { Appended result out.old out.new (word.now ++ number_text (said_number name.now (view value.now))) }
+    ensures { Appended result out.old out.new (field_text word.now name.now (view value.now)) }
 {
     append_words(out, word)?;
-    append_number(out, number_of(value, name))?;
-    Ok(())
+    append_number(out, number_of(value, name))
 }
 
 /// Appends a word, a blank, and a number.
@@ -67,6 +62,5 @@ pub(crate) fn append_named(out: &mut Vec<u8>, word: &[u8], number: usize) -> Res
     ensures { Appended result out.old out.new (named_text word.now number) }
 {
     append_words(out, word)?;
-    append_number(out, number as u64)?;
-    Ok(())
+    append_number(out, number as u64)
 }

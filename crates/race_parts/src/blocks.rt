@@ -28,8 +28,7 @@ fn holds_of(access: &Value) -> &[Value]
 fn append_holds(out: &mut Vec<u8>, access: &Value) -> Result<(), OutOfMemory>
     ensures { Appended result out.old out.new (holds_text (view access.now)) }
 {
-    append_hold_lines(out, holds_of(access))?;
-    Ok(())
+    append_hold_lines(out, holds_of(access))
 }
 
 /// Appends a line for each of the locks.
@@ -48,8 +47,7 @@ fn append_hold_line(out: &mut Vec<u8>, lock: &Value) -> Result<(), OutOfMemory>
 {
     append_words(out, b"    holds ")?;
     append_shown(out, lock_name(lock))?;
-    append_words(out, b"\n")?;
-    Ok(())
+    append_words(out, b"\n")
 }
 
 /// The name of a lock; empty if the value is not a text.
@@ -69,8 +67,7 @@ fn append_begin(out: &mut Vec<u8>, access: &Value) -> Result<(), OutOfMemory>
     append_words(out, b"  ")?;
     append_shown(out, text_of(access, "thread"))?;
     append_words(out, b"|")?;
-    append_shown(out, text_of(access, "operation"))?;
-    Ok(())
+    append_shown(out, text_of(access, "operation"))
 }
 
 /// Appends the end of the line of an access: its variable and its location.
@@ -81,8 +78,7 @@ fn append_end(out: &mut Vec<u8>, access: &Value) -> Result<(), OutOfMemory>
     append_shown(out, text_of(access, "variable"))?;
     append_words(out, b")|")?;
     append_shown(out, text_of(access, "location"))?;
-    append_words(out, b"\n")?;
-    Ok(())
+    append_words(out, b"\n")
 }
 
 /// Appends the line of an access.
@@ -90,8 +86,7 @@ fn append_event(out: &mut Vec<u8>, access: &Value) -> Result<(), OutOfMemory>
     ensures { Appended result out.old out.new (event_text (view access.now)) }
 {
     append_begin(out, access)?;
-    append_end(out, access)?;
-    Ok(())
+    append_end(out, access)
 }
 
 /// Appends the access with this index, 0 or 1, and the locks that its thread holds. Appends nothing if the row has no
@@ -102,8 +97,7 @@ fn append_access(out: &mut Vec<u8>, row: &Value, place: usize) -> Result<(), Out
     match access_in(row, place) {
         Some(access) => {
             append_event(out, access)?;
-            append_holds(out, access)?;
-            Ok(())
+            append_holds(out, access)
         }
         None => Ok(()),
     }
@@ -115,8 +109,7 @@ fn append_pair(out: &mut Vec<u8>, word: &[u8], row: &Value) -> Result<(), OutOfM
 {
     append_words(out, word)?;
     append_number(out, event_in(row, 0))?;
-    append_number(out, event_in(row, 1))?;
-    Ok(())
+    append_number(out, event_in(row, 1))
 }
 
 /// Appends the word that says how a schedule shows the race.
@@ -124,8 +117,7 @@ fn append_how(out: &mut Vec<u8>, row: &Value) -> Result<(), OutOfMemory>
     ensures { Appended result out.old out.new (how_text (view row.now)) }
 {
     append_words(out, b" ")?;
-    append_shown(out, text_of(row, "how"))?;
-    Ok(())
+    append_shown(out, text_of(row, "how"))
 }
 
 /// Appends the sizes of a race: its pairs, variables, events and threads.
@@ -135,8 +127,7 @@ fn append_sizes(out: &mut Vec<u8>, row: &Value) -> Result<(), OutOfMemory>
     append_field(out, b" pairs", row, "pairs")?;
     append_field(out, b" variables", row, "variables")?;
     append_field(out, b" events", row, "events")?;
-    append_field(out, b" threads", row, "threads")?;
-    Ok(())
+    append_field(out, b" threads", row, "threads")
 }
 
 /// Appends the first line of a race, without the line feed.
@@ -145,8 +136,7 @@ fn append_race(out: &mut Vec<u8>, row: &Value) -> Result<(), OutOfMemory>
 {
     append_pair(out, b"race", row)?;
     append_how(out, row)?;
-    append_sizes(out, row)?;
-    Ok(())
+    append_sizes(out, row)
 }
 
 /// Appends the first line of an undecided row, without the line feed.
@@ -156,8 +146,7 @@ fn append_undecided(out: &mut Vec<u8>, row: &Value) -> Result<(), OutOfMemory>
     append_pair(out, b"undecided", row)?;
     append_field(out, b" pairs", row, "pairs")?;
     append_field(out, b" variables", row, "variables")?;
-    append_field(out, b" tried", row, "tried")?;
-    Ok(())
+    append_field(out, b" tried", row, "tried")
 }
 
 /// Appends the first line of an apart row, without the line feed.
@@ -165,8 +154,7 @@ fn append_apart(out: &mut Vec<u8>, row: &Value) -> Result<(), OutOfMemory>
     ensures { Appended result out.old out.new (apart_text (view row.now)) }
 {
     append_pair(out, b"apart", row)?;
-    append_field(out, b" pairs", row, "pairs")?;
-    Ok(())
+    append_field(out, b" pairs", row, "pairs")
 }
 
 /// Appends the first line of a row, without the line feed.
@@ -189,6 +177,5 @@ pub(crate) fn append_row(out: &mut Vec<u8>, row: &Value) -> Result<(), OutOfMemo
     append_head(out, row)?;
     append_words(out, b"\n")?;
     append_access(out, row, 0)?;
-    append_access(out, row, 1)?;
-    Ok(())
+    append_access(out, row, 1)
 }

@@ -1,8 +1,8 @@
 //! Collects the rows of all parts, and sorts them into the order of the report.
-ghost use Rattle.std.specs.Prelude.{◌≡◌, ◌<◌, ◌+◌, ◌++◌, ◌∷◌, IfOk, OnOk, List, ℕ, drop, length, map};
+ghost use Rattle.std.specs.Prelude.{◌≡◌, ◌<◌, ◌+◌, ◌∷◌, IfOk, List, ℕ, drop, length, map};
 ghost use Rattle.serde_json.specs.View.{view};
 ghost use Rattle.race_parts.specs.Accesses.{event_in, location_in, rank_of, size_of};
-ghost use Rattle.race_parts.specs.Cells.{cell_key, greater_of, is_same, key_of, keys_from, lesser_of, row_said, rows_in, rows_of_part, AreSorted};
+ghost use Rattle.race_parts.specs.Cells.{cell_key, greater_of, is_same, key_of, keys_from, lesser_of, row_said, rows_in, rows_of_part, AppendedRows, AreSorted};
 ghost use Rattle.race_parts.specs.Kept.{kept_said};
 ghost use Rattle.race_parts.specs.Lines.{lines_of};
 ghost use Rattle.race_parts.specs.Said.{known_said, said_by, said_in};
@@ -67,7 +67,7 @@ pub fn rows_of(alloc: Global, parts: &Parts) -> Result<Vec<Row<'_>>, OutOfMemory
 
 /// Adds the rows of a part.
 fn push_part<'a>(rows: &mut Vec<Row<'a>>, name: &'a [u8], part: &'a Part) -> Result<(), OutOfMemory>
-    ensures { OnOk result (map row_said rows.new.items ≡ map row_said rows.old.items ++ rows_of_part name.now part.now) }
+    ensures { AppendedRows result rows.old rows.new (rows_of_part name.now part.now) }
 {
     match &part.rows {
         Some(kept) => push_kept(rows, name, &part.text, kept),
@@ -82,11 +82,10 @@ fn push_kept<'a>(
     text: &'a Vec<u8>,
     kept: &Vec<KeptRow>,
 ) -> Result<(), OutOfMemory>
-    ensures { OnOk result (map row_said rows.new.items ≡ map row_said rows.old.items ++ map (kept_said name.now text.now.items) kept.now.items) }
+    ensures { AppendedRows result rows.old rows.new (map (kept_said name.now text.now.items) kept.now.items) }
 {
-    let bytes = text.as_slice();
     for row in kept {
-        rows.push(row_kept(name, bytes, *row))?;
+        rows.push(row_kept(name, text.as_slice(), *row))?;
     }
     Ok(())
 }
@@ -116,7 +115,7 @@ fn after_first(text: &[u8]) -> &[u8]
 
 /// Adds a row for each line that ends with a line feed.
 fn push_rows<'a>(rows: &mut Vec<Row<'a>>, name: &'a [u8], text: &'a [u8]) -> Result<(), OutOfMemory>
-    ensures { OnOk result (map row_said rows.new.items ≡ map row_said rows.old.items ++ map (said_in name.now) (lines_of text.now)) }
+    ensures { AppendedRows result rows.old rows.new (map (said_in name.now) (lines_of text.now)) }
 {
     let mut rest = text;
     'lines: while let Some((line, behind)) = cut_line(rest) {

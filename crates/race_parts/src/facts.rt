@@ -1,14 +1,14 @@
 //! Reads a line of a part: its kind, and the facts that its sort key needs.
-ghost use Rattle.std.specs.Prelude.{◌≡◌, List, ℕ, IfOk, IfSome, IsUtf8, None};
+ghost use Rattle.std.specs.Prelude.{◌≡◌, IfOk, IfSome, IsUtf8, None};
 ghost use Rattle.rapid_text.specs.Appended.{IfFound};
 ghost use Rattle.serde_json.specs.Data.{Data};
 ghost use Rattle.serde_json.specs.Read.{read};
 ghost use Rattle.serde_json.specs.View.{view};
 ghost use Rattle.race_parts.specs.Facts.{IsKnown, Says, data_in};
-ghost use Rattle.race_parts.specs.Kept.{kept_said};
+ghost use Rattle.race_parts.specs.Kept.{IsKeptOf};
 ghost use Rattle.race_parts.specs.Lines.{Tells};
-ghost use Rattle.race_parts.specs.Rows.{mark_of};
-ghost use Rattle.race_parts.specs.Said.{fact_said, said_in};
+ghost use Rattle.race_parts.specs.Rows.{HasMark, mark_of};
+ghost use Rattle.race_parts.specs.Said.{IsFactOf};
 
 use crate::kept::{KeptRow, kept_of};
 use crate::members::is_kind;
@@ -62,12 +62,11 @@ fn fact_of(alloc: Global, line: &[u8]) -> Result<Option<Fact<'_>>, OutOfMemory>
 /// Reads a line. Returns null if it is not JSON.
 #[tactic(auto, using(crate::proofs::FactLemmas::fact_told, crate::proofs::FactLemmas::fact_none))]
 pub(crate) fn fact_in(alloc: Global, line: &[u8]) -> Result<Fact<'_>, OutOfMemory>
-    ensures { IfOk result (λ fact. (name : List ℕ) → fact_said name line.now fact ≡ said_in name line.now) }
+    ensures { IfOk result (IsFactOf line.now) }
 {
-    match fact_of(alloc, line) {
-        Ok(Some(fact)) => Ok(fact),
-        Ok(None) => Ok(Fact::Other(Value::Null)),
-        Err(refused) => Err(refused),
+    match fact_of(alloc, line)? {
+        Some(fact) => Ok(fact),
+        None => Ok(Fact::Other(Value::Null)),
     }
 }
 
@@ -76,10 +75,9 @@ pub(crate) fn fact_in(alloc: Global, line: &[u8]) -> Result<Fact<'_>, OutOfMemor
 pub fn data_of(alloc: Global, line: &[u8]) -> Result<Value, OutOfMemory>
     ensures { IfOk result (λ value. view value ≡ data_in line.now) }
 {
-    match value_of(alloc, line) {
-        Ok(Some(value)) => Ok(value),
-        Ok(None) => Ok(Value::Null),
-        Err(refused) => Err(refused),
+    match value_of(alloc, line)? {
+        Some(value) => Ok(value),
+        None => Ok(Value::Null),
     }
 }
 
@@ -99,8 +97,8 @@ pub(crate) fn seen_of(
     from: usize,
     line: &[u8],
 ) -> Result<Option<Seen>, OutOfMemory>
-    ensures some { IfFound result (λ seen. (d : Data) × Tells line.now d × (seen.mark ≡ mark_of d)) }
-    ensures row { IfFound result (λ seen. IfSome seen.row (λ row. (name : List ℕ) → kept_said name text.now row ≡ said_in name line.now)) }
+    ensures some { IfFound result (λ seen. HasMark (Tells line.now) seen.mark) }
+    ensures row { IfFound result (λ seen. IfSome seen.row (IsKeptOf text.now line.now)) }
     ensures none { IfOk result (λ found. found ≡ None → IsUtf8 line.now → read line.now ≡ None) }
 {
     if let Some(told) = told_in(line) {

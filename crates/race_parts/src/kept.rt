@@ -1,6 +1,6 @@
 //! What a part keeps of its rows, so that its text is read only once.
 ghost use Rattle.std.specs.Prelude.{◌≡◌, List, ℕ, IfSome, drop, take};
-ghost use Rattle.race_parts.specs.Kept.{kept_said, piece_in};
+ghost use Rattle.race_parts.specs.Kept.{HasKnown, kept_said, piece_in};
 ghost use Rattle.race_parts.specs.Said.{known_said};
 
 use crate::scan::{Known, Told};
@@ -77,7 +77,7 @@ fn piece_of(text: &[u8], from: usize, bytes: &[u8]) -> Option<Piece>
 
 /// What to keep of a line that begins at byte `from` of the text. Returns None if one of its pieces has no `Piece`.
 pub(crate) fn kept_of(text: &[u8], from: usize, line: &[u8], told: Told<'_>) -> Option<KeptRow>
-    ensures { IfSome result (λ row. (name : List ℕ) → kept_said name text.now row ≡ known_said name line.now told.entry.known) }
+    ensures { IfSome result (HasKnown text.now line.now told.entry.known) }
 {
     let end = from.saturating_add(line.len());
     let Known {

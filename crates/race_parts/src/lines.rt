@@ -1,13 +1,13 @@
 //! Reads the lines of a text, each a JSON value.
 ghost use Rattle.std.specs.Prelude.{◌≡◌, ◌≢◌, ◌++◌, ◌∷◌, [], List, map, None, Some, IfErr, IfOk, IfSome, OnErr, OnOk, true};
 ghost use Rattle.rapid_text.specs.Appended.{Appended};
-ghost use Rattle.serde_json.specs.Data.{Data};
 ghost use Rattle.serde_json.specs.View.{view};
 ghost use Rattle.serde_json.specs.declared.value.Value.{Value as OneValue};
-ghost use Rattle.race_parts.specs.Rows.{mark_of};
+ghost use Rattle.race_parts.specs.Marks.{HasMarks};
+ghost use Rattle.race_parts.specs.Rows.{HasMark};
 ghost use Rattle.race_parts.specs.Kept.{AreKept, IsRowOn};
 ghost use Rattle.race_parts.specs.declared.kept.KeptRow.{KeptRow};
-ghost use Rattle.race_parts.specs.Lines.{AreLines, HasNoFeed, IsReadOn, IsStopped, IsUnread};
+ghost use Rattle.race_parts.specs.Lines.{AreLines, HasNoFeed, IsLineCut, IsReadOn, IsStopped, IsUnread};
 
 use crate::facts::{Seen, seen_of, value_of};
 use crate::kept::KeptRow;
@@ -74,7 +74,7 @@ pub(crate) fn lines_in(
 ) -> Result<Vec<Value>, PartRefusal>
     requires { IsReadOn text.now begun.rest.now (view begun.head) }
     ensures ok { IfOk result (λ found. AreLines text.now (map view found.items)) }
-    ensures head { IfOk result (λ found. (behind : List OneValue) × (found.items ≡ begun.entry.head ∷ behind)) }
+    ensures head { IfOk result (λ all. (behind : List OneValue) × (all.items ≡ begun.entry.head ∷ behind)) }
     ensures err { IfErr result (IsUnread text.now) }
 {
     let mut found = Vec::new(alloc);
@@ -105,7 +105,7 @@ pub(crate) fn rows_in(
     begun: &Begun<'_>,
 ) -> Result<ReadRows, PartRefusal>
     requires { IsReadOn text.now begun.now.rest.now (view begun.now.head) }
-    ensures ok { IfOk result (λ found. (ds : List Data) × AreLines text.now (view begun.now.head ∷ ds) × (found.marks.items ≡ map mark_of ds)) }
+    ensures ok { IfOk result (λ found. HasMarks text.now (view begun.now.head) found.marks.items) }
     ensures rows { IfOk result (λ found. AreKept text.now found.rows) }
     ensures err { IfErr result (IsUnread text.now) }
 {
@@ -172,7 +172,7 @@ fn kept_if(all: bool, rows: Vec<KeptRow>) -> Option<Vec<KeptRow>>
 /// The first line of a text and the text after it. `place` is the number of lines before it; it may be at most
 /// 4,194,303.
 fn line_on(text: &[u8], place: usize) -> Result<(&[u8], &[u8]), PartRefusal>
-    ensures ok { IfOk result (λ cut. (text.now ≡ cut.0.now ++ 10 ∷ cut.1.now) × HasNoFeed cut.0.now) }
+    ensures ok { IfOk result (λ cut. IsLineCut text.now cut.0.now cut.1.now) }
     ensures err { IfErr result (IsStopped place text.now) }
 {
     if place >= MAX_LINES {
@@ -204,7 +204,7 @@ fn seen_on<'a>(
     rest: &'a [u8],
     place: usize,
 ) -> Result<(Seen, &'a [u8]), PartRefusal>
-    ensures ok { IfOk result (λ read. (d : Data) × IsReadOn rest.now read.1.now d × (read.0.mark ≡ mark_of d)) }
+    ensures ok { IfOk result (λ read. HasMark (IsReadOn rest.now read.1.now) read.0.mark) }
     ensures row { IfOk result (λ read. IfSome read.0.row (IsRowOn text.now rest.now read.1.now)) }
     ensures err { IfErr result (IsStopped place rest.now) }
 {
@@ -218,7 +218,7 @@ fn seen_on<'a>(
 
 /// The text before the first line feed and the text after it; None if there is no line feed.
 pub(crate) fn cut_line(text: &[u8]) -> Option<(&[u8], &[u8])>
-    ensures some { IfSome result (λ parts. (text.now ≡ parts.0.now ++ 10 ∷ parts.1.now) × HasNoFeed parts.0.now) }
+    ensures some { IfSome result (λ cut. IsLineCut text.now cut.0.now cut.1.now) }
     ensures none { result ≡ None → HasNoFeed text.now }
 {
     let at = memchr(b'\n', text)?;

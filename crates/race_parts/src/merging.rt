@@ -1,16 +1,13 @@
 //! Adds a file to the parts: a part, or a merged report with the parts in it.
-ghost use Rattle.std.specs.Prelude.{◌≡◌, ◌<◌, ◌∷◌, All, codes, List, ℕ, None, Some, Vec, IfErr, IfOk, OnOk, false, length, map, not, option_map, position, take, true, slice_get};
-ghost use Rattle.std.specs.Option.{option_or};
-ghost use Rattle.std.specs.declared.alloc.Global.{Global};
+ghost use Rattle.std.specs.Prelude.{◌≡◌, ◌<◌, ◌∷◌, None, IfErr, IfOk, OnOk, length, map, not, position, true};
 ghost use Rattle.serde_json.specs.View.{view};
-ghost use Rattle.race_parts.specs.Merging.{told_of, told_parts, Gives, IsPartRefused, IsPartText, IsRefused, IsReportRefused, GivesReport, IsSound, IsUnsound, IsUnputOr};
-ghost use Rattle.race_parts.specs.Merging.{is_foreign, is_merged_head, is_part_line, wrong_behind_head, wrong_merged, AreWrongIn, IsLineRefused, IsUntaken, one_behind, part_lines};
-ghost use Rattle.race_parts.specs.Merging.{ClashesIn, IsClash, ListsReport};
 ghost use Rattle.race_parts.specs.Kept.{AreKept};
-ghost use Rattle.race_parts.specs.Lines.{AreLines, IsReadOn};
-ghost use Rattle.race_parts.specs.Members.{said_text};
-ghost use Rattle.race_parts.specs.Rows.{wrong_line};
-ghost use Rattle.race_parts.specs.Parts.{AreThere, HasOther, IfClash, IsPutFault, held_at, held_from, joined, told_in, single, text_at};
+ghost use Rattle.race_parts.specs.Lines.{IsReadOn};
+ghost use Rattle.race_parts.specs.Merging.{AreTextsAdded, Gives, GivesReport, IsFileAdded, IsFileAddedFrom, IsFileThere, IsLineAdded, IsPartAdded, IsPartText, IsReportAdded};
+ghost use Rattle.race_parts.specs.Merging.{AreWrongIn, IsLineRefused, IsPartRefused, IsRefused, IsReportRefused, IsSound, IsUnsound, IsUnputOr, IsUntaken};
+ghost use Rattle.race_parts.specs.Merging.{ClashesBy, ClashesIn, HasOtherIn, HasOtherLine, HasOtherPart, IsClash, ListsReport};
+ghost use Rattle.race_parts.specs.Merging.{is_foreign, is_merged_head, is_part_line, name_told, one_behind, part_lines, text_told, told_of, told_parts, wrong_behind_head, wrong_merged};
+ghost use Rattle.race_parts.specs.Parts.{AreMerged, AreMergedFrom, AreThere, HasOther, HasPart, IsPutFault, OnClash, held_at, single, told_in};
 
 use crate::kept::KeptRow;
 use crate::lines::{Begun, PartRefusal, ReadRows, begin, lines_in, rows_in};
@@ -32,13 +29,11 @@ pub fn take_file(
     text: &[u8],
     file: u32,
 ) -> Result<(), PartRefusal>
-    ensures ok { OnOk result ((given : List (List ℕ × List ℕ)) × Gives name.now text.now given
-        × ((q : Vec ℕ Global) → text_at parts.new q ≡ joined (text_at parts.old q) (told_in given q.items))) }
-    ensures held { OnOk result ((given : List (List ℕ × List ℕ)) × Gives name.now text.now given
-        × ((q : Vec ℕ Global) → held_at parts.new q ≡ option_or (held_at parts.old q) (held_from file (told_in given q.items)))) }
-    ensures there { OnOk result ((given : List (List ℕ × List ℕ)) × Gives name.now text.now given × AreThere parts.new given) }
+    ensures ok { OnOk result (IsFileAdded parts.old parts.new (Gives name.now text.now)) }
+    ensures held { OnOk result (IsFileAddedFrom file parts.old parts.new (Gives name.now text.now)) }
+    ensures there { OnOk result (IsFileThere parts.new (Gives name.now text.now)) }
     ensures err { IfErr result (IsRefused text.now) }
-    ensures clash { IfErr result (λ why. IfClash why (ClashesIn parts.old name.now text.now file)) }
+    ensures clash { OnClash result (ClashesIn parts.old name.now text.now file) }
 {
     if text.is_empty() {
         return Err(PartRefusal::Line(0));
@@ -75,14 +70,11 @@ fn take_part(
     file: u32,
 ) -> Result<(), PartRefusal>
     requires { IsReadOn text.now begun.rest.now (view begun.head) }
-    ensures ok { OnOk result (IsSound text.now (view begun.entry.head)
-        × ((q : Vec ℕ Global) → text_at parts.new q ≡ joined (text_at parts.old q) (single name.now text.now q.items))) }
-    ensures held { OnOk result ((q : Vec ℕ Global) → held_at parts.new q
-        ≡ option_or (held_at parts.old q) (held_from file (single name.now text.now q.items))) }
-    ensures there { OnOk result ((key : Vec ℕ Global) → key.items ≡ name.now → text_at parts.new key ≡ Some text.now) }
+    ensures ok { OnOk result (IsPartAdded parts.old parts.new name.now text.now (view begun.entry.head)) }
+    ensures held { OnOk result (AreMergedFrom file parts.old parts.new (single name.now text.now)) }
+    ensures there { OnOk result (HasPart parts.new (name.now, text.now)) }
     ensures err { IfErr result (IsUnputOr (IsUnsound text.now (view begun.entry.head))) }
-    ensures clash { IfErr result (λ why. IfClash why
-        (λ other. IsSound text.now (view begun.entry.head) × HasOther (held_at parts.old) name.now text.now other)) }
+    ensures clash { OnClash result (HasOtherPart parts.old name.now text.now (view begun.entry.head)) }
 {
     let rows = check_part(alloc, text, &begun)?;
     put_copy(alloc, parts, name, text, rows, file)
@@ -98,12 +90,11 @@ fn put_copy(
     file: u32,
 ) -> Result<(), PartRefusal>
     requires { AreKept text.now rows }
-    ensures ok { OnOk result ((q : Vec ℕ Global) → text_at parts.new q ≡ joined (text_at parts.old q) (single name.now text.now q.items)) }
-    ensures held { OnOk result ((q : Vec ℕ Global) → held_at parts.new q
-        ≡ option_or (held_at parts.old q) (held_from file (single name.now text.now q.items))) }
-    ensures there { OnOk result ((key : Vec ℕ Global) → key.items ≡ name.now → text_at parts.new key ≡ Some text.now) }
+    ensures ok { OnOk result (AreMerged parts.old parts.new (single name.now text.now)) }
+    ensures held { OnOk result (AreMergedFrom file parts.old parts.new (single name.now text.now)) }
+    ensures there { OnOk result (HasPart parts.new (name.now, text.now)) }
     ensures why { IfErr result IsPutFault }
-    ensures clash { IfErr result (λ why. IfClash why (HasOther (held_at parts.old) name.now text.now)) }
+    ensures clash { OnClash result (HasOther (held_at parts.old) name.now text.now) }
 {
     let name = copied(alloc, name)?;
     let text = copied(alloc, text)?;
@@ -189,8 +180,7 @@ fn check_text(alloc: Global, text: &[u8]) -> Result<Option<Vec<KeptRow>>, PartRe
     if text.is_empty() {
         return Err(PartRefusal::Line(0));
     }
-    let begun = begin(alloc, text)?;
-    check_part(alloc, text, &begun)
+    check_part(alloc, text, &begin(alloc, text)?)
 }
 
 /// Adds the part in a line of a merged report. `place` is the 0-based index of the line.
@@ -201,17 +191,11 @@ fn take_line(
     place: usize,
     file: u32,
 ) -> Result<(), PartRefusal>
-    ensures ok { OnOk result (IsPartText (said_text (codes "text") (view line.now))
-        × ((q : Vec ℕ Global) → text_at parts.new q
-        ≡ joined (text_at parts.old q) (single (said_text (codes "name") (view line.now)) (said_text (codes "text") (view line.now)) q.items))) }
-    ensures held { OnOk result ((q : Vec ℕ Global) → held_at parts.new q
-        ≡ option_or (held_at parts.old q)
-        (held_from file (single (said_text (codes "name") (view line.now)) (said_text (codes "text") (view line.now)) q.items))) }
-    ensures there { OnOk result ((key : Vec ℕ Global) → key.items ≡ said_text (codes "name") (view line.now)
-        → text_at parts.new key ≡ Some (said_text (codes "text") (view line.now))) }
-    ensures err { IfErr result (IsLineRefused (said_text (codes "text") (view line.now)) place) }
-    ensures clash { IfErr result (λ why. IfClash why (λ other. IsPartText (said_text (codes "text") (view line.now))
-        × HasOther (held_at parts.old) (said_text (codes "name") (view line.now)) (said_text (codes "text") (view line.now)) other)) }
+    ensures ok { OnOk result (IsLineAdded parts.old parts.new line.now) }
+    ensures held { OnOk result (AreMergedFrom file parts.old parts.new (single (name_told line.now) (text_told line.now))) }
+    ensures there { OnOk result (HasPart parts.new (told_of line.now)) }
+    ensures err { IfErr result (IsLineRefused (text_told line.now) place) }
+    ensures clash { OnClash result (HasOtherLine parts.old line.now) }
 {
     let text = text_of(line, "text");
     match check_text(alloc, text) {
@@ -236,13 +220,11 @@ fn take_told(
     lines: &[Value],
     file: u32,
 ) -> Result<(), PartRefusal>
-    ensures ok { OnOk result (All (λ p. IsPartText p.1) (map told_of lines.now)
-        × ((q : Vec ℕ Global) → text_at parts.new q ≡ joined (text_at parts.old q) (told_in (map told_of lines.now) q.items))) }
-    ensures held { OnOk result ((q : Vec ℕ Global) → held_at parts.new q
-        ≡ option_or (held_at parts.old q) (held_from file (told_in (map told_of lines.now) q.items))) }
+    ensures ok { OnOk result (AreTextsAdded parts.old parts.new (map told_of lines.now)) }
+    ensures held { OnOk result (AreMergedFrom file parts.old parts.new (told_in (map told_of lines.now))) }
     ensures there { OnOk result (AreThere parts.new (map told_of lines.now)) }
     ensures err { IfErr result (IsUntaken lines.now) }
-    ensures clash { IfErr result (λ why. IfClash why (IsClash parts.old file (map told_of lines.now))) }
+    ensures clash { OnClash result (IsClash parts.old file (map told_of lines.now)) }
 {
     let mut left = lines;
     let mut place = 1;
@@ -262,14 +244,11 @@ fn take_merged(
     lines: &[Value],
     file: u32,
 ) -> Result<(), PartRefusal>
-    ensures ok { OnOk result ((wrong_merged lines.now ≡ None) × All (λ p. IsPartText p.1) (told_parts lines.now)
-        × ((q : Vec ℕ Global) → text_at parts.new q ≡ joined (text_at parts.old q) (told_in (told_parts lines.now) q.items))) }
-    ensures held { OnOk result ((q : Vec ℕ Global) → held_at parts.new q
-        ≡ option_or (held_at parts.old q) (held_from file (told_in (told_parts lines.now) q.items))) }
+    ensures ok { OnOk result (IsReportAdded parts.old parts.new lines.now) }
+    ensures held { OnOk result (AreMergedFrom file parts.old parts.new (told_in (told_parts lines.now))) }
     ensures there { OnOk result (AreThere parts.new (told_parts lines.now)) }
     ensures err { IfErr result (AreWrongIn lines.now) }
-    ensures clash { IfErr result (λ why. IfClash why
-        (λ other. (wrong_merged lines.now ≡ None) × IsClash parts.old file (told_parts lines.now) other)) }
+    ensures clash { OnClash result (HasOtherIn parts.old file lines.now) }
 {
     if let Some(at) = wrong_merged(lines) {
         return Err(PartRefusal::Line(at));
@@ -298,14 +277,11 @@ fn take_report(
 ) -> Result<(), PartRefusal>
     requires begun { IsReadOn text.now begun.rest.now (view begun.head) }
     requires merged { is_merged_head (view begun.head) ≡ true }
-    ensures ok { OnOk result ((given : List (List ℕ × List ℕ)) × GivesReport text.now given
-        × ((q : Vec ℕ Global) → text_at parts.new q ≡ joined (text_at parts.old q) (told_in given q.items))) }
-    ensures held { OnOk result ((given : List (List ℕ × List ℕ)) × GivesReport text.now given
-        × ((q : Vec ℕ Global) → held_at parts.new q ≡ option_or (held_at parts.old q) (held_from file (told_in given q.items)))) }
-    ensures there { OnOk result ((given : List (List ℕ × List ℕ)) × GivesReport text.now given × AreThere parts.new given) }
+    ensures ok { OnOk result (IsFileAdded parts.old parts.new (GivesReport text.now)) }
+    ensures held { OnOk result (IsFileAddedFrom file parts.old parts.new (GivesReport text.now)) }
+    ensures there { OnOk result (IsFileThere parts.new (GivesReport text.now)) }
     ensures err { IfErr result (IsReportRefused text.now) }
-    ensures clash { IfErr result (λ why. IfClash why
-        (λ other. (given : List (List ℕ × List ℕ)) × ListsReport text.now given × IsClash parts.old file given other)) }
+    ensures clash { OnClash result (ClashesBy parts.old (ListsReport text.now) file) }
 {
     let lines = lines_in(alloc, text, begun)?;
     if is_foreign(&lines) {

@@ -1,10 +1,11 @@
 //! Prints a merged report as JSON, one object per line. It contains the text of each part, so it can be merged again.
-ghost use Rattle.std.specs.Prelude.{◌≡◌, ◌-◌, ◌≤◌, [], IfOk, None, OnOk, drop, false, length};
+ghost use Rattle.std.specs.Prelude.{◌≡◌, ◌-◌, ◌≤◌, [], IfOk, None, drop, false, length};
 ghost use Rattle.rapid_text.specs.Appended.{Appended};
-ghost use Rattle.serde_json.specs.Data.{object, put as with_member, string};
-ghost use Rattle.serde_json.specs.View.{members_view, view};
+ghost use Rattle.serde_json.specs.Data.{put as with_member, string};
+ghost use Rattle.serde_json.specs.View.{view};
 ghost use Rattle.serde_json.specs.Written.{has_float};
-ghost use Rattle.race_parts.specs.Objects.{json_line, merged_lines, merged_object, news_count, pair_lines, pair_object, pair_object_at, part_lines, part_object, text, verdict_word, whole};
+ghost use Rattle.race_parts.specs.Made.{Changed, FilledAs, MadeAs};
+ghost use Rattle.race_parts.specs.Objects.{json_line, merged_lines, merged_object, news_count, pair_line, pair_lines, pair_object_at, part_lines, part_object, tally_object, text, verdict_word, whole};
 ghost use Rattle.race_parts.specs.Texts.{is_new, run_count};
 
 use crate::cells::{Cell, cell_at, is_same};
@@ -21,7 +22,7 @@ fn put_number(
     name: &str,
     number: u64,
 ) -> Result<(), AllocError>
-    ensures { OnOk result (members_view members.new.entries ≡ with_member name.now (whole number) (members_view members.old.entries)) }
+    ensures { Changed result members.old members.new (with_member name.now (whole number)) }
 {
     put(members, alloc, name, Value::from(number))
 }
@@ -33,12 +34,9 @@ fn put_word(
     name: &str,
     word: &str,
 ) -> Result<(), AllocError>
-    ensures { OnOk result (members_view members.new.entries ≡ with_member name.now (string word.now) (members_view members.old.entries)) }
+    ensures { Changed result members.old members.new (with_member name.now (string word.now)) }
 {
-    match Value::try_from_str(alloc, word) {
-        Ok(value) => put(members, alloc, name, value),
-        Err(refused) => Err(refused),
-    }
+    put(members, alloc, name, Value::try_from_str(alloc, word)?)
 }
 
 /// Adds a member with these bytes as a text. Bytes that are not UTF-8 become U+FFFD.
@@ -48,17 +46,14 @@ fn put_text(
     name: &str,
     bytes: &[u8],
 ) -> Result<(), AllocError>
-    ensures { OnOk result (members_view members.new.entries ≡ with_member name.now (text bytes.now) (members_view members.old.entries)) }
+    ensures { Changed result members.old members.new (with_member name.now (text bytes.now)) }
 {
-    match text_of(alloc, bytes) {
-        Ok(value) => put(members, alloc, name, value),
-        Err(refused) => Err(refused),
-    }
+    put(members, alloc, name, text_of(alloc, bytes)?)
 }
 
 /// The bytes as a JSON text. Bytes that are not UTF-8 become U+FFFD.
 fn text_of(alloc: Global, bytes: &[u8]) -> Result<Value, AllocError>
-    ensures { IfOk result (λ value. view value ≡ text bytes.now) }
+    ensures { MadeAs result (text bytes.now) }
 {
     Ok(Value::String(String::from_utf8_lossy(alloc, bytes)?))
 }
@@ -71,24 +66,21 @@ fn put_merged(
     pairs: usize,
 ) -> Result<(), AllocError>
     requires { members.old.entries ≡ [] }
-    ensures { OnOk result (object (members_view members.new.entries) ≡ merged_object parts pairs) }
+    ensures { FilledAs result members.new (merged_object parts pairs) }
 {
     put_word(members, alloc, "kind", "merged")?;
     put_number(members, alloc, "parts", parts as u64)?;
     put_number(members, alloc, "pairs", pairs as u64)?;
-    put_number(members, alloc, "version", 1)?;
-    Ok(())
+    put_number(members, alloc, "version", 1)
 }
 
 /// The JSON object of the report's first line.
 fn merged_of(alloc: Global, parts: usize, pairs: usize) -> Result<Value, AllocError>
-    ensures { IfOk result (λ made. view made ≡ merged_object parts pairs) }
+    ensures { MadeAs result (merged_object parts pairs) }
 {
     let mut members = Map::new(alloc);
-    match put_merged(&mut members, alloc, parts, pairs) {
-        Ok(()) => Ok(Value::Object(members)),
-        Err(refused) => Err(refused),
-    }
+    put_merged(&mut members, alloc, parts, pairs)?;
+    Ok(Value::Object(members))
 }
 
 /// Adds the members of a part's object: its name and its text.
@@ -99,23 +91,20 @@ fn put_part(
     bytes: &[u8],
 ) -> Result<(), AllocError>
     requires { members.old.entries ≡ [] }
-    ensures { OnOk result (object (members_view members.new.entries) ≡ part_object name.now bytes.now) }
+    ensures { FilledAs result members.new (part_object name.now bytes.now) }
 {
     put_word(members, alloc, "kind", "part")?;
     put_text(members, alloc, "name", name)?;
-    put_text(members, alloc, "text", bytes)?;
-    Ok(())
+    put_text(members, alloc, "text", bytes)
 }
 
 /// The JSON object of a part.
 fn part_of(alloc: Global, name: &[u8], bytes: &[u8]) -> Result<Value, AllocError>
-    ensures { IfOk result (λ made. view made ≡ part_object name.now bytes.now) }
+    ensures { MadeAs result (part_object name.now bytes.now) }
 {
     let mut members = Map::new(alloc);
-    match put_part(&mut members, alloc, name, bytes) {
-        Ok(()) => Ok(Value::Object(members)),
-        Err(refused) => Err(refused),
-    }
+    put_part(&mut members, alloc, name, bytes)?;
+    Ok(Value::Object(members))
 }
 
 /// In how many parts a pair of locations is a race, undecided or apart, and how many parts do not meet it.
@@ -146,7 +135,7 @@ fn put_pair(
     tally: Tally,
 ) -> Result<(), AllocError>
     requires { members.old.entries ≡ [] }
-    ensures { OnOk result (object (members_view members.new.entries) ≡ pair_object cell.entry tally.races tally.undecided tally.apart tally.unmet) }
+    ensures { FilledAs result members.new (tally_object cell.entry tally) }
 {
     put_word(members, alloc, "kind", "pair")?;
     put_word(members, alloc, "verdict", word_of(cell.rank))?;
@@ -159,19 +148,16 @@ fn put_pair(
     put_number(members, alloc, "race", tally.races as u64)?;
     put_number(members, alloc, "undecided", tally.undecided as u64)?;
     put_number(members, alloc, "apart", tally.apart as u64)?;
-    put_number(members, alloc, "unmet", tally.unmet as u64)?;
-    Ok(())
+    put_number(members, alloc, "unmet", tally.unmet as u64)
 }
 
 /// The JSON object of a pair of locations.
 fn pair_of(alloc: Global, cell: Cell<'_>, tally: Tally) -> Result<Value, AllocError>
-    ensures { IfOk result (λ made. view made ≡ pair_object cell.entry tally.races tally.undecided tally.apart tally.unmet) }
+    ensures { MadeAs result (tally_object cell.entry tally) }
 {
     let mut members = Map::new(alloc);
-    match put_pair(&mut members, alloc, cell, tally) {
-        Ok(()) => Ok(Value::Object(members)),
-        Err(refused) => Err(refused),
-    }
+    put_pair(&mut members, alloc, cell, tally)?;
+    Ok(Value::Object(members))
 }
 
 /// Appends a JSON object and a line feed. The object has no fractions.
@@ -266,7 +252,7 @@ fn pair_at(
     at: usize,
 ) -> Result<Value, AllocError>
     requires { at ≤ length cells.now }
-    ensures { IfOk result (λ made. view made ≡ pair_object_at parts cell.entry (drop at cells.now)) }
+    ensures { MadeAs result (pair_object_at parts cell.entry (drop at cells.now)) }
 {
     pair_of(alloc, cell, tally_of(parts, cell, cells, at))
 }
@@ -280,7 +266,7 @@ fn append_pair(
     at: usize,
 ) -> Result<(), OutOfMemory>
     requires { at ≤ length cells.now }
-    ensures { Appended result out.old out.new (json_line (pair_object_at parts cell.entry (drop at cells.now))) }
+    ensures { Appended result out.old out.new (pair_line parts cell.entry (drop at cells.now)) }
 {
     let object = pair_at(*out.allocator(), parts, cell, cells, at)?;
     append_line(out, &object)

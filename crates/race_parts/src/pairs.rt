@@ -1,7 +1,6 @@
 //! The pairs of locations in a report, each with the row to print and the parts' verdicts.
-ghost use Rattle.std.specs.Prelude.{◌≡◌, ◌≤◌, ◌++◌, ◌∷◌, [], IfOk, None, OnOk, drop, false, length, map, slice_get, true};
-ghost use Rattle.race_parts.specs.Pairs.{line_by, pair_shown, pair_told, pairs_by, pairs_shown, pairs_told};
-ghost use Rattle.race_parts.specs.Texts.{run_count};
+ghost use Rattle.std.specs.Prelude.{◌≡◌, ◌≤◌, ◌∷◌, [], IfOk, None, drop, length, map, slice_get};
+ghost use Rattle.race_parts.specs.Pairs.{line_by, pair_shown, pair_told, pairs_shown, pairs_told, AppendedPairs};
 
 use crate::cells::{Cell, Row, cell_at};
 use crate::counting::{is_head, run_counts};
@@ -51,7 +50,7 @@ fn push_pairs<'a>(
     cells: &[Cell<'a>],
     rank: u8,
 ) -> Result<(), OutOfMemory>
-    ensures { OnOk result (map pair_shown pairs.new.items ≡ map pair_shown pairs.old.items ++ pairs_told rows.now rank None cells.now) }
+    ensures { AppendedPairs result pairs.old pairs.new (pairs_told rows.now rank None cells.now) }
 {
     let mut before = None;
     let mut at = 0;
@@ -75,7 +74,7 @@ fn push_pair<'a>(
     at: usize,
 ) -> Result<(), OutOfMemory>
     requires { at ≤ length cells.now }
-    ensures { OnOk result (map pair_shown pairs.new.items ≡ map pair_shown pairs.old.items ++ pair_told rows.now cell.entry (drop at cells.now) ∷ []) }
+    ensures { AppendedPairs result pairs.old pairs.new (pair_told rows.now cell.entry (drop at cells.now) ∷ []) }
 {
     pairs.push(pair_of(rows, cell, cells, at))?;
     Ok(())

@@ -1,6 +1,7 @@
 //! Presorts cells by numbers of their locations, because comparing numbers takes less time than comparing locations.
 ghost use Rattle.std.specs.List.Sorted.{IsPermutation};
-ghost use Rattle.std.specs.Prelude.{◌≡◌, IfOk, map, slice_index_or};
+ghost use Rattle.std.specs.Prelude.{◌≡◌, IfOk, slice_index_or};
+ghost use Rattle.race_parts.specs.Cells.{cells_by};
 ghost use Rattle.race_parts.specs.declared.cells.Cell.{Cell};
 
 use crate::cells::Cell;
@@ -33,7 +34,7 @@ fn keys_of(
     cells: &[Cell<'_>],
     places: &[(usize, usize)],
 ) -> Result<Vec<Quick>, OutOfMemory>
-    ensures { IfOk result (λ keys. (d : Cell) → map (λ k. slice_index_or cells.now k.number d) keys.items ≡ cells.now) }
+    ensures { IfOk result (λ keys. (d : Cell) → cells_by cells.now d keys.items ≡ cells.now) }
 {
     let mut keys = Vec::with_capacity(alloc, cells.len())?;
     let mut at = 0;
@@ -76,7 +77,7 @@ fn in_order<'a>(
     keys: &Vec<Quick>,
     other: Cell<'a>,
 ) -> Result<Vec<Cell<'a>>, OutOfMemory>
-    ensures { IfOk result (λ made. made.items ≡ map (λ k. slice_index_or cells.now k.number other.entry) keys.now.items) }
+    ensures { IfOk result (λ made. made.items ≡ cells_by cells.now other.entry keys.now.items) }
 {
     let mut made = Vec::with_capacity(alloc, keys.len())?;
     for key in keys {

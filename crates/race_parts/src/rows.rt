@@ -187,9 +187,8 @@ fn wrong_behind(head: &Value, marks: &[Mark]) -> Option<usize>
 pub(crate) fn wrong_line(head: &Value, marks: &[Mark]) -> Option<usize>
     ensures { (ds : List Data) → marks.now ≡ map mark_of ds → result ≡ wrong_line (view head.now ∷ ds) }
 {
-    if is_counts(head) {
-        wrong_behind(head, marks)
-    } else {
-        Some(0)
+    if !is_counts(head) {
+        return Some(0);
     }
+    wrong_behind(head, marks)
 }

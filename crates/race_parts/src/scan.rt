@@ -1,13 +1,13 @@
 //! Reads a row in the form that `triage` prints, without making a JSON value of it. `serde_json` reads all other
 //! forms.
-ghost use Rattle.std.specs.Prelude.{◌≡◌, ◌<◌, ◌+◌, ◌^◌, ◌++◌, ◌∷◌, [], decimal, List, ℕ, IfSome, Some, length, slice_index, true};
+ghost use Rattle.std.specs.Prelude.{◌≡◌, ◌<◌, ◌+◌, ◌^◌, ◌++◌, ◌∷◌, [], decimal, IfSome, Some, length, slice_index, true};
 ghost use Rattle.json.specs.Print.{quoted};
-ghost use Rattle.serde_json.specs.Data.{Data, Members};
+ghost use Rattle.serde_json.specs.Data.{Data};
 ghost use Rattle.serde_json.specs.Read.{read};
-ghost use Rattle.serde_json.specs.Written.{comma_if, compact_text, items_text, members_text};
+ghost use Rattle.serde_json.specs.Written.{comma_if};
 ghost use Rattle.race_parts.specs.Facts.{IsKnown};
 ghost use Rattle.race_parts.specs.Lines.{Tells};
-ghost use Rattle.race_parts.specs.Printed.{IsAccess, IsOutcome, accesses_text, names_members, strings};
+ghost use Rattle.race_parts.specs.Printed.{AreAccessesOn, AreNamesOn, HasOutcome, IsAccessEndOn, IsAccessOn};
 
 use crate::quotes::plain_end;
 use crate::rows::is_how;
@@ -113,10 +113,8 @@ fn text_at(text: &[u8]) -> Option<(&[u8], &[u8])>
     ensures { IfSome result (λ read. text.now ≡ quoted read.0.now ++ read.1.now) }
 {
     let inside = strip(text, b"\"")?;
-    let end = plain_end(inside);
-    let (plain, rest) = inside.split_at(end);
-    let behind = strip(rest, b"\"")?;
-    Some((plain, behind))
+    let (plain, rest) = inside.split_at(plain_end(inside));
+    Some((plain, strip(rest, b"\"")?))
 }
 
 /// The text after a comma. If `is_later` is false, there is no comma, and the whole text is returned.
@@ -124,11 +122,10 @@ fn text_at(text: &[u8]) -> Option<(&[u8], &[u8])>
 fn comma_at(text: &[u8], is_later: bool) -> Option<&[u8]>
     ensures { IfSome result (λ behind. text.now ≡ comma_if is_later ++ behind.now) }
 {
-    if is_later {
-        strip(text, b",")
-    } else {
-        Some(text)
+    if !is_later {
+        return Some(text);
     }
+    strip(text, b",")
 }
 
 /// Whether the text is exactly the end of an object.
@@ -140,7 +137,7 @@ fn is_end(text: &[u8]) -> bool
 
 /// The text after the rest of a list of at most `most` texts. Returns None if the list has more.
 fn holds_at(text: &[u8], is_later: bool, most: u8) -> Option<&[u8]>
-    ensures { IfSome result (λ behind. (names : List (List ℕ)) × (text.now ≡ items_text is_later (strings names) ++ behind.now)) }
+    ensures { IfSome result (λ behind. AreNamesOn is_later text.now behind.now) }
 {
     if let Some(behind) = strip(text, b"]") {
         return Some(behind);
@@ -171,7 +168,7 @@ fn named_at<'a>(text: &'a [u8], words: &[u8]) -> Option<(&'a [u8], &'a [u8])>
 
 /// The text after the last three members of an access.
 fn names_at(text: &[u8]) -> Option<&[u8]>
-    ensures { IfSome result (λ behind. (o t v : List ℕ) × (text.now ≡ members_text true (names_members o t v) ++ behind.now)) }
+    ensures { IfSome result (λ behind. IsAccessEndOn text.now behind.now) }
 {
     let (_, text) = named_at(text, b",\"operation\":")?;
     let (_, text) = named_at(text, b",\"thread\":")?;
@@ -181,7 +178,7 @@ fn names_at(text: &[u8]) -> Option<&[u8]>
 
 /// The access at the beginning, and the text after it.
 fn access_at(text: &[u8]) -> Option<(Access<'_>, &[u8])>
-    ensures { IfSome result (λ read. (d : Data) × IsAccess read.0.event read.0.location.now d × (text.now ≡ compact_text d ++ read.1.now)) }
+    ensures { IfSome result (λ read. IsAccessOn text.now read.0 read.1.now) }
 {
     let (event, text) = field_at(text, b"{\"event\":")?;
     let text = holds_at(strip(text, b",\"holds\":[")?, false, MAX_HOLDS)?;
@@ -197,8 +194,7 @@ fn access_at(text: &[u8]) -> Option<(Access<'_>, &[u8])>
 
 /// The two accesses at the beginning of a row, and the text after them.
 fn accesses_at(line: &[u8]) -> Option<(Access<'_>, Access<'_>, &[u8])>
-    ensures { IfSome result (λ read. (one other : Data) × IsAccess read.0.event read.0.location.now one × IsAccess read.1.event read.1.location.now other
-        × (line.now ≡ accesses_text one other ++ read.2.now)) }
+    ensures { IfSome result (λ read. AreAccessesOn line.now read.0 read.1 read.2.now) }
 {
     let (one, text) = access_at(strip(line, b"{\"accesses\":[")?)?;
     let (other, text) = access_at(strip(text, b",")?)?;
@@ -207,7 +203,7 @@ fn accesses_at(line: &[u8]) -> Option<(Access<'_>, Access<'_>, &[u8])>
 
 /// How many events the schedule of a race has. Returns None if the rest of the row is not a race's.
 fn race_at(text: &[u8]) -> Option<u64>
-    ensures { IfSome result (λ events. (ms : Members) × IsOutcome 0 events ms × (text.now ≡ members_text true ms)) }
+    ensures { IfSome result (HasOutcome text.now 0) }
 {
     let (events, text) = field_at(text, b",\"events\":")?;
     let (how, text) = named_at(text, b",\"how\":")?;
@@ -223,7 +219,7 @@ fn race_at(text: &[u8]) -> Option<u64>
 
 /// 0. Returns None if the rest of the row is not an undecided row's.
 fn undecided_at(text: &[u8]) -> Option<u64>
-    ensures { IfSome result (λ size. (ms : Members) × IsOutcome 1 size ms × (text.now ≡ members_text true ms)) }
+    ensures { IfSome result (HasOutcome text.now 1) }
 {
     let text = strip(text, b",\"kind\":\"undecided\"")?;
     let (_, text) = field_at(text, b",\"pairs\":")?;
@@ -234,7 +230,7 @@ fn undecided_at(text: &[u8]) -> Option<u64>
 
 /// 0. Returns None if the rest of the row is not an apart row's.
 fn apart_at(text: &[u8]) -> Option<u64>
-    ensures { IfSome result (λ size. (ms : Members) × IsOutcome 2 size ms × (text.now ≡ members_text true ms)) }
+    ensures { IfSome result (HasOutcome text.now 2) }
 {
     let text = strip(text, b",\"kind\":\"apart\"")?;
     let (_, text) = field_at(text, b",\"pairs\":")?;
@@ -243,7 +239,7 @@ fn apart_at(text: &[u8]) -> Option<u64>
 
 /// The rank and the schedule size, read from the rest of the row.
 fn outcome_at(text: &[u8]) -> Option<(u8, u64)>
-    ensures { IfSome result (λ read. (ms : Members) × IsOutcome read.0 read.1 ms × (text.now ≡ members_text true ms)) }
+    ensures { IfSome result (λ read. HasOutcome text.now read.0 read.1) }
 {
     if let Some(events) = race_at(text) {
         return Some((0, events));

@@ -25,8 +25,7 @@ fn append_tally(
     append_named(out, b" undecided", undecided)?;
     append_named(out, b" apart", apart)?;
     append_named(out, b" unmet", unmet_of(parts, races, undecided, apart))?;
-    append_words(out, b"\n")?;
-    Ok(())
+    append_words(out, b"\n")
 }
 
 /// Appends the line with a part's name.
@@ -35,8 +34,7 @@ fn append_part(out: &mut Vec<u8>, name: &[u8]) -> Result<(), OutOfMemory>
 {
     append_words(out, b"    part ")?;
     append_shown(out, name)?;
-    append_words(out, b"\n")?;
-    Ok(())
+    append_words(out, b"\n")
 }
 
 /// Appends the row with this number as a block. Appends nothing if there is no such row.
@@ -112,8 +110,7 @@ fn append_counts(out: &mut Vec<u8>, parts: usize, counts: Counts) -> Result<(), 
     append_count(out, b"parts", parts as u64)?;
     append_count(out, b"races", counts.races as u64)?;
     append_count(out, b"undecided", counts.undecided as u64)?;
-    append_count(out, b"apart", counts.apart as u64)?;
-    Ok(())
+    append_count(out, b"apart", counts.apart as u64)
 }
 
 /// Returns the merged report as text, and the number of races in it. `apart` says whether to print the apart pairs

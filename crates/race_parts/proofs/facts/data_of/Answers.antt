@@ -5,7 +5,7 @@ use Rattle.serde_json.specs.declared.value.Value.{Null, the_lemmas}
 use Rattle.race_parts.proofs.FactLemmas.{data_none}
 use Rattle.race_parts.proofs.facts.data_of.Goals as goal
 
-pub returns-in-Ok-None : goal.returns-in-Ok-None
-returns-in-Ok-None c =
+pub returns-in-None : goal.returns-in-None
+returns-in-None c =
     let empty : view Null ≡ null = search (rules, the_lemmas) in
     empty ∙ data_none c.args.line.now (search rules)
