@@ -1,5 +1,5 @@
 -- What functions say of a JSON value that they make, and of the members that they put into an object.
-use Rattle.std.specs.Prelude.{◌≡◌, List, ◌++◌, map, Result, OnOk, IfOk, String, Vec}
+use Rattle.std.specs.Prelude.{◌≡◌, Result, OnOk, IfOk, String}
 use Rattle.std.specs.BTreeMap.{BTreeMap}
 use Rattle.std.specs.declared.alloc.Global.{Global}
 use Rattle.serde_json.specs.Data.{Data, Members, object}
@@ -17,7 +17,3 @@ Changed answer old new change = OnOk answer (members_view new.entries ≡ change
 -- unless the answer is an error, the members are now those of this object
 abbrev pub FilledAs : {T E : Type 0} → Result T E → BTreeMap (String Global) Value → Data → Type 0
 FilledAs answer new d = OnOk answer (object (members_view new.entries) ≡ d)
-
--- unless the answer is an error, these values were appended to the list
-abbrev pub AppendedViews : {T E : Type 0} → Result T E → Vec Value Global → Vec Value Global → List Data → Type 0
-AppendedViews answer old new ds = OnOk answer (map view new.items ≡ map view old.items ++ ds)

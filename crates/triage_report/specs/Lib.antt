@@ -1,3 +1,4 @@
+pub mod Appending
 pub mod json
 pub mod lines
 pub mod sarif

@@ -8,6 +8,7 @@ use Rattle.race_triage.specs.Texts.{AreTotals}
 use Rattle.race_triage.specs.declared.totals.Totals.{Totals}
 use Rattle.race_triage.specs.declared.chosen.Chosen.{Chosen}
 use Rattle.race_triage.specs.declared.verdicts.Verdict.{Verdict}
+use Rattle.race_triage.specs.declared.verdicts.Verdicts.{Verdicts}
 
 -- an object's text, and the end of its line
 abbrev pub json_line : Data → List ℕ
@@ -32,3 +33,7 @@ pub record IsTriageJson (r : Recording) (vs : List Verdict) (c : Chosen) (text :
   pub totals : Totals
   pub counted : AreTotals r vs totals
   pub printed : text ≡ triage_lines r totals c
+
+-- the same for what was found
+abbrev pub IsJsonOf : Recording → Verdicts → Chosen → List ℕ → Type 0
+IsJsonOf r found c text = IsTriageJson r found.verdicts.items c text

@@ -16,6 +16,7 @@ use Rattle.race_triage.specs.declared.totals.Totals.{Totals}
 use Rattle.race_triage.specs.declared.verdicts.Outcome.{Outcome}
 use Rattle.race_triage.specs.declared.verdicts.Outcome.TheVariants.{Race, Undecided, Apart}
 use Rattle.race_triage.specs.declared.verdicts.Verdict.{Verdict}
+use Rattle.triage_report.specs.declared.json.accesses.Names.{Names}
 
 -- a number
 abbrev pub whole : ℕ → Data
@@ -84,6 +85,10 @@ access_object event holds location operation thread variable =
     (member (codes "thread") (text thread)
     (member (codes "variable") (text variable)
     no_members))))))
+
+-- the same with these names
+abbrev pub named_object : Names → Data → Data
+named_object n holds = access_object n.event holds n.location.now n.operation.now n.thread.now n.variable.now
 
 abbrev pub access_by : Recording → ℕ → Option Event → List Data
 access_by r e None = []

@@ -55,6 +55,10 @@ lock_line r place l = concat (place ∷ codes ": note: holds " ∷ name_at r.loc
 abbrev pub lock_lines : Recording → List ℕ → List ℕ → List ℕ
 lock_lines r place ls = flat_map (lock_line r place) ls
 
+-- the lines of the locks that the thread holds before event e
+abbrev pub held_lines : Recording → List ℕ → ℕ → List ℕ
+held_lines r place e = lock_lines r place (held_locks r e)
+
 -- the place of a call, or else that of the access
 abbrev pub place_or : List ℕ → List ℕ → List ℕ
 place_or place own = cond (length own == 0) place own
@@ -71,10 +75,14 @@ call_line place call = said_of (place_or place (call_place call)) (call_function
 abbrev pub call_lines : List ℕ → List (List ℕ) → List ℕ
 call_lines place calls = flat_map (call_line place) calls
 
+-- the lines of the calls that led to a location
+abbrev pub location_lines : List ℕ → List ℕ → List ℕ
+location_lines place location = call_lines place (calls_in MAX_CALLS (behind_arrow location))
+
 abbrev pub access_by : Recording → ℕ → Option Event → List ℕ
 access_by r e None = []
 access_by r e (Some v) =
-    about_line r e ++ lock_lines r (spot_at r e) (held_locks r e) ++ call_lines (spot_at r e) (calls_in MAX_CALLS (behind_arrow (location_at r e)))
+    about_line r e ++ held_lines r (spot_at r e) e ++ location_lines (spot_at r e) (location_at r e)
 
 -- the lines of event e: the access, the locks that are held, and the calls from the inside to the outside
 abbrev pub access_lines : Recording → ℕ → List ℕ

@@ -19,7 +19,12 @@ use Rattle.explain_report.specs.declared.findings.finding.Finding.{Finding}
 use Rattle.explain_report.specs.declared.findings.finding.Finding.TheVariants.{Race as FoundRace, Forced, Guarded, Undecided as FoundUndecided}
 use Rattle.triage_report.specs.sarif.Locations.{message}
 use Rattle.triage_report.specs.sarif.Stacks.{access_location}
+use Rattle.triage_report.specs.declared.sarif.flows.Flow.{Flow}
 use Rattle.triage_report.specs.declared.sarif.flows.TheConstants.{MOST_ORDER, MOST_STEPS}
+
+-- what `told` says of the trace, the folder of the code and the steps of a flow
+abbrev pub of_flow : {X : Type 0} → (Recording → List ℕ → List ℕ → X) → Flow → X
+of_flow told f = told f.indexed.now f.root.now f.steps.now
 
 -- the event at this place of the schedule; 0 if there is none
 abbrev pub step_at : List ℕ → ℕ → ℕ
@@ -80,9 +85,13 @@ thread_flow r root steps u places =
 abbrev pub flow_by : Recording → List ℕ → List ℕ → ℕ → List ℕ → List Data
 flow_by r root steps u places = cond (length places == 0) [] (thread_flow r root steps u places ∷ [])
 
+-- the places of thread u's steps, rising
+abbrev pub step_places : Recording → List ℕ → ℕ → List ℕ
+step_places r steps u = places_below (is_step r steps u) (length steps)
+
 -- the flow of thread u, if it has a step
 abbrev pub flow_if : Recording → List ℕ → List ℕ → ℕ → List Data
-flow_if r root steps u = flow_by r root steps u (places_below (is_step r steps u) (length steps))
+flow_if r root steps u = flow_by r root steps u (step_places r steps u)
 
 -- the flows of the threads below n
 abbrev pub flows_below : Recording → List ℕ → List ℕ → ℕ → List Data

@@ -5,6 +5,7 @@ use Rattle.serde_json.specs.Data.{Data, array, item, member, no_items, no_member
 use Rattle.triage_report.specs.json.Objects.{text, whole}
 use Rattle.explain_report.specs.places.Places.{is_line}
 use Rattle.triage_report.specs.sarif.Places.{file_of, is_absolute, line_of, relative, uri_of}
+use Rattle.triage_report.specs.declared.sarif.locations.Spot.{Spot}
 use Rattle.triage_report.specs.declared.sarif.places.TheConstants.{MOST_LINE}
 
 -- a list of one value
@@ -53,3 +54,7 @@ physical_members root place ms = cond (is_line place) (put (codes "physicalLocat
 -- a location: a place, a function, and what is said of it
 abbrev pub location : List ℕ → List ℕ → List ℕ → List ℕ → Data
 location root place function words = object (physical_members root place (function_members function (member (codes "message") (message words) no_members)))
+
+-- the same for a spot
+abbrev pub spot_location : List ℕ → Spot → Data
+spot_location root s = location root s.place.now s.function.now s.words.now

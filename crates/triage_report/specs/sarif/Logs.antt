@@ -1,6 +1,6 @@
 -- The whole log: one run of the tool, with a result for each verdict. `r` is the trace's recording, `s` the code. All notions here are this
 -- project's own.
-use Rattle.std.specs.Prelude.{◌≡◌, ℕ, ◌==◌, nat_lt, Bool, false, true, cond, List, [], ◌∷◌, ◌++◌, length, codes, Option, Some, None, option_map, Vec}
+use Rattle.std.specs.Prelude.{◌≡◌, ℕ, ◌==◌, nat_lt, Bool, false, true, cond, List, [], ◌∷◌, ◌++◌, length, codes, Option, Some, None, Vec}
 use Rattle.std.specs.declared.alloc.Global.{Global}
 use Rattle.rapid_text.specs.Recording.{Recording}
 use Rattle.serde_json.specs.Data.{Data, Members, member, no_members, object, put}
@@ -11,7 +11,7 @@ use Rattle.race_triage.specs.declared.verdicts.Verdict.{Verdict}
 use Rattle.triage_report.specs.sarif.Flows.{IsFlowOf}
 use Rattle.triage_report.specs.sarif.Locations.{message}
 use Rattle.triage_report.specs.sarif.Places.{is_absolute, uri_of}
-use Rattle.triage_report.specs.sarif.Results.{result_object}
+use Rattle.triage_report.specs.sarif.Results.{shown_result}
 use Rattle.triage_report.specs.declared.sarif.logs.TheConstants.{END, HEAD, MOST_FLOWS, PROPERTIES, TAIL}
 use Rattle.triage_report.specs.declared.sarif.sources.Sources.{Sources}
 
@@ -60,7 +60,7 @@ joined ds = joined_by false ds
 -- the object is the result of a verdict, with a schedule as its code flow if it is a race that is drawn
 abbrev pub IsResult : Recording → Sources → Bool → Verdict → Data → Type 0
 IsResult r s drawn v d =
-    (steps : Option (Vec ℕ Global)) × IsFlowOf r drawn v steps × (d ≡ result_object r s v (option_map (λ (t : Vec ℕ Global). t.items) steps))
+    (steps : Option (Vec ℕ Global)) × IsFlowOf r drawn v steps × (d ≡ shown_result r s v steps)
 
 -- The objects are the results of the verdicts, in order. The first MOST_FLOWS are drawn.
 pub data AreResults (r : Recording) (s : Sources) : List Verdict → List Data → Type 0 where

@@ -7,9 +7,10 @@ use Rattle.std.specs.Cmp.Lexicographic.{slice_cmp}
 use Rattle.serde_json.specs.Data.{Data, member, no_members, object}
 use Rattle.triage_report.specs.json.Objects.{text}
 use Rattle.explain_report.specs.places.Places.{before_arrow}
-use Rattle.triage_report.specs.sarif.Accesses.{Told}
+use Rattle.triage_report.specs.sarif.Accesses.{Told, access_told}
 use Rattle.triage_report.specs.sarif.Places.{file_of, line_text, relative}
 use Rattle.triage_report.specs.sarif.Stacks.{own_function}
+use Rattle.triage_report.specs.declared.sarif.accesses.Access.{Access}
 use Rattle.triage_report.specs.declared.sarif.sources.Sources.{Sources}
 
 -- the file, the function, the variable and the line of an access
@@ -28,3 +29,10 @@ ordered x y = match_ordering (slice_cmp nat_cmp x y) (both x y) (both x y) (both
 -- the fingerprint of a pair: the same in either order
 abbrev pub print_object : Sources → Told → Told → Data
 print_object s t u = object (member (codes "racePair/v1") (text (ordered (side s t) (side s u))) no_members)
+
+-- the same for accesses as they are given
+abbrev pub side_told : Sources → Access → List ℕ
+side_told s a = side s (access_told a)
+
+abbrev pub print_told : Sources → Access → Access → Data
+print_told s a b = print_object s (access_told a) (access_told b)

@@ -1,15 +1,17 @@
 -- What was found of a pair as a result. `r` is the trace's recording, `root` the folder of the code. All notions here are this project's own.
-use Rattle.std.specs.Prelude.{ℕ, List, codes, Option, Some, None}
+use Rattle.std.specs.Prelude.{ℕ, List, codes, Option, Some, None, option_map, Vec}
+use Rattle.std.specs.declared.alloc.Global.{Global}
 use Rattle.rapid_text.specs.Recording.{Recording}
 use Rattle.serde_json.specs.Data.{Data, Members, no_members, object, put, string}
 use Rattle.triage_report.specs.json.Objects.{whole}
 use Rattle.race_triage.specs.declared.verdicts.Verdict.{Verdict}
-use Rattle.triage_report.specs.sarif.Accesses.{Told, told_at}
+use Rattle.triage_report.specs.sarif.Accesses.{Told, access_told, told_at}
 use Rattle.triage_report.specs.sarif.Flows.{code_flow}
 use Rattle.triage_report.specs.sarif.Locations.{message, single}
 use Rattle.triage_report.specs.sarif.Prints.{print_object}
 use Rattle.triage_report.specs.sarif.Stacks.{stacks, told_location}
 use Rattle.triage_report.specs.sarif.Words.{kind_word, level_word, message_words, outcome_rank, rule_number, rule_word}
+use Rattle.triage_report.specs.declared.sarif.results.Found.{Found}
 use Rattle.triage_report.specs.declared.sarif.sources.Sources.{Sources}
 
 -- the rule, and how bad it is
@@ -43,6 +45,10 @@ print_members s t u ms = put (codes "partialFingerprints") (print_object s t u) 
 abbrev pub found_members : Sources → ℕ → List ℕ → Told → Told → Members → Members
 found_members s rank words t u ms = print_members s t u (access_members s.root.now t u (said_members words (word_members rank ms)))
 
+-- the same for a finding
+abbrev pub found_told : Sources → Found → Members → Members
+found_told s f ms = found_members s f.rank f.words.now (access_told f.first) (access_told f.second) ms
+
 -- the code flow of these steps
 abbrev pub step_members : Recording → List ℕ → List ℕ → Members → Members
 step_members r root steps ms = put (codes "codeFlows") (single (code_flow r root steps)) ms
@@ -56,3 +62,7 @@ flow_members r root (Some steps) ms = step_members r root steps ms
 abbrev pub result_object : Recording → Sources → Verdict → Option (List ℕ) → Data
 result_object r s v steps =
     object (flow_members r s.root.now steps (found_members s (outcome_rank v.outcome) (message_words r v) (told_at r v.first) (told_at r v.second) no_members))
+
+-- the same for a list of steps, if there is one
+abbrev pub shown_result : Recording → Sources → Verdict → Option (Vec ℕ Global) → Data
+shown_result r s v steps = result_object r s v (option_map (λ (t : Vec ℕ Global). t.items) steps)

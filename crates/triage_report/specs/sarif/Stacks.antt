@@ -45,6 +45,10 @@ access_location r root e = told_location root (told_at r e)
 abbrev pub frame : Data → Data
 frame d = object (member (codes "location") d no_members)
 
+-- the frame of an access itself
+abbrev pub own_frame : List ℕ → Told → Data
+own_frame root t = frame (told_location root t)
+
 -- what is said of a call of this function
 abbrev pub caller_words : List ℕ → List ℕ
 caller_words function = cond (length function == 0) (codes "a call") function
@@ -55,7 +59,7 @@ call_frame root call = frame (location root (call_place call) (call_function cal
 
 -- the frames of an access, the innermost first
 abbrev pub frames : List ℕ → Told → Data
-frames root t = array (items_of (frame (told_location root t) ∷ map (call_frame root) (calls_in MAX_CALLS (callers t.location))))
+frames root t = array (items_of (own_frame root t ∷ map (call_frame root) (calls_in MAX_CALLS (callers t.location))))
 
 -- what is said of an access
 abbrev pub said_members : Told → Members → Members

@@ -1,11 +1,12 @@
 //! Accesses as objects of JSON.
-ghost use Rattle.std.specs.Prelude.{◌≡◌, ◌<◌, ◌++◌, ◌∷◌, [], codes, IfOk, OnOk, length, map};
+ghost use Rattle.std.specs.Prelude.{◌≡◌, ◌<◌, ◌∷◌, [], codes, IfOk, length};
 ghost use Rattle.rapid_text.specs.Canonical.{name_at};
 ghost use Rattle.rapid_text.specs.Recording.{IsNamedOp};
-ghost use Rattle.serde_json.specs.Data.{Data, object, put as with_member};
-ghost use Rattle.serde_json.specs.View.{members_view, view};
+ghost use Rattle.serde_json.specs.View.{view};
 ghost use Rattle.race_triage.specs.Texts.{held_locks};
-ghost use Rattle.triage_report.specs.json.Objects.{access_at, access_object, accesses, lock_names, op_name, op_word};
+ghost use Rattle.race_parts.specs.Made.{MadeAs};
+ghost use Rattle.triage_report.specs.Appending.{AppendedViews, FilledBut};
+ghost use Rattle.triage_report.specs.json.Objects.{access_at, accesses, lock_names, named_object, op_name, op_word};
 
 use crate::json::members::{object_with, put_number, put_text, put_word, text_of};
 use event_index::Indexed;
@@ -21,7 +22,7 @@ pub(crate) fn accesses_of(
     first: u32,
     second: u32,
 ) -> Result<Value, OutOfMemory>
-    ensures { IfOk result (λ both. view both ≡ accesses analysis.now first second) }
+    ensures { MadeAs result (accesses analysis.now first second) }
 {
     let mut both = Vec::new(alloc);
     push_access(&mut both, analysis, first)?;
@@ -35,7 +36,7 @@ fn push_access(
     analysis: &Analysis<'_>,
     event: u32,
 ) -> Result<(), OutOfMemory>
-    ensures { OnOk result (map view both.new.items ≡ map view both.old.items ++ access_at analysis.now event) }
+    ensures { AppendedViews result both.old both.new (access_at analysis.now event) }
 {
     if event >= analysis.indexed().len() {
         return Ok(());
@@ -76,14 +77,11 @@ struct Names<'a> {
 
 /// The object of an access with these members and these locks.
 fn named(alloc: Global, names: Names<'_>, holds: Value) -> Result<Value, AllocError>
-    ensures { IfOk result (λ access. view access ≡ access_object names.entry.event (view holds) names.entry.location.now
-        names.entry.operation.now names.entry.thread.now names.entry.variable.now) }
+    ensures { MadeAs result (named_object names.entry (view holds)) }
 {
     let mut members = Map::new(alloc);
-    match put_names(&mut members, alloc, names) {
-        Ok(()) => object_with(alloc, members, "holds", holds),
-        Err(refused) => Err(refused),
-    }
+    put_names(&mut members, alloc, names)?;
+    object_with(alloc, members, "holds", holds)
 }
 
 /// Puts all members of an access, except the locks that its thread holds.
@@ -93,21 +91,19 @@ fn put_names(
     names: Names<'_>,
 ) -> Result<(), AllocError>
     requires { members.old.entries ≡ [] }
-    ensures { OnOk result ((holds : Data) → object (with_member (codes "holds") holds (members_view members.new.entries))
-        ≡ access_object names.entry.event holds names.entry.location.now names.entry.operation.now names.entry.thread.now names.entry.variable.now) }
+    ensures { FilledBut result members.new (codes "holds") (named_object names.entry) }
 {
     put_number(members, alloc, "event", u64::from(names.event))?;
     put_text(members, alloc, "thread", names.thread)?;
     put_word(members, alloc, "operation", names.operation)?;
     put_text(members, alloc, "variable", names.variable)?;
-    put_text(members, alloc, "location", names.location)?;
-    Ok(())
+    put_text(members, alloc, "location", names.location)
 }
 
 /// The list of the names of the locks that the thread holds before the event.
 fn locks_of(alloc: Global, analysis: &Analysis<'_>, event: u32) -> Result<Value, OutOfMemory>
     requires event { event < length analysis.now.events }
-    ensures { IfOk result (λ names. view names ≡ lock_names analysis.now (held_locks analysis.now event)) }
+    ensures { MadeAs result (lock_names analysis.now (held_locks analysis.now event)) }
 {
     let locks = analysis.locks_held(alloc, event)?;
     names_of(alloc, analysis.indexed(), locks.as_slice())
@@ -115,7 +111,7 @@ fn locks_of(alloc: Global, analysis: &Analysis<'_>, event: u32) -> Result<Value,
 
 /// The list of the names of these locks.
 fn names_of(alloc: Global, indexed: &Indexed, locks: &[u32]) -> Result<Value, OutOfMemory>
-    ensures { IfOk result (λ names. view names ≡ lock_names indexed.now locks.now) }
+    ensures { MadeAs result (lock_names indexed.now locks.now) }
 {
     let mut names = Vec::new(alloc);
     for lock in locks {

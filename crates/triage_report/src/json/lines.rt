@@ -1,9 +1,10 @@
 //! The report as objects of JSON, a line each.
-ghost use Rattle.std.specs.Prelude.{◌≡◌, ◌++◌, List, ℕ, OnOk, OnErr, false};
+ghost use Rattle.std.specs.Prelude.{◌≡◌, OnErr, false};
 ghost use Rattle.rapid_text.specs.Appended.{Appended};
 ghost use Rattle.serde_json.specs.View.{view};
 ghost use Rattle.serde_json.specs.Written.{has_float};
-ghost use Rattle.triage_report.specs.json.Lines.{json_line, left_out_line, triage_lines, verdict_lines, IsTriageJson};
+ghost use Rattle.triage_report.specs.Appending.{AppendedText};
+ghost use Rattle.triage_report.specs.json.Lines.{json_line, left_out_line, triage_lines, verdict_lines, IsJsonOf};
 ghost use Rattle.triage_report.specs.json.Objects.{counts_object, verdict_object};
 
 use crate::json::objects::{counts_of, left_out_of, verdict_of};
@@ -22,12 +23,16 @@ pub fn triage_json(
     out: &mut Vec<u8>,
 ) -> Result<(), OutOfMemory>
     // The text is determined by the trace, the counts of all verdicts, and the chosen verdicts.
-    ensures ok { OnOk result ((text : List ℕ) × IsTriageJson analysis.now found.now.verdicts.items chosen.now text × (out.new.items ≡ out.old.items ++ text)) }
+    ensures ok { AppendedText result out.old out.new (IsJsonOf analysis.now found.now chosen.now) }
     ensures err { OnErr result (out.new.items ≡ out.old.items) }
 {
-    let totals = found.totals(analysis.indexed());
     let mut text = Vec::new(*out.allocator());
-    append_all(&mut text, analysis, &totals, chosen)?;
+    append_all(
+        &mut text,
+        analysis,
+        &found.totals(analysis.indexed()),
+        chosen,
+    )?;
     out.extend_from_slice(text.as_slice())?;
     Ok(())
 }

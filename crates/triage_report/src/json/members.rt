@@ -1,7 +1,7 @@
 //! Puts members into an object, one by one.
-ghost use Rattle.std.specs.Prelude.{◌≡◌, IfOk, OnOk};
 ghost use Rattle.serde_json.specs.Data.{object, put as with_member, string};
 ghost use Rattle.serde_json.specs.View.{members_view, view};
+ghost use Rattle.race_parts.specs.Made.{Changed, MadeAs};
 ghost use Rattle.triage_report.specs.json.Objects.{text, whole};
 
 use serde_json::{Map, Value, put};
@@ -14,7 +14,7 @@ pub fn put_number(
     name: &str,
     number: u64,
 ) -> Result<(), AllocError>
-    ensures { OnOk result (members_view members.new.entries ≡ with_member name.now (whole number) (members_view members.old.entries)) }
+    ensures { Changed result members.old members.new (with_member name.now (whole number)) }
 {
     put(members, alloc, name, Value::from(number))
 }
@@ -26,12 +26,9 @@ pub fn put_word(
     name: &str,
     word: &str,
 ) -> Result<(), AllocError>
-    ensures { OnOk result (members_view members.new.entries ≡ with_member name.now (string word.now) (members_view members.old.entries)) }
+    ensures { Changed result members.old members.new (with_member name.now (string word.now)) }
 {
-    match Value::try_from_str(alloc, word) {
-        Ok(value) => put(members, alloc, name, value),
-        Err(refused) => Err(refused),
-    }
+    put(members, alloc, name, Value::try_from_str(alloc, word)?)
 }
 
 /// Puts a member with this name and a text from outside. Bytes that are not UTF-8 become U+FFFD.
@@ -41,12 +38,9 @@ pub fn put_text(
     name: &str,
     bytes: &[u8],
 ) -> Result<(), AllocError>
-    ensures { OnOk result (members_view members.new.entries ≡ with_member name.now (text bytes.now) (members_view members.old.entries)) }
+    ensures { Changed result members.old members.new (with_member name.now (text bytes.now)) }
 {
-    match text_of(alloc, bytes) {
-        Ok(value) => put(members, alloc, name, value),
-        Err(refused) => Err(refused),
-    }
+    put(members, alloc, name, text_of(alloc, bytes)?)
 }
 
 /// The object with these members and one more.
@@ -56,17 +50,15 @@ pub(crate) fn object_with(
     name: &str,
     value: Value,
 ) -> Result<Value, AllocError>
-    ensures { IfOk result (λ made. view made ≡ object (with_member name.now (view value) (members_view members.entries))) }
+    ensures { MadeAs result (object (with_member name.now (view value) (members_view members.entries))) }
 {
-    match put(&mut members, alloc, name, value) {
-        Ok(()) => Ok(Value::Object(members)),
-        Err(refused) => Err(refused),
-    }
+    put(&mut members, alloc, name, value)?;
+    Ok(Value::Object(members))
 }
 
 /// A text from outside as a value. Bytes that are not UTF-8 become U+FFFD.
 pub(crate) fn text_of(alloc: Global, bytes: &[u8]) -> Result<Value, AllocError>
-    ensures { IfOk result (λ value. view value ≡ text bytes.now) }
+    ensures { MadeAs result (text bytes.now) }
 {
     Ok(Value::String(String::from_utf8_lossy(alloc, bytes)?))
 }

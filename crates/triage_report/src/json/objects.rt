@@ -1,7 +1,9 @@
 //! The findings as objects of JSON.
-ghost use Rattle.std.specs.Prelude.{◌≡◌, [], codes, IfOk, OnOk};
-ghost use Rattle.serde_json.specs.Data.{Data, object, put as with_member};
-ghost use Rattle.serde_json.specs.View.{members_view, view};
+ghost use Rattle.std.specs.Prelude.{◌≡◌, [], codes};
+ghost use Rattle.serde_json.specs.Data.{object};
+ghost use Rattle.serde_json.specs.View.{view};
+ghost use Rattle.race_parts.specs.Made.{FilledAs, MadeAs};
+ghost use Rattle.triage_report.specs.Appending.{FilledBut};
 ghost use Rattle.triage_report.specs.json.Objects.{apart_object, counts_object, how_word, left_out_object, race_object, told_object, undecided_object, verdict_object};
 
 use crate::json::accesses::accesses_of;
@@ -15,13 +17,11 @@ use std::alloc::{AllocError, Global};
 
 /// The object with the counts of the whole trace.
 pub(crate) fn counts_of(alloc: Global, totals: &Totals) -> Result<Value, AllocError>
-    ensures { IfOk result (λ object. view object ≡ counts_object totals.now) }
+    ensures { MadeAs result (counts_object totals.now) }
 {
     let mut members = Map::new(alloc);
-    match put_counts(&mut members, alloc, totals) {
-        Ok(()) => Ok(Value::Object(members)),
-        Err(refused) => Err(refused),
-    }
+    put_counts(&mut members, alloc, totals)?;
+    Ok(Value::Object(members))
 }
 
 /// Puts the members of the counts.
@@ -31,7 +31,7 @@ fn put_counts(
     totals: &Totals,
 ) -> Result<(), AllocError>
     requires { members.old.entries ≡ [] }
-    ensures { OnOk result (object (members_view members.new.entries) ≡ counts_object totals.now) }
+    ensures { FilledAs result members.new (counts_object totals.now) }
 {
     put_word(members, alloc, "kind", "counts")?;
     put_number(members, alloc, "events", totals.events)?;
@@ -44,13 +44,12 @@ fn put_counts(
     put_number(members, alloc, "places", totals.places)?;
     put_number(members, alloc, "races", totals.races)?;
     put_number(members, alloc, "undecided", totals.undecided)?;
-    put_number(members, alloc, "apart", totals.apart)?;
-    Ok(())
+    put_number(members, alloc, "apart", totals.apart)
 }
 
 /// The object that says how many verdicts were left out. `kind` is `known` or `hidden`.
 pub(crate) fn left_out_of(alloc: Global, kind: &str, count: u64) -> Result<Value, AllocError>
-    ensures { IfOk result (λ object. view object ≡ left_out_object kind.now count) }
+    ensures { MadeAs result (left_out_object kind.now count) }
 {
     json!(in alloc; {"kind": kind, "count": count})
 }
@@ -61,7 +60,7 @@ pub(crate) fn verdict_of(
     analysis: &Analysis<'_>,
     verdict: &Verdict,
 ) -> Result<Value, OutOfMemory>
-    ensures { IfOk result (λ object. view object ≡ verdict_object analysis.now verdict.now) }
+    ensures { MadeAs result (verdict_object analysis.now verdict.now) }
 {
     let accesses = accesses_of(alloc, analysis, verdict.first, verdict.second)?;
     let object = told_of(alloc, verdict, accesses)?;
@@ -70,13 +69,11 @@ pub(crate) fn verdict_of(
 
 /// The object of a verdict, with the list of its accesses.
 fn told_of(alloc: Global, verdict: &Verdict, accesses: Value) -> Result<Value, AllocError>
-    ensures { IfOk result (λ object. view object ≡ told_object verdict.now (view accesses)) }
+    ensures { MadeAs result (told_object verdict.now (view accesses)) }
 {
     let mut members = Map::new(alloc);
-    match put_told(&mut members, alloc, verdict) {
-        Ok(()) => object_with(alloc, members, "accesses", accesses),
-        Err(refused) => Err(refused),
-    }
+    put_told(&mut members, alloc, verdict)?;
+    object_with(alloc, members, "accesses", accesses)
 }
 
 /// Puts all members of a verdict, except its accesses.
@@ -86,7 +83,7 @@ fn put_told(
     verdict: &Verdict,
 ) -> Result<(), AllocError>
     requires { members.old.entries ≡ [] }
-    ensures { OnOk result ((both : Data) → object (with_member (codes "accesses") both (members_view members.new.entries)) ≡ told_object verdict.now both) }
+    ensures { FilledBut result members.new (codes "accesses") (told_object verdict.now) }
 {
     let reach = Reach {
         pairs: verdict.pairs(),
@@ -120,16 +117,14 @@ fn put_race(
     reach: Reach,
 ) -> Result<(), AllocError>
     requires { members.old.entries ≡ [] }
-    ensures { OnOk result ((both : Data)
-        → object (with_member (codes "accesses") both (members_view members.new.entries)) ≡ race_object how events threads reach.pairs reach.variables both) }
+    ensures { FilledBut result members.new (codes "accesses") (race_object how events threads reach.pairs reach.variables) }
 {
     put_word(members, alloc, "kind", "race")?;
     put_word(members, alloc, "how", word_of(how))?;
     put_number(members, alloc, "pairs", reach.pairs)?;
     put_number(members, alloc, "variables", u64::from(reach.variables))?;
     put_number(members, alloc, "events", u64::from(events))?;
-    put_number(members, alloc, "threads", u64::from(threads))?;
-    Ok(())
+    put_number(members, alloc, "threads", u64::from(threads))
 }
 
 /// Puts all members of what is undecided, except its accesses.
@@ -140,25 +135,21 @@ fn put_undecided(
     reach: Reach,
 ) -> Result<(), AllocError>
     requires { members.old.entries ≡ [] }
-    ensures { OnOk result ((both : Data)
-        → object (with_member (codes "accesses") both (members_view members.new.entries)) ≡ undecided_object tried reach.pairs reach.variables both) }
+    ensures { FilledBut result members.new (codes "accesses") (undecided_object tried reach.pairs reach.variables) }
 {
     put_word(members, alloc, "kind", "undecided")?;
     put_number(members, alloc, "pairs", reach.pairs)?;
     put_number(members, alloc, "variables", u64::from(reach.variables))?;
-    put_number(members, alloc, "tried", u64::from(tried))?;
-    Ok(())
+    put_number(members, alloc, "tried", u64::from(tried))
 }
 
 /// Puts all members of what is apart, except its accesses.
 fn put_apart(members: &mut Map<String, Value>, alloc: Global, pairs: u64) -> Result<(), AllocError>
     requires { members.old.entries ≡ [] }
-    ensures { OnOk result ((both : Data)
-        → object (with_member (codes "accesses") both (members_view members.new.entries)) ≡ apart_object pairs both) }
+    ensures { FilledBut result members.new (codes "accesses") (apart_object pairs) }
 {
     put_word(members, alloc, "kind", "apart")?;
-    put_number(members, alloc, "pairs", pairs)?;
-    Ok(())
+    put_number(members, alloc, "pairs", pairs)
 }
 
 fn word_of(how: How) -> &'static str

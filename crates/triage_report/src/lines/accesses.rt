@@ -1,5 +1,5 @@
 //! What a line says of an access: its place, thread, verb and variable.
-ghost use Rattle.std.specs.Prelude.{◌≡◌, ◌<◌, length};
+ghost use Rattle.std.specs.Prelude.{◌≡◌};
 ghost use Rattle.rapid_text.specs.Recording.{IsNamedOp};
 ghost use Rattle.triage_report.specs.lines.Accesses.{op_name, spot, spot_at, thread_at, variable_at, verb, verb_at};
 
@@ -26,22 +26,20 @@ pub fn spot_of(indexed: &Indexed, event: u32) -> &[u8]
 pub fn thread_of(indexed: &Indexed, event: u32) -> &[u8]
     ensures { result.now ≡ thread_at indexed.now event }
 {
-    if event < indexed.len() {
-        indexed.thread_name(indexed.event(event).thread)
-    } else {
-        b""
+    if event >= indexed.len() {
+        return b"";
     }
+    indexed.thread_name(indexed.event(event).thread)
 }
 
 /// The verb for the event, such as `reads`; empty if the trace has no such event.
 pub fn verb_of(indexed: &Indexed, event: u32) -> &'static [u8]
     ensures { result.now ≡ verb_at indexed.now event }
 {
-    if event < indexed.len() {
-        verb(indexed.event(event).op)
-    } else {
-        b""
+    if event >= indexed.len() {
+        return b"";
     }
+    verb(indexed.event(event).op)
 }
 
 /// The name of the variable that the event accesses. If it is no access, the name of its lock or thread. Empty if the
@@ -49,11 +47,10 @@ pub fn verb_of(indexed: &Indexed, event: u32) -> &'static [u8]
 pub fn variable_of(indexed: &Indexed, event: u32) -> &[u8]
     ensures { result.now ≡ variable_at indexed.now event }
 {
-    if event < indexed.len() {
-        name_of(indexed.trace().raw(), indexed.event(event).op)
-    } else {
-        b""
+    if event >= indexed.len() {
+        return b"";
     }
+    name_of(indexed.trace().raw(), indexed.event(event).op)
 }
 
 /// The verb for the operation.

@@ -2,9 +2,7 @@
 ghost use Rattle.std.specs.Prelude.{◌≡◌, ◌<◌, length};
 ghost use Rattle.rapid_text.specs.Appended.{Appended};
 ghost use Rattle.rapid_text.specs.Canonical.{name_at};
-ghost use Rattle.race_triage.specs.Texts.{held_locks};
-ghost use Rattle.triage_report.specs.lines.Accesses.{spot_at};
-ghost use Rattle.triage_report.specs.lines.Lines.{about_line, access_lines, earlier_words, head_line, how_words, later_words, lock_line, lock_lines, outcome_words, reason_line, reason_words, rule_words, verdict_lines};
+ghost use Rattle.triage_report.specs.lines.Lines.{about_line, access_lines, earlier_words, head_line, held_lines, how_words, later_words, lock_line, lock_lines, outcome_words, reason_line, reason_words, rule_words, verdict_lines};
 
 use crate::lines::accesses::{spot_of, thread_of, variable_of, verb_of};
 use crate::lines::calls::append_calls;
@@ -162,7 +160,7 @@ fn append_held(
     event: u32,
 ) -> Result<(), OutOfMemory>
     requires event { event < length analysis.now.events }
-    ensures { Appended result out.old out.new (lock_lines analysis.now place.now (held_locks analysis.now event)) }
+    ensures { Appended result out.old out.new (held_lines analysis.now place.now event) }
 {
     let locks = analysis.locks_held(*out.allocator(), event)?;
     append_locks(out, analysis.indexed(), place, locks.as_slice())?;

@@ -1,9 +1,7 @@
 //! The lines of the calls that led to an access.
-ghost use Rattle.std.specs.Prelude.{◌≡◌, option_map};
-ghost use Rattle.explain_report.specs.places.Places.{behind_arrow, calls_in};
-ghost use Rattle.explain_report.specs.declared.places.arrows.TheConstants.{MAX_CALLS as MOST};
+ghost use Rattle.std.specs.Prelude.{◌≡◌};
 ghost use Rattle.rapid_text.specs.Appended.{Appended};
-ghost use Rattle.triage_report.specs.lines.Lines.{call_line, call_lines, place_or, said_of};
+ghost use Rattle.triage_report.specs.lines.Lines.{call_line, location_lines, place_or, said_of};
 
 use explain_report::places::{MAX_CALLS, call_of, cut_at_arrow};
 use rapid_text::OutOfMemory;
@@ -15,7 +13,7 @@ pub(crate) fn append_calls(
     place: &[u8],
     location: &[u8],
 ) -> Result<(), OutOfMemory>
-    ensures { Appended result out.old out.new (call_lines place.now (calls_in MOST (behind_arrow location.now))) }
+    ensures { Appended result out.old out.new (location_lines place.now location.now) }
 {
     let (_, mut rest) = cut_at_arrow(location);
     for done in 0..MAX_CALLS {

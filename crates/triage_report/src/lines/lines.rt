@@ -1,6 +1,7 @@
 //! The lines of all verdicts.
-ghost use Rattle.std.specs.Prelude.{◌≡◌, ◌++◌, List, ℕ, OnOk, OnErr};
+ghost use Rattle.std.specs.Prelude.{◌≡◌, OnErr};
 ghost use Rattle.rapid_text.specs.Appended.{Appended};
+ghost use Rattle.triage_report.specs.Appending.{AppendedText};
 ghost use Rattle.triage_report.specs.lines.Lines.{all_lines, IsLinesText};
 
 use crate::lines::blocks::append_verdict;
@@ -17,7 +18,7 @@ pub fn triage_lines(
     out: &mut Vec<u8>,
 ) -> Result<(), OutOfMemory>
     // The text is determined by the trace and the chosen verdicts.
-    ensures ok { OnOk result ((text : List ℕ) × IsLinesText analysis.now chosen.now text × (out.new.items ≡ out.old.items ++ text)) }
+    ensures ok { AppendedText result out.old out.new (IsLinesText analysis.now chosen.now) }
     ensures err { OnErr result (out.new.items ≡ out.old.items) }
 {
     let mut text = Vec::new(*out.allocator());

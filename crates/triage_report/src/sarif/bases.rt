@@ -1,7 +1,6 @@
 //! The folder of the code, and how many verdicts were left out, as objects.
-ghost use Rattle.std.specs.Prelude.{◌≡◌, [], IfOk, OnOk};
-ghost use Rattle.serde_json.specs.Data.{object};
-ghost use Rattle.serde_json.specs.View.{members_view, view};
+ghost use Rattle.std.specs.Prelude.{◌≡◌, []};
+ghost use Rattle.race_parts.specs.Made.{Changed, FilledAs, MadeAs};
 ghost use Rattle.triage_report.specs.sarif.Logs.{about_object, base_object, count_members, left_object, root_object, uri_object};
 
 use crate::json::{put_number, put_text};
@@ -13,19 +12,17 @@ use std::alloc::Global;
 
 /// The object that gives the folder of the code a name; without members if no folder is named.
 pub(crate) fn base_of(alloc: Global, root: &[u8]) -> Result<Value, OutOfMemory>
-    ensures { IfOk result (λ made. view made ≡ base_object root.now) }
+    ensures { MadeAs result (base_object root.now) }
 {
     let mut members = Map::new(alloc);
-    match put_base(&mut members, alloc, root) {
-        Ok(()) => Ok(Value::Object(members)),
-        Err(refused) => Err(refused),
-    }
+    put_base(&mut members, alloc, root)?;
+    Ok(Value::Object(members))
 }
 
 /// Puts the folder of the code, if one is named.
 fn put_base(members: &mut Map<String, Value>, alloc: Global, root: &[u8]) -> Result<(), OutOfMemory>
     requires { members.old.entries ≡ [] }
-    ensures { OnOk result (object (members_view members.new.entries) ≡ base_object root.now) }
+    ensures { FilledAs result members.new (base_object root.now) }
 {
     if root.is_empty() {
         return Ok(());
@@ -37,31 +34,28 @@ fn put_base(members: &mut Map<String, Value>, alloc: Global, root: &[u8]) -> Res
 
 /// The folder of the code: its URI if the path is absolute, else a description.
 fn root_of(alloc: Global, root: &[u8]) -> Result<Value, OutOfMemory>
-    ensures { IfOk result (λ made. view made ≡ root_object root.now) }
+    ensures { MadeAs result (root_object root.now) }
 {
     let mut members = Map::new(alloc);
-    match put_root(&mut members, alloc, root) {
-        Ok(()) => Ok(Value::Object(members)),
-        Err(refused) => Err(refused),
-    }
+    put_root(&mut members, alloc, root)?;
+    Ok(Value::Object(members))
 }
 
 /// Puts the URI of the folder, or its description.
 fn put_root(members: &mut Map<String, Value>, alloc: Global, root: &[u8]) -> Result<(), OutOfMemory>
     requires { members.old.entries ≡ [] }
-    ensures { OnOk result (object (members_view members.new.entries) ≡ root_object root.now) }
+    ensures { FilledAs result members.new (root_object root.now) }
 {
     if is_absolute(root) {
-        put_uri(members, alloc, root)
-    } else {
-        put_about(members, alloc)
+        return put_uri(members, alloc, root);
     }
+    put_about(members, alloc)
 }
 
 /// Puts the URI of a path.
 fn put_uri(members: &mut Map<String, Value>, alloc: Global, path: &[u8]) -> Result<(), OutOfMemory>
     requires { members.old.entries ≡ [] }
-    ensures { OnOk result (object (members_view members.new.entries) ≡ uri_object path.now) }
+    ensures { FilledAs result members.new (uri_object path.now) }
 {
     let mut uri = Vec::new(alloc);
     append_uri(&mut uri, path)?;
@@ -72,7 +66,7 @@ fn put_uri(members: &mut Map<String, Value>, alloc: Global, path: &[u8]) -> Resu
 /// Puts the description of the folder.
 fn put_about(members: &mut Map<String, Value>, alloc: Global) -> Result<(), OutOfMemory>
     requires { members.old.entries ≡ [] }
-    ensures { OnOk result (object (members_view members.new.entries) ≡ about_object) }
+    ensures { FilledAs result members.new about_object }
 {
     let value = message_of(alloc, b"The folder that --source named")?;
     put(members, alloc, "description", value)?;
@@ -85,13 +79,11 @@ pub(crate) fn left_of(
     known: Option<u64>,
     hidden: Option<u64>,
 ) -> Result<Value, OutOfMemory>
-    ensures { IfOk result (λ made. view made ≡ left_object known hidden) }
+    ensures { MadeAs result (left_object known hidden) }
 {
     let mut members = Map::new(alloc);
-    match put_left(&mut members, alloc, known, hidden) {
-        Ok(()) => Ok(Value::Object(members)),
-        Err(refused) => Err(refused),
-    }
+    put_left(&mut members, alloc, known, hidden)?;
+    Ok(Value::Object(members))
 }
 
 /// Puts these two numbers.
@@ -102,7 +94,7 @@ fn put_left(
     hidden: Option<u64>,
 ) -> Result<(), OutOfMemory>
     requires { members.old.entries ≡ [] }
-    ensures { OnOk result (object (members_view members.new.entries) ≡ left_object known hidden) }
+    ensures { FilledAs result members.new (left_object known hidden) }
 {
     put_count(members, alloc, "known", known)?;
     put_count(members, alloc, "hidden", hidden)
@@ -115,7 +107,7 @@ fn put_count(
     name: &str,
     count: Option<u64>,
 ) -> Result<(), OutOfMemory>
-    ensures { OnOk result (members_view members.new.entries ≡ count_members name.now count (members_view members.old.entries)) }
+    ensures { Changed result members.old members.new (count_members name.now count) }
 {
     match count {
         Some(count) => {

@@ -1,9 +1,9 @@
 //! A schedule as a code flow: the steps of each thread, each with its place in the schedule.
-ghost use Rattle.std.specs.Prelude.{◌≡◌, ◌++◌, ◌∷◌, [], codes, IfOk, OnOk, length, map};
+ghost use Rattle.std.specs.Prelude.{◌≡◌, [], IfOk};
 ghost use Rattle.rapid_text.specs.Appended.{Appended};
-ghost use Rattle.serde_json.specs.Data.{Data, object, put as with_member};
-ghost use Rattle.serde_json.specs.View.{members_view, view};
-ghost use Rattle.triage_report.specs.sarif.Flows.{code_flow, count_members, count_words, flow_by, flow_if, importance, is_step, order_of, places_below, step, step_at, steps_at, thread_flow, thread_flows, thread_name};
+ghost use Rattle.race_parts.specs.Made.{Changed, FilledAs, MadeAs};
+ghost use Rattle.triage_report.specs.Appending.{AppendedView, AppendedViews};
+ghost use Rattle.triage_report.specs.sarif.Flows.{code_flow, count_members, count_words, flow_by, flow_if, importance, is_step, of_flow, order_of, step, step_at, step_places, steps_at, thread_flow, thread_flows, thread_name};
 
 use crate::json::{put_number, put_text, put_word};
 use crate::sarif::locations::put_message;
@@ -31,19 +31,17 @@ pub(crate) struct Flow<'a> {
 
 /// The code flow of these steps.
 pub(crate) fn flow_of(alloc: Global, flow: Flow<'_>) -> Result<Value, OutOfMemory>
-    ensures { IfOk result (λ made. view made ≡ code_flow flow.entry.indexed.now flow.entry.root.now flow.entry.steps.now) }
+    ensures { MadeAs result (of_flow code_flow flow.entry) }
 {
     let threads = threads_of(alloc, flow)?;
     let mut members = Map::new(alloc);
-    match put(&mut members, alloc, "threadFlows", threads) {
-        Ok(()) => Ok(Value::Object(members)),
-        Err(_) => Err(OutOfMemory),
-    }
+    put(&mut members, alloc, "threadFlows", threads)?;
+    Ok(Value::Object(members))
 }
 
 /// The list of thread flows, one for each thread that has a step.
 fn threads_of(alloc: Global, flow: Flow<'_>) -> Result<Value, OutOfMemory>
-    ensures { IfOk result (λ made. view made ≡ thread_flows flow.entry.indexed.now flow.entry.root.now flow.entry.steps.now) }
+    ensures { MadeAs result (of_flow thread_flows flow.entry) }
 {
     let mut flows = Vec::new(alloc);
     for thread in 0..flow.indexed.threads() {
@@ -59,7 +57,7 @@ fn push_flow(
     flow: Flow<'_>,
     thread: u32,
 ) -> Result<(), OutOfMemory>
-    ensures { OnOk result (map view flows.new.items ≡ map view flows.old.items ++ flow_if flow.entry.indexed.now flow.entry.root.now flow.entry.steps.now thread) }
+    ensures { AppendedViews result flows.old flows.new (of_flow flow_if flow.entry thread) }
 {
     let places = places_of(alloc, flow.indexed, flow.steps, thread)?;
     push_told(flows, alloc, flow, places.as_slice(), thread)
@@ -73,7 +71,7 @@ fn push_told(
     places: &[usize],
     thread: u32,
 ) -> Result<(), OutOfMemory>
-    ensures { OnOk result (map view flows.new.items ≡ map view flows.old.items ++ flow_by flow.entry.indexed.now flow.entry.root.now flow.entry.steps.now thread places.now) }
+    ensures { AppendedViews result flows.old flows.new (of_flow flow_by flow.entry thread places.now) }
 {
     if places.is_empty() {
         return Ok(());
@@ -90,7 +88,7 @@ fn places_of(
     steps: &[u32],
     thread: u32,
 ) -> Result<Vec<usize>, OutOfMemory>
-    ensures { IfOk result (λ places. places.items ≡ places_below (is_step indexed.now steps.now thread) (length steps.now)) }
+    ensures { IfOk result (λ places. places.items ≡ step_places indexed.now steps.now thread) }
 {
     let mut places = Vec::new(alloc);
     for at in 0..steps.len() {
@@ -128,13 +126,11 @@ fn thread_flow_of(
     places: &[usize],
     thread: u32,
 ) -> Result<Value, OutOfMemory>
-    ensures { IfOk result (λ made. view made ≡ thread_flow flow.entry.indexed.now flow.entry.root.now flow.entry.steps.now thread places.now) }
+    ensures { MadeAs result (of_flow thread_flow flow.entry thread places.now) }
 {
     let mut members = Map::new(alloc);
-    match put_flow(&mut members, alloc, flow, places, thread) {
-        Ok(()) => Ok(Value::Object(members)),
-        Err(refused) => Err(refused),
-    }
+    put_flow(&mut members, alloc, flow, places, thread)?;
+    Ok(Value::Object(members))
 }
 
 /// Puts the members of a thread flow.
@@ -146,18 +142,17 @@ fn put_flow(
     thread: u32,
 ) -> Result<(), OutOfMemory>
     requires { members.old.entries ≡ [] }
-    ensures { OnOk result (object (members_view members.new.entries) ≡ thread_flow flow.entry.indexed.now flow.entry.root.now flow.entry.steps.now thread places.now) }
+    ensures { FilledAs result members.new (of_flow thread_flow flow.entry thread places.now) }
 {
     let kept = &places[places.len().saturating_sub(MOST_STEPS)..];
-    let list = steps_at(alloc, flow, kept)?;
-    put(members, alloc, "locations", list)?;
+    put(members, alloc, "locations", steps_at(alloc, flow, kept)?)?;
     put_text(members, alloc, "id", thread_name(flow.indexed, thread))?;
     put_count(members, alloc, places.len() as u64)
 }
 
 /// Puts how many steps there are, and whether all are listed.
 fn put_count(members: &mut Map<String, Value>, alloc: Global, count: u64) -> Result<(), OutOfMemory>
-    ensures { OnOk result (members_view members.new.entries ≡ count_members count (members_view members.old.entries)) }
+    ensures { Changed result members.old members.new (count_members count) }
 {
     let mut words = Vec::new(alloc);
     append_count(&mut words, count)?;
@@ -187,16 +182,15 @@ fn append_count(out: &mut Vec<u8>, count: u64) -> Result<(), OutOfMemory>
 fn thread_name(indexed: &Indexed, thread: u32) -> &[u8]
     ensures { result.now ≡ thread_name indexed.now thread }
 {
-    if thread < indexed.threads() {
-        indexed.thread_name(thread)
-    } else {
-        b""
+    if thread >= indexed.threads() {
+        return b"";
     }
+    indexed.thread_name(thread)
 }
 
 /// The list of the steps at these places.
 fn steps_at(alloc: Global, flow: Flow<'_>, places: &[usize]) -> Result<Value, OutOfMemory>
-    ensures { IfOk result (λ made. view made ≡ steps_at flow.entry.indexed.now flow.entry.root.now flow.entry.steps.now places.now) }
+    ensures { MadeAs result (of_flow steps_at flow.entry places.now) }
 {
     let mut list = Vec::new(alloc);
     for at in places {
@@ -212,7 +206,7 @@ fn push_step(
     flow: Flow<'_>,
     at: usize,
 ) -> Result<(), OutOfMemory>
-    ensures { OnOk result (map view list.new.items ≡ map view list.old.items ++ step flow.entry.indexed.now flow.entry.root.now flow.entry.steps.now at ∷ []) }
+    ensures { AppendedView result list.old list.new (of_flow step flow.entry at) }
 {
     let made = step_of(alloc, flow, at)?;
     list.push(made)?;
@@ -221,13 +215,11 @@ fn push_step(
 
 /// The step at this place, as an object.
 fn step_of(alloc: Global, flow: Flow<'_>, at: usize) -> Result<Value, OutOfMemory>
-    ensures { IfOk result (λ made. view made ≡ step flow.entry.indexed.now flow.entry.root.now flow.entry.steps.now at) }
+    ensures { MadeAs result (of_flow step flow.entry at) }
 {
     let mut members = Map::new(alloc);
-    match put_step(&mut members, alloc, flow, at) {
-        Ok(()) => Ok(Value::Object(members)),
-        Err(refused) => Err(refused),
-    }
+    put_step(&mut members, alloc, flow, at)?;
+    Ok(Value::Object(members))
 }
 
 /// Puts the members of a step.
@@ -238,7 +230,7 @@ fn put_step(
     at: usize,
 ) -> Result<(), OutOfMemory>
     requires { members.old.entries ≡ [] }
-    ensures { OnOk result (object (members_view members.new.entries) ≡ step flow.entry.indexed.now flow.entry.root.now flow.entry.steps.now at) }
+    ensures { FilledAs result members.new (of_flow step flow.entry at) }
 {
     let location = access_of(alloc, flow.indexed, flow.root, step_at(flow.steps, at))?;
     put(members, alloc, "location", location)?;
@@ -264,8 +256,7 @@ fn importance(len: usize, at: usize) -> &'static str
     ensures { result.now ≡ importance len at }
 {
     if at >= len.saturating_sub(2) {
-        "essential"
-    } else {
-        "important"
+        return "essential";
     }
+    "important"
 }

@@ -1,8 +1,9 @@
 //! Locations as objects of SARIF.
-ghost use Rattle.std.specs.Prelude.{◌≡◌, [], codes, IfOk, OnOk};
-ghost use Rattle.serde_json.specs.Data.{Data, object, put as with_member};
-ghost use Rattle.serde_json.specs.View.{members_view, view};
-ghost use Rattle.triage_report.specs.sarif.Locations.{artifact, base_members, function_members, location, logical, message, physical, physical_members, region, region_members, single};
+ghost use Rattle.std.specs.Prelude.{◌≡◌, [], codes};
+ghost use Rattle.serde_json.specs.Data.{put as with_member};
+ghost use Rattle.serde_json.specs.View.{view};
+ghost use Rattle.race_parts.specs.Made.{Changed, FilledAs, MadeAs};
+ghost use Rattle.triage_report.specs.sarif.Locations.{artifact, base_members, function_members, logical, message, physical, physical_members, region, region_members, single, spot_location};
 
 use crate::json::{put_number, put_text, put_word};
 use crate::sarif::places::{MOST_LINE, append_uri, file_of, is_absolute, line_of, relative};
@@ -24,13 +25,11 @@ pub(crate) struct Spot<'a> {
 
 /// A list with one value.
 pub(crate) fn single_of(alloc: Global, value: Value) -> Result<Value, OutOfMemory>
-    ensures { IfOk result (λ list. view list ≡ single (view value)) }
+    ensures { MadeAs result (single (view value)) }
 {
     let mut items = Vec::new(alloc);
-    match items.push(value) {
-        Ok(()) => Ok(Value::Array(items)),
-        Err(_) => Err(OutOfMemory),
-    }
+    items.push(value)?;
+    Ok(Value::Array(items))
 }
 
 /// Puts a list with one value.
@@ -40,7 +39,7 @@ pub(crate) fn put_single(
     name: &str,
     value: Value,
 ) -> Result<(), OutOfMemory>
-    ensures { OnOk result (members_view members.new.entries ≡ with_member name.now (single (view value)) (members_view members.old.entries)) }
+    ensures { Changed result members.old members.new (with_member name.now (single (view value))) }
 {
     let list = single_of(alloc, value)?;
     put(members, alloc, name, list)?;
@@ -49,13 +48,11 @@ pub(crate) fn put_single(
 
 /// The object of a location.
 pub(crate) fn location_of(alloc: Global, root: &[u8], spot: Spot<'_>) -> Result<Value, OutOfMemory>
-    ensures { IfOk result (λ made. view made ≡ location root.now spot.entry.place.now spot.entry.function.now spot.entry.words.now) }
+    ensures { MadeAs result (spot_location root.now spot.entry) }
 {
     let mut members = Map::new(alloc);
-    match put_location(&mut members, alloc, root, spot) {
-        Ok(()) => Ok(Value::Object(members)),
-        Err(refused) => Err(refused),
-    }
+    put_location(&mut members, alloc, root, spot)?;
+    Ok(Value::Object(members))
 }
 
 /// Puts the members of a location.
@@ -66,8 +63,7 @@ fn put_location(
     spot: Spot<'_>,
 ) -> Result<(), OutOfMemory>
     requires { members.old.entries ≡ [] }
-    ensures { OnOk result (object (members_view members.new.entries)
-        ≡ location root.now spot.entry.place.now spot.entry.function.now spot.entry.words.now) }
+    ensures { FilledAs result members.new (spot_location root.now spot.entry) }
 {
     put_message(members, alloc, spot.words)?;
     put_function(members, alloc, spot.function)?;
@@ -80,7 +76,7 @@ pub(crate) fn put_message(
     alloc: Global,
     words: &[u8],
 ) -> Result<(), OutOfMemory>
-    ensures { OnOk result (members_view members.new.entries ≡ with_member (codes "message") (message words.now) (members_view members.old.entries)) }
+    ensures { Changed result members.old members.new (with_member (codes "message") (message words.now)) }
 {
     let value = message_of(alloc, words)?;
     put(members, alloc, "message", value)?;
@@ -89,13 +85,11 @@ pub(crate) fn put_message(
 
 /// The object of a message.
 pub(crate) fn message_of(alloc: Global, words: &[u8]) -> Result<Value, OutOfMemory>
-    ensures { IfOk result (λ made. view made ≡ message words.now) }
+    ensures { MadeAs result (message words.now) }
 {
     let mut members = Map::new(alloc);
-    match put_text(&mut members, alloc, "text", words) {
-        Ok(()) => Ok(Value::Object(members)),
-        Err(_) => Err(OutOfMemory),
-    }
+    put_text(&mut members, alloc, "text", words)?;
+    Ok(Value::Object(members))
 }
 
 /// Puts the function as a logical location, if it is known.
@@ -104,24 +98,26 @@ fn put_function(
     alloc: Global,
     function: &[u8],
 ) -> Result<(), OutOfMemory>
-    ensures { OnOk result (members_view members.new.entries ≡ function_members function.now (members_view members.old.entries)) }
+    ensures { Changed result members.old members.new (function_members function.now) }
 {
     if function.is_empty() {
         return Ok(());
     }
-    let value = logical_of(alloc, function)?;
-    put_single(members, alloc, "logicalLocations", value)
+    put_single(
+        members,
+        alloc,
+        "logicalLocations",
+        logical_of(alloc, function)?,
+    )
 }
 
 /// A function as a logical location.
 fn logical_of(alloc: Global, function: &[u8]) -> Result<Value, OutOfMemory>
-    ensures { IfOk result (λ made. view made ≡ logical function.now) }
+    ensures { MadeAs result (logical function.now) }
 {
     let mut members = Map::new(alloc);
-    match put_logical(&mut members, alloc, function) {
-        Ok(()) => Ok(Value::Object(members)),
-        Err(refused) => Err(refused),
-    }
+    put_logical(&mut members, alloc, function)?;
+    Ok(Value::Object(members))
 }
 
 /// Puts the members of a logical location.
@@ -131,7 +127,7 @@ fn put_logical(
     function: &[u8],
 ) -> Result<(), OutOfMemory>
     requires { members.old.entries ≡ [] }
-    ensures { OnOk result (object (members_view members.new.entries) ≡ logical function.now) }
+    ensures { FilledAs result members.new (logical function.now) }
 {
     put_text(members, alloc, "fullyQualifiedName", function)?;
     put_word(members, alloc, "kind", "function")?;
@@ -145,7 +141,7 @@ fn put_physical(
     root: &[u8],
     place: &[u8],
 ) -> Result<(), OutOfMemory>
-    ensures { OnOk result (members_view members.new.entries ≡ physical_members root.now place.now (members_view members.old.entries)) }
+    ensures { Changed result members.old members.new (physical_members root.now place.now) }
 {
     if !is_line(place) {
         return Ok(());
@@ -157,13 +153,11 @@ fn put_physical(
 
 /// The file and the line of a place, as a physical location.
 fn physical_of(alloc: Global, root: &[u8], place: &[u8]) -> Result<Value, OutOfMemory>
-    ensures { IfOk result (λ made. view made ≡ physical root.now place.now) }
+    ensures { MadeAs result (physical root.now place.now) }
 {
     let mut members = Map::new(alloc);
-    match put_parts(&mut members, alloc, root, place) {
-        Ok(()) => Ok(Value::Object(members)),
-        Err(refused) => Err(refused),
-    }
+    put_parts(&mut members, alloc, root, place)?;
+    Ok(Value::Object(members))
 }
 
 /// Puts the members of a physical location.
@@ -174,7 +168,7 @@ fn put_parts(
     place: &[u8],
 ) -> Result<(), OutOfMemory>
     requires { members.old.entries ≡ [] }
-    ensures { OnOk result (object (members_view members.new.entries) ≡ physical root.now place.now) }
+    ensures { FilledAs result members.new (physical root.now place.now) }
 {
     let value = artifact_of(alloc, root, relative(root, file_of(place)))?;
     put(members, alloc, "artifactLocation", value)?;
@@ -183,7 +177,7 @@ fn put_parts(
 
 /// Puts the line, if it is 1 to `MOST_LINE`.
 fn put_region(members: &mut Map<String, Value>, alloc: Global, line: u64) -> Result<(), OutOfMemory>
-    ensures { OnOk result (members_view members.new.entries ≡ region_members line (members_view members.old.entries)) }
+    ensures { Changed result members.old members.new (region_members line) }
 {
     if line == 0 || line > MOST_LINE {
         return Ok(());
@@ -195,24 +189,20 @@ fn put_region(members: &mut Map<String, Value>, alloc: Global, line: u64) -> Res
 
 /// The region that begins at this line.
 fn region_of(alloc: Global, line: u64) -> Result<Value, OutOfMemory>
-    ensures { IfOk result (λ made. view made ≡ region line) }
+    ensures { MadeAs result (region line) }
 {
     let mut members = Map::new(alloc);
-    match put_number(&mut members, alloc, "startLine", line) {
-        Ok(()) => Ok(Value::Object(members)),
-        Err(_) => Err(OutOfMemory),
-    }
+    put_number(&mut members, alloc, "startLine", line)?;
+    Ok(Value::Object(members))
 }
 
 /// The object of a file.
 fn artifact_of(alloc: Global, root: &[u8], path: &[u8]) -> Result<Value, OutOfMemory>
-    ensures { IfOk result (λ made. view made ≡ artifact root.now path.now) }
+    ensures { MadeAs result (artifact root.now path.now) }
 {
     let mut members = Map::new(alloc);
-    match put_artifact(&mut members, alloc, root, path) {
-        Ok(()) => Ok(Value::Object(members)),
-        Err(refused) => Err(refused),
-    }
+    put_artifact(&mut members, alloc, root, path)?;
+    Ok(Value::Object(members))
 }
 
 /// Puts the members of a file.
@@ -223,7 +213,7 @@ fn put_artifact(
     path: &[u8],
 ) -> Result<(), OutOfMemory>
     requires { members.old.entries ≡ [] }
-    ensures { OnOk result (object (members_view members.new.entries) ≡ artifact root.now path.now) }
+    ensures { FilledAs result members.new (artifact root.now path.now) }
 {
     let mut uri = Vec::new(alloc);
     append_uri(&mut uri, path)?;
@@ -238,7 +228,7 @@ fn put_base(
     root: &[u8],
     path: &[u8],
 ) -> Result<(), OutOfMemory>
-    ensures { OnOk result (members_view members.new.entries ≡ base_members root.now path.now (members_view members.old.entries)) }
+    ensures { Changed result members.old members.new (base_members root.now path.now) }
 {
     if root.is_empty() || is_absolute(path) {
         return Ok(());

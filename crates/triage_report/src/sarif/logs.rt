@@ -1,11 +1,11 @@
 //! The whole log: one run of the tool, with a result for each verdict.
-ghost use Rattle.std.specs.Prelude.{◌≡◌, ◌++◌, ℕ, List, nat_lt, OnOk, OnErr, false, option_map};
+ghost use Rattle.std.specs.Prelude.{◌≡◌, nat_lt, OnErr, false};
 ghost use Rattle.rapid_text.specs.Appended.{Appended};
-ghost use Rattle.serde_json.specs.Data.{Data};
 ghost use Rattle.serde_json.specs.View.{view};
 ghost use Rattle.serde_json.specs.Written.{compact_text, has_float};
+ghost use Rattle.triage_report.specs.Appending.{AppendedAs, AppendedText};
 ghost use Rattle.triage_report.specs.sarif.Logs.{base_object, item_text, joined, left_object, rest_text, AreResults, IsResult, IsSarif};
-ghost use Rattle.triage_report.specs.sarif.Results.{result_object};
+ghost use Rattle.triage_report.specs.sarif.Results.{shown_result};
 
 use crate::sarif::bases::{base_of, left_of};
 use crate::sarif::results::result_of;
@@ -53,7 +53,7 @@ pub fn triage_sarif(
     out: &mut Vec<u8>,
 ) -> Result<(), OutOfMemory>
     // The text is determined by the trace, the chosen verdicts and the code.
-    ensures ok { OnOk result ((text : List ℕ) × IsSarif analysis.now sources.entry chosen.now text × (out.new.items ≡ out.old.items ++ text)) }
+    ensures ok { AppendedText result out.old out.new (IsSarif analysis.now sources.entry chosen.now) }
     ensures err { OnErr result (out.new.items ≡ out.old.items) }
 {
     let mut text = Vec::new(*out.allocator());
@@ -69,7 +69,7 @@ fn append_log(
     chosen: &Chosen,
     sources: Sources<'_>,
 ) -> Result<(), OutOfMemory>
-    ensures { OnOk result ((text : List ℕ) × IsSarif analysis.now sources.entry chosen.now text × (out.new.items ≡ out.old.items ++ text)) }
+    ensures { AppendedText result out.old out.new (IsSarif analysis.now sources.entry chosen.now) }
 {
     out.extend_from_slice(HEAD)?;
     append_results(out, analysis, sources, chosen.verdicts.as_slice())?;
@@ -101,7 +101,7 @@ fn append_results(
     sources: Sources<'_>,
     verdicts: &[Verdict],
 ) -> Result<(), OutOfMemory>
-    ensures { OnOk result ((ds : List Data) × AreResults analysis.now sources.entry verdicts.now ds × (out.new.items ≡ out.old.items ++ joined ds)) }
+    ensures { AppendedAs result out.old out.new (AreResults analysis.now sources.entry verdicts.now) joined }
 {
     for at in 0..verdicts.len() {
         append_result(out, analysis, sources, at, &verdicts[at])?;
@@ -117,8 +117,8 @@ fn append_result(
     at: usize,
     verdict: &Verdict,
 ) -> Result<(), OutOfMemory>
-    ensures { OnOk result ((d : Data) × IsResult analysis.now sources.entry (nat_lt at MOST_FLOWS) verdict.now d
-        × (out.new.items ≡ out.old.items ++ item_text (nat_lt 0 at) d)) }
+    ensures { AppendedAs result out.old out.new (IsResult analysis.now sources.entry (nat_lt at MOST_FLOWS) verdict.now)
+        (item_text (nat_lt 0 at)) }
 {
     let alloc = *out.allocator();
     let steps = steps_of(alloc, analysis, at < MOST_FLOWS, verdict)?;
@@ -136,7 +136,7 @@ fn append_shown(
     verdict: &Verdict,
     steps: &Option<Vec<u32>>,
 ) -> Result<(), OutOfMemory>
-    ensures { Appended result out.old out.new (item_text is_later (result_object indexed.now sources.entry verdict.now (option_map (λ s. s.items) steps.now))) }
+    ensures { Appended result out.old out.new (item_text is_later (shown_result indexed.now sources.entry verdict.now steps.now)) }
 {
     let object = result_of(*out.allocator(), indexed, sources, verdict, steps)?;
     append_item(out, is_later, &object)

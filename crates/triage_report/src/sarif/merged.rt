@@ -1,9 +1,10 @@
 //! A merged report as a log: a result for each pair of locations. Its parts have no schedules, so no result has a code
 //! flow.
-ghost use Rattle.std.specs.Prelude.{◌≡◌, [], IfOk, OnErr, OnOk, Some};
+ghost use Rattle.std.specs.Prelude.{◌≡◌, [], OnErr, Some};
 ghost use Rattle.rapid_text.specs.Appended.{Appended};
 ghost use Rattle.serde_json.specs.Data.{object};
-ghost use Rattle.serde_json.specs.View.{members_view, view};
+ghost use Rattle.serde_json.specs.View.{view};
+ghost use Rattle.race_parts.specs.Made.{FilledAs, MadeAs};
 ghost use Rattle.race_parts.specs.Pairs.{pair_shown};
 ghost use Rattle.triage_report.specs.sarif.Accesses.{access_told};
 ghost use Rattle.triage_report.specs.sarif.Logs.{item_text, joined};
@@ -95,7 +96,7 @@ fn object_of(
     pair: Pair<'_>,
     sources: Sources<'_>,
 ) -> Result<Value, OutOfMemory>
-    ensures { IfOk result (λ made. view made ≡ merged_object parts sources.entry (pair_shown pair.entry)) }
+    ensures { MadeAs result (merged_object parts sources.entry (pair_shown pair.entry)) }
 {
     let row = data_of(alloc, pair.line)?;
     object_in(alloc, parts, pair, &row, sources)
@@ -109,13 +110,11 @@ fn object_in(
     row: &Value,
     sources: Sources<'_>,
 ) -> Result<Value, OutOfMemory>
-    ensures { IfOk result (λ made. view made ≡ row_object parts sources.entry (pair_shown pair.entry) (view row.now)) }
+    ensures { MadeAs result (row_object parts sources.entry (pair_shown pair.entry) (view row.now)) }
 {
     let mut members = Map::new(alloc);
-    match put_row(&mut members, alloc, parts, pair, row, sources) {
-        Ok(()) => Ok(Value::Object(members)),
-        Err(refused) => Err(refused),
-    }
+    put_row(&mut members, alloc, parts, pair, row, sources)?;
+    Ok(Value::Object(members))
 }
 
 /// Puts the members of a result.
@@ -128,7 +127,7 @@ fn put_row(
     sources: Sources<'_>,
 ) -> Result<(), OutOfMemory>
     requires { members.old.entries ≡ [] }
-    ensures { OnOk result (object (members_view members.new.entries) ≡ row_object parts sources.entry (pair_shown pair.entry) (view row.now)) }
+    ensures { FilledAs result members.new (row_object parts sources.entry (pair_shown pair.entry) (view row.now)) }
 {
     let mut words = Vec::new(alloc);
     append_words(&mut words, parts, pair, row)?;
@@ -205,8 +204,7 @@ fn append_pair(out: &mut Vec<u8>, rank: u8, row: &Value) -> Result<(), OutOfMemo
     let first = access_of(row, 0);
     let second = access_of(row, 1);
     append_title(out, rank, second)?;
-    append_both(out, first, second)?;
-    Ok(())
+    append_both(out, first, second)
 }
 
 /// Appends the reason for the rank of this row.

@@ -43,11 +43,10 @@ fn line_number(digits: &[u8]) -> u64
 pub fn relative<'a>(root: &[u8], path: &'a [u8]) -> &'a [u8]
     ensures { result.now ≡ relative root.now path.now }
 {
-    if path.starts_with(root) {
-        &path[root.len()..]
-    } else {
-        path
+    if !path.starts_with(root) {
+        return path;
     }
+    &path[root.len()..]
 }
 
 /// Whether the path is absolute: it begins with a slash.
@@ -106,8 +105,7 @@ fn hex_digit(value: u8) -> u8
     ensures { result ≡ hex_digit value }
 {
     if value < 10 {
-        b'0' + value
-    } else {
-        b'A' + (value - 10)
+        return b'0' + value;
     }
+    b'A' + (value - 10)
 }

@@ -1,10 +1,8 @@
 //! Fingerprints: what a pair keeps if its lines move.
-ghost use Rattle.std.specs.Prelude.{◌≡◌, [], IfOk, OnOk};
+ghost use Rattle.std.specs.Prelude.{◌≡◌, []};
 ghost use Rattle.rapid_text.specs.Appended.{Appended};
-ghost use Rattle.serde_json.specs.Data.{object};
-ghost use Rattle.serde_json.specs.View.{members_view, view};
-ghost use Rattle.triage_report.specs.sarif.Accesses.{access_told};
-ghost use Rattle.triage_report.specs.sarif.Prints.{both, ordered, print_object, side};
+ghost use Rattle.race_parts.specs.Made.{FilledAs, MadeAs};
+ghost use Rattle.triage_report.specs.sarif.Prints.{both, ordered, print_told, side_told};
 
 use crate::json::put_text;
 use crate::sarif::accesses::Access;
@@ -25,13 +23,11 @@ pub(crate) fn print_of(
     first: Access<'_>,
     second: Access<'_>,
 ) -> Result<Value, OutOfMemory>
-    ensures { IfOk result (λ made. view made ≡ print_object sources.entry (access_told first.entry) (access_told second.entry)) }
+    ensures { MadeAs result (print_told sources.entry first.entry second.entry) }
 {
     let mut members = Map::new(alloc);
-    match put_print(&mut members, alloc, sources, first, second) {
-        Ok(()) => Ok(Value::Object(members)),
-        Err(refused) => Err(refused),
-    }
+    put_print(&mut members, alloc, sources, first, second)?;
+    Ok(Value::Object(members))
 }
 
 /// Puts the fingerprint.
@@ -43,7 +39,7 @@ fn put_print(
     second: Access<'_>,
 ) -> Result<(), OutOfMemory>
     requires { members.old.entries ≡ [] }
-    ensures { OnOk result (object (members_view members.new.entries) ≡ print_object sources.entry (access_told first.entry) (access_told second.entry)) }
+    ensures { FilledAs result members.new (print_told sources.entry first.entry second.entry) }
 {
     let mut text = Vec::new(alloc);
     append_print(&mut text, sources, first, second)?;
@@ -58,7 +54,7 @@ fn append_print(
     first: Access<'_>,
     second: Access<'_>,
 ) -> Result<(), OutOfMemory>
-    ensures { Appended result out.old out.new (ordered (side sources.entry (access_told first.entry)) (side sources.entry (access_told second.entry))) }
+    ensures { Appended result out.old out.new (ordered (side_told sources.entry first.entry) (side_told sources.entry second.entry)) }
 {
     let mut one = Vec::new(*out.allocator());
     append_side(&mut one, sources, first)?;
@@ -72,7 +68,7 @@ fn append_beside(
     first: &[u8],
     access: Access<'_>,
 ) -> Result<(), OutOfMemory>
-    ensures { Appended result out.old out.new (ordered first.now (side sources.entry (access_told access.entry))) }
+    ensures { Appended result out.old out.new (ordered first.now (side_told sources.entry access.entry)) }
 {
     let mut second = Vec::new(*out.allocator());
     append_side(&mut second, sources, access)?;
@@ -85,8 +81,7 @@ fn append_ordered(out: &mut Vec<u8>, first: &[u8], second: &[u8]) -> Result<(), 
 {
     match first.cmp(second) {
         Ordering::Greater => append_both(out, second, first),
-        Ordering::Less => append_both(out, first, second),
-        Ordering::Equal => append_both(out, first, second),
+        Ordering::Less | Ordering::Equal => append_both(out, first, second),
     }
 }
 
@@ -106,7 +101,7 @@ fn append_side<'a>(
     sources: Sources<'a>,
     access: Access<'a>,
 ) -> Result<(), OutOfMemory>
-    ensures { Appended result out.old out.new (side sources.entry (access_told access.entry)) }
+    ensures { Appended result out.old out.new (side_told sources.entry access.entry) }
 {
     let (place, _) = cut_at_arrow(access.location);
     append_pieces(

@@ -1,9 +1,8 @@
 //! The findings on pairs as results.
-ghost use Rattle.std.specs.Prelude.{◌≡◌, [], IfOk, OnOk, option_map};
-ghost use Rattle.serde_json.specs.Data.{Data, object};
-ghost use Rattle.serde_json.specs.View.{members_view, view};
+ghost use Rattle.std.specs.Prelude.{◌≡◌, [], option_map};
+ghost use Rattle.race_parts.specs.Made.{Changed, FilledAs, MadeAs};
 ghost use Rattle.triage_report.specs.sarif.Accesses.{access_told};
-ghost use Rattle.triage_report.specs.sarif.Results.{access_members, flow_members, found_members, place_members, print_members, result_object, step_members, word_members};
+ghost use Rattle.triage_report.specs.sarif.Results.{access_members, flow_members, found_told, place_members, print_members, shown_result, step_members, word_members};
 
 use crate::json::{put_number, put_word};
 use crate::sarif::accesses::{Access, access_at};
@@ -30,13 +29,11 @@ pub(crate) fn result_of(
     verdict: &Verdict,
     steps: &Option<Vec<u32>>,
 ) -> Result<Value, OutOfMemory>
-    ensures { IfOk result (λ made. view made ≡ result_object indexed.now sources.entry verdict.now (option_map (λ s. s.items) steps.now)) }
+    ensures { MadeAs result (shown_result indexed.now sources.entry verdict.now steps.now) }
 {
     let mut members = Map::new(alloc);
-    match put_result(&mut members, alloc, indexed, sources, verdict, steps) {
-        Ok(()) => Ok(Value::Object(members)),
-        Err(refused) => Err(refused),
-    }
+    put_result(&mut members, alloc, indexed, sources, verdict, steps)?;
+    Ok(Value::Object(members))
 }
 
 /// Puts the members of a result.
@@ -49,8 +46,7 @@ fn put_result(
     steps: &Option<Vec<u32>>,
 ) -> Result<(), OutOfMemory>
     requires { members.old.entries ≡ [] }
-    ensures { OnOk result (object (members_view members.new.entries)
-        ≡ result_object indexed.now sources.entry verdict.now (option_map (λ s. s.items) steps.now)) }
+    ensures { FilledAs result members.new (shown_result indexed.now sources.entry verdict.now steps.now) }
 {
     let mut words = Vec::new(alloc);
     append_message(&mut words, indexed, verdict)?;
@@ -84,9 +80,7 @@ pub(crate) fn put_found(
     sources: Sources<'_>,
     found: Found<'_>,
 ) -> Result<(), OutOfMemory>
-    ensures { OnOk result (members_view members.new.entries
-        ≡ found_members sources.entry found.entry.rank found.entry.words.now (access_told found.entry.first) (access_told found.entry.second)
-        (members_view members.old.entries)) }
+    ensures { Changed result members.old members.new (found_told sources.entry found.entry) }
 {
     put_words(members, alloc, found.rank)?;
     put_message(members, alloc, found.words)?;
@@ -96,7 +90,7 @@ pub(crate) fn put_found(
 
 /// Puts the kind, the level and the rule.
 fn put_words(members: &mut Map<String, Value>, alloc: Global, rank: u8) -> Result<(), OutOfMemory>
-    ensures { OnOk result (members_view members.new.entries ≡ word_members rank (members_view members.old.entries)) }
+    ensures { Changed result members.old members.new (word_members rank) }
 {
     put_word(members, alloc, "kind", kind_word(rank))?;
     put_word(members, alloc, "level", level_word(rank))?;
@@ -113,13 +107,16 @@ fn put_accesses(
     first: Access<'_>,
     second: Access<'_>,
 ) -> Result<(), OutOfMemory>
-    ensures { OnOk result (members_view members.new.entries
-        ≡ access_members root.now (access_told first.entry) (access_told second.entry) (members_view members.old.entries)) }
+    ensures { Changed result members.old members.new (access_members root.now (access_told first.entry) (access_told second.entry)) }
 {
     put_place(members, alloc, root, "locations", second)?;
     put_place(members, alloc, root, "relatedLocations", first)?;
-    let both = stacks_of(alloc, root, second, first)?;
-    put(members, alloc, "stacks", both)?;
+    put(
+        members,
+        alloc,
+        "stacks",
+        stacks_of(alloc, root, second, first)?,
+    )?;
     Ok(())
 }
 
@@ -131,7 +128,7 @@ fn put_place(
     name: &str,
     access: Access<'_>,
 ) -> Result<(), OutOfMemory>
-    ensures { OnOk result (members_view members.new.entries ≡ place_members root.now name.now (access_told access.entry) (members_view members.old.entries)) }
+    ensures { Changed result members.old members.new (place_members root.now name.now (access_told access.entry)) }
 {
     let location = told_of(alloc, root, access)?;
     put_single(members, alloc, name, location)
@@ -145,8 +142,7 @@ fn put_print(
     first: Access<'_>,
     second: Access<'_>,
 ) -> Result<(), OutOfMemory>
-    ensures { OnOk result (members_view members.new.entries
-        ≡ print_members sources.entry (access_told first.entry) (access_told second.entry) (members_view members.old.entries)) }
+    ensures { Changed result members.old members.new (print_members sources.entry (access_told first.entry) (access_told second.entry)) }
 {
     let made = print_of(alloc, sources, first, second)?;
     put(members, alloc, "partialFingerprints", made)?;
@@ -161,8 +157,7 @@ fn put_flow(
     root: &[u8],
     steps: &Option<Vec<u32>>,
 ) -> Result<(), OutOfMemory>
-    ensures { OnOk result (members_view members.new.entries
-        ≡ flow_members indexed.now root.now (option_map (λ s. s.items) steps.now) (members_view members.old.entries)) }
+    ensures { Changed result members.old members.new (flow_members indexed.now root.now (option_map (λ s. s.items) steps.now)) }
 {
     match steps {
         Some(steps) => put_steps(members, alloc, indexed, root, steps.as_slice()),
@@ -178,7 +173,7 @@ fn put_steps(
     root: &[u8],
     steps: &[u32],
 ) -> Result<(), OutOfMemory>
-    ensures { OnOk result (members_view members.new.entries ≡ step_members indexed.now root.now steps.now (members_view members.old.entries)) }
+    ensures { Changed result members.old members.new (step_members indexed.now root.now steps.now) }
 {
     let told = Flow {
         indexed,

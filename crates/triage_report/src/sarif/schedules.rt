@@ -1,5 +1,5 @@
 //! The schedule that shows a pair, followed by the two accesses.
-ghost use Rattle.std.specs.Prelude.{◌≡◌, ◌<◌, ◌++◌, ◌∷◌, [], IfOk, length};
+ghost use Rattle.std.specs.Prelude.{◌≡◌, ◌<◌, ◌++◌, ◌∷◌, [], IfOk};
 ghost use Rattle.explain_report.specs.findings.Findings.{IsFinding};
 ghost use Rattle.triage_report.specs.sarif.Flows.{is_race, AreSteps, IsFlowOf};
 
@@ -90,8 +90,6 @@ fn steps_behind(
     ensures { IfOk result (λ steps. steps.items ≡ events.now ++ first ∷ second ∷ []) }
 {
     let mut steps = Vec::from_slice(alloc, events)?;
-    match steps.extend_from_slice(&[first, second]) {
-        Ok(()) => Ok(steps),
-        Err(_) => Err(OutOfMemory),
-    }
+    steps.extend_from_slice(&[first, second])?;
+    Ok(steps)
 }

@@ -1,11 +1,12 @@
 //! The calls that led to an access, as a stack.
-ghost use Rattle.std.specs.Prelude.{◌≡◌, ◌++◌, ◌∷◌, [], IfOk, OnOk, map, option_map};
-ghost use Rattle.serde_json.specs.Data.{Data, object};
-ghost use Rattle.serde_json.specs.View.{members_view, view};
+ghost use Rattle.std.specs.Prelude.{◌≡◌, [], map, option_map};
+ghost use Rattle.serde_json.specs.View.{view};
 ghost use Rattle.explain_report.specs.places.Places.{calls_in};
 ghost use Rattle.explain_report.specs.declared.places.arrows.TheConstants.{MAX_CALLS as MOST};
+ghost use Rattle.race_parts.specs.Made.{Changed, FilledAs, MadeAs};
+ghost use Rattle.triage_report.specs.Appending.{AppendedView, AppendedViews};
 ghost use Rattle.triage_report.specs.sarif.Accesses.{access_told};
-ghost use Rattle.triage_report.specs.sarif.Stacks.{access_location, call_frame, caller_words, callers, callers_in, frame, frames, function_in, own_function, said_members, stack, stacks, told_location};
+ghost use Rattle.triage_report.specs.sarif.Stacks.{access_location, call_frame, caller_words, callers, callers_in, frame, frames, function_in, own_frame, own_function, said_members, stack, stacks, told_location};
 
 use crate::sarif::accesses::{Access, access_at};
 use crate::sarif::locations::{Spot, location_of, put_message};
@@ -68,14 +69,14 @@ pub(crate) fn access_of(
     root: &[u8],
     event: u32,
 ) -> Result<Value, OutOfMemory>
-    ensures { IfOk result (λ made. view made ≡ access_location indexed.now root.now event) }
+    ensures { MadeAs result (access_location indexed.now root.now event) }
 {
     told_of(alloc, root, access_at(indexed, event))
 }
 
 /// The location of an access, with a message.
 pub(crate) fn told_of(alloc: Global, root: &[u8], access: Access<'_>) -> Result<Value, OutOfMemory>
-    ensures { IfOk result (λ made. view made ≡ told_location root.now (access_told access.entry)) }
+    ensures { MadeAs result (told_location root.now (access_told access.entry)) }
 {
     let mut words = Vec::new(alloc);
     append_access(&mut words, access)?;
@@ -98,7 +99,7 @@ pub(crate) fn stacks_of(
     one: Access<'_>,
     other: Access<'_>,
 ) -> Result<Value, OutOfMemory>
-    ensures { IfOk result (λ made. view made ≡ stacks root.now (access_told one.entry) (access_told other.entry)) }
+    ensures { MadeAs result (stacks root.now (access_told one.entry) (access_told other.entry)) }
 {
     let mut both = Vec::new(alloc);
     push_stack(&mut both, alloc, root, one)?;
@@ -113,7 +114,7 @@ fn push_stack(
     root: &[u8],
     access: Access<'_>,
 ) -> Result<(), OutOfMemory>
-    ensures { OnOk result (map view stacks.new.items ≡ map view stacks.old.items ++ stack root.now (access_told access.entry) ∷ []) }
+    ensures { AppendedView result stacks.old stacks.new (stack root.now (access_told access.entry)) }
 {
     let made = stack_of(alloc, root, access)?;
     stacks.push(made)?;
@@ -122,13 +123,11 @@ fn push_stack(
 
 /// The stack of an access.
 fn stack_of(alloc: Global, root: &[u8], access: Access<'_>) -> Result<Value, OutOfMemory>
-    ensures { IfOk result (λ made. view made ≡ stack root.now (access_told access.entry)) }
+    ensures { MadeAs result (stack root.now (access_told access.entry)) }
 {
     let mut members = Map::new(alloc);
-    match put_stack(&mut members, alloc, root, access) {
-        Ok(()) => Ok(Value::Object(members)),
-        Err(refused) => Err(refused),
-    }
+    put_stack(&mut members, alloc, root, access)?;
+    Ok(Value::Object(members))
 }
 
 /// Puts the members of a stack.
@@ -139,7 +138,7 @@ fn put_stack(
     access: Access<'_>,
 ) -> Result<(), OutOfMemory>
     requires { members.old.entries ≡ [] }
-    ensures { OnOk result (object (members_view members.new.entries) ≡ stack root.now (access_told access.entry)) }
+    ensures { FilledAs result members.new (stack root.now (access_told access.entry)) }
 {
     let list = frames_of(alloc, root, access)?;
     put(members, alloc, "frames", list)?;
@@ -152,7 +151,7 @@ fn put_said(
     alloc: Global,
     access: Access<'_>,
 ) -> Result<(), OutOfMemory>
-    ensures { OnOk result (members_view members.new.entries ≡ said_members (access_told access.entry) (members_view members.old.entries)) }
+    ensures { Changed result members.old members.new (said_members (access_told access.entry)) }
 {
     let mut words = Vec::new(alloc);
     append_access(&mut words, access)?;
@@ -161,7 +160,7 @@ fn put_said(
 
 /// The frames of an access, the innermost first.
 fn frames_of(alloc: Global, root: &[u8], access: Access<'_>) -> Result<Value, OutOfMemory>
-    ensures { IfOk result (λ made. view made ≡ frames root.now (access_told access.entry)) }
+    ensures { MadeAs result (frames root.now (access_told access.entry)) }
 {
     let mut list = Vec::new(alloc);
     push_own(&mut list, alloc, root, access)?;
@@ -176,7 +175,7 @@ fn push_own(
     root: &[u8],
     access: Access<'_>,
 ) -> Result<(), OutOfMemory>
-    ensures { OnOk result (map view list.new.items ≡ map view list.old.items ++ frame (told_location root.now (access_told access.entry)) ∷ []) }
+    ensures { AppendedView result list.old list.new (own_frame root.now (access_told access.entry)) }
 {
     let location = told_of(alloc, root, access)?;
     push_frame(list, alloc, location)
@@ -189,7 +188,7 @@ fn push_calls(
     root: &[u8],
     calls: Option<&[u8]>,
 ) -> Result<(), OutOfMemory>
-    ensures { OnOk result (map view list.new.items ≡ map view list.old.items ++ map (call_frame root.now) (calls_in MOST (option_map (λ t. t.now) calls.entry))) }
+    ensures { AppendedViews result list.old list.new (map (call_frame root.now) (calls_in MOST (option_map (λ t. t.now) calls.entry))) }
 {
     let mut rest = calls;
     for done in 0..MAX_CALLS {
@@ -212,7 +211,7 @@ fn push_call(
     root: &[u8],
     call: &[u8],
 ) -> Result<(), OutOfMemory>
-    ensures { OnOk result (map view list.new.items ≡ map view list.old.items ++ call_frame root.now call.now ∷ []) }
+    ensures { AppendedView result list.old list.new (call_frame root.now call.now) }
 {
     let call = call_of(call);
     let location = location_of(
@@ -232,15 +231,14 @@ fn caller_words(function: &[u8]) -> &[u8]
     ensures { result.now ≡ caller_words function.now }
 {
     if function.is_empty() {
-        b"a call"
-    } else {
-        function
+        return b"a call";
     }
+    function
 }
 
 /// Adds the frame of a location.
 fn push_frame(list: &mut Vec<Value>, alloc: Global, location: Value) -> Result<(), OutOfMemory>
-    ensures { OnOk result (map view list.new.items ≡ map view list.old.items ++ frame (view location) ∷ []) }
+    ensures { AppendedView result list.old list.new (frame (view location)) }
 {
     let made = frame_of(alloc, location)?;
     list.push(made)?;
@@ -249,11 +247,9 @@ fn push_frame(list: &mut Vec<Value>, alloc: Global, location: Value) -> Result<(
 
 /// The frame of a location.
 fn frame_of(alloc: Global, location: Value) -> Result<Value, OutOfMemory>
-    ensures { IfOk result (λ made. view made ≡ frame (view location)) }
+    ensures { MadeAs result (frame (view location)) }
 {
     let mut members = Map::new(alloc);
-    match put(&mut members, alloc, "location", location) {
-        Ok(()) => Ok(Value::Object(members)),
-        Err(_) => Err(OutOfMemory),
-    }
+    put(&mut members, alloc, "location", location)?;
+    Ok(Value::Object(members))
 }

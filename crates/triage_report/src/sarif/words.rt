@@ -32,8 +32,7 @@ pub(crate) fn kind_word(rank: u8) -> &'static str
     ensures { result.now ≡ kind_word rank }
 {
     match rank {
-        0 => "fail",
-        1 => "fail",
+        0 | 1 => "fail",
         _ => "pass",
     }
 }
@@ -117,8 +116,7 @@ pub(crate) fn append_both(
     append_access(out, second)?;
     append_pieces(out, &[Piece::Words(b", and ")])?;
     append_access(out, first)?;
-    append_pieces(out, &[Piece::Words(b"; ")])?;
-    Ok(())
+    append_pieces(out, &[Piece::Words(b"; ")])
 }
 
 /// Appends what was found, and on which variable.
