@@ -1,13 +1,16 @@
 -- The window of a trace as a text: a line with its numbers in the trace, its prologue, and its part of the trace.
-use Rattle.std.specs.Prelude.{◌≡◌, ◌⊎◌, ℕ, ◌+◌, ◌-◌, ◌/◌, ◌<◌, ◌≤◌, Bool, ◌||◌, true, false, nat_lt, if◌then◌else◌, List, [], ◌∷◌, ◌++◌, length, take, drop, replicate, bytes_eq, codes}
+use Rattle.std.specs.Prelude.{◌≡◌, ◌⊎◌, ℕ, All, ◌+◌, ◌-◌, ◌/◌, ◌<◌, ◌≤◌, Bool, ◌||◌, true, false, nat_lt, if◌then◌else◌, List, [], ◌∷◌, ◌++◌, length, take, drop, replicate, bytes_eq, codes}
 use Rattle.std.specs.Fmt.{decimal}
 use Rattle.std.specs.List.{list_any}
 use Rattle.rapid_text.specs.declared.event.Event.{Event}
-use Rattle.rapid_text.specs.Canonical.{events_text}
+use Rattle.rapid_text.specs.Canonical.{event_text, events_text}
 use Rattle.rapid_text.specs.Limits.{event_limit, name_limit}
-use Rattle.rapid_text.specs.Recording.{Recording}
+use Rattle.rapid_text.specs.Recording.{IsNamed, Recording}
 use Rattle.window.specs.declared.cutting.Window.{Window}
-use Rattle.window.specs.Made.{chain_of, reads_of, part_of, holds_at, readers_at, prologue_length}
+use Rattle.window.specs.declared.fault.CutFault.{CutFault}
+use Rattle.window.specs.declared.fault.CutFault.TheVariants.{NoName, NoSuchEvent, OutOfMemory}
+use Rattle.window.specs.Made.{chain_of, reads_of, part_of, holds_at, readers_at, readers_of, prologue_length}
+use Rattle.window.specs.Window.{back}
 
 -- `window` with j underscores after it
 abbrev pub name_with : ℕ → List ℕ
@@ -32,6 +35,33 @@ HasNoNewName r = (j : ℕ) → length (name_with j) ≤ name_limit → is_taken 
 -- the recording with a further variable and a further lock of this name
 abbrev pub with_name : Recording → List ℕ → Recording
 with_name r name = record r { variables = r.variables ++ name ∷ []; locks = r.locks ++ name ∷ [] }
+
+-- the events have names, whatever the name of the further variable and lock is
+abbrev pub AreNamed : Recording → List Event → Type 0
+AreNamed r events = (name : List ℕ) → All (IsNamed (with_name r name)) events
+
+-- the line of an event with this location; the prologue's variable and lock have this name
+abbrev pub own_line : Recording → List ℕ → Event → List ℕ → List ℕ
+own_line r name event location = event_text (with_name r name) event location
+
+-- the lines of these events, which have no location
+abbrev pub own_lines : Recording → List ℕ → List Event → List ℕ
+own_lines r name events = events_text (with_name r name) events []
+
+-- the lines of the trace from k to m
+abbrev pub span_lines : Recording → List ℕ → ℕ → ℕ → List ℕ
+span_lines r name k m = events_text (with_name r name) (part_of r.events k m) (take (m - k) (drop k r.locations))
+
+-- the holds of the trace at k that are enough, the threads that wait for them, and those that have an event from k
+-- to m and are not forked there
+abbrev pub own_holds : Recording → ℕ → ℕ → List (ℕ × ℕ)
+own_holds r k m = holds_at r.events k m (length r.threads) (length r.locks)
+
+abbrev pub own_readers : Recording → ℕ → ℕ → List ℕ
+own_readers r k m = readers_at r.events k m (length r.threads) (length r.locks)
+
+abbrev pub own_threads : Recording → ℕ → ℕ → List ℕ
+own_threads r k m = readers_of r.events k m (length r.threads)
 
 -- the events of the prologue; its variable and its lock have the numbers after those of the trace
 abbrev pub prologue_of : Recording → ℕ → ℕ → List Event
@@ -103,3 +133,13 @@ pub record IsCutAs (r : Recording) (q k most : ℕ) (w : Window) : Type 0 where
   pub from_is : w.from ≡ q
   pub to_is : w.to ≡ q + (cut.end - k)
   pub prologue_is : w.prologue ≡ prologue_size r k cut.end
+
+-- the number in the trace of an event of the window
+abbrev pub back_in : Window → ℕ → ℕ
+back_in w event = back w.prologue w.from event
+
+-- why there is no window of the trace at k
+abbrev pub IsCutFault : Recording → ℕ → CutFault → Type 0
+IsCutFault r k fault =
+    (fault ≡ OutOfMemory)
+    ⊎ (((fault ≡ NoSuchEvent) × (length r.events ≤ k)) ⊎ ((fault ≡ NoName) × HasNoNewName r))

@@ -4,10 +4,11 @@ use Rattle.rapid_text.specs.Reading.{reading_of}
 use Rattle.rapid_text.specs.Recording.{Recording}
 use Rattle.rapid_text.specs.declared.refusal.TextCause.TheVariants.{TooManyEvents, TooManyNames}
 use Rattle.rapid_text.specs.declared.refusal.TextRefusal.{TextRefusal}
-use Rattle.trace_rules.specs.Rules.{IsFirstBreach}
+use Rattle.trace_rules.specs.Rules.{IsDisciplined, IsFirstBreach}
 use Rattle.window.specs.Cuts.{HasNoNewName}
 use Rattle.window.specs.HeadText.{all_of, head_text}
-use Rattle.window.specs.Streams.{IsFirstRefused, IsKept, IsWhole, Stands, Stream, feeds, long_trace, said_in}
+use Rattle.window.specs.Streams.{IsFirstRefused, IsKept, IsWhole, IsWindowAt, Stands, Stream, feeds, long_trace, said_in}
+use Rattle.window.specs.declared.cutting.Window.{Window}
 use Rattle.window.specs.declared.fault.FrontFault.{FrontFault}
 use Rattle.window.specs.declared.fault.FrontFault.TheVariants.{Text, Rule, Unended, NoSuchEvent, NoName, TooManyThreads, TooLong, OutOfMemory}
 
@@ -48,3 +49,20 @@ IsFrontFault s more NoName =
 IsFrontFault s more TooManyThreads = IsTooWide s more
 IsFrontFault s more TooLong = IsTooLong s more
 IsFrontFault s more OutOfMemory = ⊤
+
+-- whatever comes later, this is a window of the whole trace: of what was read, of the piece, and of what comes later
+abbrev pub IsWindowAfter : List ℕ → List ℕ → Window → Type 0
+IsWindowAfter read more w =
+    (later : List ℕ)
+    → IsDisciplined (long_trace (read ++ (more ++ later)))
+    → IsWindowAt (read ++ (more ++ later)) w.from w.to w.prologue w.text.items
+
+-- the same for whatever the head replaces, with this number of events
+abbrev pub IsWindowBehind : List ℕ → List ℕ → ℕ → Window → Type 0
+IsWindowBehind head more number w =
+    (front later : List ℕ)
+    → Stands front head more
+    → IsWhole more
+    → number ≡ length (said_in front)
+    → IsDisciplined (long_trace (front ++ (more ++ later)))
+    → IsWindowAt (front ++ (more ++ later)) number w.to w.prologue w.text.items

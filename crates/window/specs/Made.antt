@@ -14,6 +14,10 @@ use Rattle.event_index.specs.Lookups.{before}
 abbrev pub does : ℕ → Op → Event
 does t op = record { thread = t; op = op }
 
+-- the events of an access that is made under the prologue's lock
+abbrev pub access_of : ℕ → ℕ → Op → List Event
+access_of lock t op = does t (Acquire lock) ∷ does t op ∷ does t (Release lock) ∷ []
+
 -- The chain for a list of holds, each a thread and a lock. The thread reads x under the prologue's lock, acquires the
 -- lock that it holds, and writes x under the prologue's lock.
 abbrev pub chain_of : ℕ → ℕ → List (ℕ × ℕ) → List Event

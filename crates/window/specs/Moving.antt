@@ -5,6 +5,7 @@ use Rattle.std.specs.Fmt.{decimal}
 use Rattle.std.specs.Str.Parse.{AllDigits, digits_value}
 use Rattle.memchr.specs.Find.{FindsNeedle}
 use Rattle.window.specs.Window.{back}
+use Rattle.window.specs.declared.cutting.Window.{Window}
 
 -- the text before the number of an event; inside a string of JSON each quote has a backslash before it
 abbrev pub event_mark : List ℕ
@@ -48,6 +49,19 @@ moved_digits n k digits =
     let event = digits_value 10 digits in
     if nat_lt event (2 ^ 64) && (nat_le n event && nat_lt (back n k event) (2 ^ 64)) then decimal (back n k event) else digits
 
+-- the text has no number of an event
+abbrev pub HasNoMark : List ℕ → Type 0
+HasNoMark text = FindsNeedle text event_mark 0 None
+
+-- The front of the text up to its first number of an event was appended, with that number as in the trace. The rest
+-- of the text comes after that number.
+abbrev pub MovesFirst : Window → List ℕ → List ℕ → List ℕ → List ℕ → Type 0
+MovesFirst w text rest old new =
+    (m : Marked)
+    × IsMarked m rest
+    × (text ≡ m.front ++ (m.digits ++ rest))
+    × (new ≡ old ++ (m.front ++ moved_digits w.prologue w.from m.digits))
+
 -- The line `moved` is the line `line`, except that each event has its number in the trace. The window begins at k
 -- there, with a prologue of n events.
 pub record IsMoved (n k : ℕ) (line moved : List ℕ) : Type 0 where
@@ -56,3 +70,7 @@ pub record IsMoved (n k : ℕ) (line moved : List ℕ) : Type 0 where
   pub all : AreAll numbers last
   pub line_is : line ≡ line_with as_written numbers last
   pub moved_is : moved ≡ line_with (moved_digits n k) numbers last
+
+-- the line was appended with the numbers that its events have in the trace
+abbrev pub AppendsMoved : Window → List ℕ → List ℕ → List ℕ → Type 0
+AppendsMoved w line old new = (moved : List ℕ) × IsMoved w.prologue w.from line moved × (new ≡ old ++ moved)

@@ -13,6 +13,7 @@ use Rattle.rapid_text.specs.declared.event.Op.{Op}
 use Rattle.rapid_text.specs.declared.event.Op.TheVariants.{Read, Write, Acquire, Release, Fork, Join}
 use Rattle.rapid_text.specs.Refusals.{no_memory}
 use Rattle.trace_rules.specs.Rules.{IsDisciplined, IsFirstBreach, hold_count, no_memory as no_table}
+use Rattle.trace_rules.specs.declared.refusal.RuleRefusal.{RuleRefusal}
 use Rattle.schedule.specs.Reordering.{IsCorrectReordering}
 use Rattle.schedule.specs.Shows.{Shows}
 use Rattle.window.specs.Cuts.{HasNoNewName, with_name}
@@ -136,6 +137,14 @@ pub record IsHeldText (r : Recording) (text : List ℕ) : Type 0 where
   pub holds : (t l : ℕ) → hold_count r.events t l ≡ hold_count events t l
   pub is : text ≡ events_text (with_name r read_name) events []
 
+-- the text has these acquires, and n is their number
+abbrev pub HoldsIn : Recording → List ℕ → ℕ → Type 0
+HoldsIn r text n = (is : IsHeldText r text) × (n ≡ length is.events)
+
+-- the threads hold each lock as often after the events A as after the events B
+abbrev pub HoldTheSame : List Event → List Event → Type 0
+HoldTheSame A B = (t l : ℕ) → hold_count A t l ≡ hold_count B t l
+
 -- The summary after a piece. It adds the threads that the piece forks or joins, and those that have an event in it.
 -- Its text has the acquires for the locks that are held after the piece.
 pub record IsNext (past next : Past) (r : Recording) (more : List ℕ) : Type 0 where
@@ -197,6 +206,10 @@ pub record Stream : Type 0 where
   pub read : List ℕ
   pub past : Past
 
+-- the number of acquires for the locks that are held after what was read
+abbrev pub held_size : Stream → ℕ
+held_size s = length (said_in s.past.held)
+
 -- the empty summary
 abbrev pub no_past : Past
 no_past = record { forked = []; seen = []; joined = []; held = [] }
@@ -226,3 +239,7 @@ IsPieceFault text size (Rule why) = (r : Recording) × (reading_of text ≡ Ok r
 IsPieceFault text size NoSuchEvent = (r : Recording) × (reading_of text ≡ Ok r) × (length r.events ≤ size)
 IsPieceFault text size NoName = (r : Recording) × (reading_of text ≡ Ok r) × HasNoNewName r
 IsPieceFault text size OutOfMemory = ⊤
+
+-- the trace breaks a rule, or the table of locks does not fit in memory
+abbrev pub IsRuleFault : Recording → PieceFault → Type 0
+IsRuleFault r fault = (why : RuleRefusal) × (fault ≡ Rule why) × ((why ≡ no_table) ⊎ IsFirstBreach r.events why)

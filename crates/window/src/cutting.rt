@@ -1,9 +1,7 @@
 //! Cuts a window from a trace.
-ghost use Rattle.std.specs.Prelude.{◌≡◌, ◌⊎◌, ◌+◌, ◌-◌, ◌^◌, ◌<◌, ◌≤◌, ℕ, All, List, length, IfErr, IfOk, IfSome, None};
+ghost use Rattle.std.specs.Prelude.{◌≡◌, ◌⊎◌, ◌+◌, ◌-◌, ◌^◌, ◌<◌, ◌≤◌, All, length, IfErr, IfOk, IfSome, None};
 ghost use Rattle.rapid_text.specs.Recording.{IsNamed};
-ghost use Rattle.window.specs.Window.{back};
-ghost use Rattle.window.specs.Cuts.{HasNoNewName, IsCut, IsCutAs, IsEnd, last_end, prologue_of, prologue_size, window_text, window_text_at, with_name};
-ghost use Rattle.window.specs.declared.fault.CutFault.TheVariants.{NoName, NoSuchEvent, OutOfMemory as NoMemory};
+ghost use Rattle.window.specs.Cuts.{AreNamed, IsCut, IsCutAs, IsCutFault, IsEnd, last_end, back_in, prologue_of, prologue_size, window_text, window_text_at, with_name};
 
 use crate::fault::CutFault;
 use crate::lines::{append_begin, append_part, append_prologue};
@@ -30,8 +28,8 @@ impl Window {
     /// The number in the trace of the event with this number in the window's text. None if it is an event of the
     /// prologue, or if the number does not fit in a u64.
     pub fn number_of(&self, event: u64) -> Option<u64>
-        ensures some { IfSome result (λ number. (self.now.prologue ≤ event) × (number ≡ back self.now.prologue self.now.from event)) }
-        ensures none { result ≡ None → (event < self.now.prologue) ⊎ (2 ^ 64 ≤ back self.now.prologue self.now.from event) }
+        ensures some { IfSome result (λ number. (self.now.prologue ≤ event) × (number ≡ back_in self.now event)) }
+        ensures none { result ≡ None → (event < self.now.prologue) ⊎ (2 ^ 64 ≤ back_in self.now event) }
     {
         if event < self.prologue {
             return None;
@@ -52,7 +50,7 @@ fn end_of(
     ensures end { IfOk result (λ p. IsEnd trace.now from most p.0) }
     ensures within { IfOk result (λ p. p.0 ≤ length trace.now.events) }
     ensures events { IfOk result (λ p. p.1.items ≡ prologue_of trace.now from p.0) }
-    ensures named { IfOk result (λ p. (name : List ℕ) → All (IsNamed (with_name trace.now name)) p.1.items) }
+    ensures named { IfOk result (λ p. AreNamed trace.now p.1.items) }
     ensures size { IfOk result (λ p. length p.1.items ≡ prologue_size trace.now from p.0) }
 {
     let len = trace.raw().len();
@@ -124,10 +122,8 @@ fn text_at(
 /// trace may be.
 pub fn cut(alloc: Global, trace: &Trace, from: u32, most: u32) -> Result<Vec<u8>, CutFault>
     requires { 0 < most }
-    ensures ok { IfOk result (λ text. (from < length trace.now.events) × IsCut trace.now from most text.items) }
-    ensures err { IfErr result
-        (λ fault. (fault ≡ NoMemory)
-        ⊎ (((fault ≡ NoSuchEvent) × (length trace.now.events ≤ from)) ⊎ ((fault ≡ NoName) × HasNoNewName trace.now))) }
+    ensures ok { IfOk result (λ t. (from < length trace.now.events) × IsCut trace.now from most t.items) }
+    ensures err { IfErr result (IsCutFault trace.now from) }
 {
     if from >= trace.raw().len() {
         return Err(CutFault::NoSuchEvent);
@@ -155,10 +151,8 @@ pub fn cut_at(
 ) -> Result<Window, CutFault>
     requires number { number < 1000000000000000000 }
     requires most { 0 < most }
-    ensures ok { IfOk result (λ window. (from < length trace.now.events) × IsCutAs trace.now number from most window) }
-    ensures err { IfErr result
-        (λ fault. (fault ≡ NoMemory)
-        ⊎ (((fault ≡ NoSuchEvent) × (length trace.now.events ≤ from)) ⊎ ((fault ≡ NoName) × HasNoNewName trace.now))) }
+    ensures ok { IfOk result (λ w. (from < length trace.now.events) × IsCutAs trace.now number from most w) }
+    ensures err { IfErr result (IsCutFault trace.now from) }
 {
     if from >= trace.raw().len() {
         return Err(CutFault::NoSuchEvent);

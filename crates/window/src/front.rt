@@ -3,11 +3,10 @@ ghost use Rattle.std.specs.Prelude.{◌≡◌, ◌+◌, ◌-◌, ◌<◌, ◌≤
 ghost use Rattle.rapid_text.specs.Appended.{IfFound};
 ghost use Rattle.rapid_text.specs.Limits.{event_limit};
 ghost use Rattle.rapid_text.specs.Reading.{first_uses, reading_of, thread_uses};
-ghost use Rattle.trace_rules.specs.Rules.{IsDisciplined};
-ghost use Rattle.window.specs.Fronts.{IsFrontFault, IsHead};
+ghost use Rattle.window.specs.Fronts.{IsFrontFault, IsHead, IsWindowAfter};
 ghost use Rattle.window.specs.HeadText.{all_of, head_text};
 ghost use Rattle.window.specs.Heads.{IsReadAfter};
-ghost use Rattle.window.specs.Streams.{IsKept, IsPast, IsPieceFault, IsWhole, IsWindowAt, Stands, feeds, long_trace, nothing_read, said_in};
+ghost use Rattle.window.specs.Streams.{IsKept, IsPast, IsPieceFault, IsWhole, Stands, feeds, held_size, nothing_read, said_in};
 
 use crate::cutting::Window;
 use crate::fault::FrontFault;
@@ -92,7 +91,7 @@ impl Front {
     /// At least this many events fit in the next piece. The text that replaces what was read has at most three events
     /// for each thread, and an acquire for each hold.
     pub fn room(&self) -> u32
-        ensures { result ≡ event_limit - (768 + length (said_in self.now.past.held)) }
+        ensures { result ≡ event_limit - (768 + held_size self.now) }
     {
         MAX_EVENTS
             .saturating_sub(3 * MAX_THREADS)
@@ -121,10 +120,7 @@ impl Front {
         ensures from { IfOk result (λ w. w.from ≡ length (said_in self.now.read)) }
         ensures most { IfOk result (λ w. (w.from < w.to) × (w.to ≤ w.from + most)) }
         // Whatever comes later, this is a window of the whole trace.
-        ensures window { IfOk result
-            (λ w. (later : List ℕ)
-            → IsDisciplined (long_trace (self.now.read ++ (more.now ++ later)))
-            → IsWindowAt (self.now.read ++ (more.now ++ later)) w.from w.to w.prologue w.text.items) }
+        ensures window { IfOk result (IsWindowAfter self.now.read more.now) }
         ensures fault { IfErr result (IsFrontFault self.now more.now) }
     {
         if !is_whole(more) {
@@ -197,7 +193,7 @@ impl Front {
         requires most { 0 < most }
         ensures from { IfFound result (λ w. w.from ≡ length (said_in self.now.read)) }
         ensures most { IfFound result (λ w. (w.from < w.to) × (w.to ≤ w.from + most)) }
-        ensures window { IfFound result (λ w. (later : List ℕ) → IsDisciplined (long_trace (self.now.read ++ (more.now ++ later))) → IsWindowAt (self.now.read ++ (more.now ++ later)) w.from w.to w.prologue w.text.items) }
+        ensures window { IfFound result (IsWindowAfter self.now.read more.now) }
     {
         let Some(head) = self.whole_head(alloc)? else {
             return Ok(None);
@@ -222,17 +218,11 @@ impl Front {
         requires size { head.now.size ≡ length (said_in head.now.text.items) }
         ensures from { IfOk result (λ w. w.from ≡ length (said_in self.now.read)) }
         ensures most { IfOk result (λ w. (w.from < w.to) × (w.to ≤ w.from + most)) }
-        ensures window { IfOk result
-            (λ w. (later : List ℕ)
-            → IsDisciplined (long_trace (self.now.read ++ (more.now ++ later)))
-            → IsWindowAt (self.now.read ++ (more.now ++ later)) w.from w.to w.prologue w.text.items) }
+        ensures window { IfOk result (IsWindowAfter self.now.read more.now) }
         ensures err { IfErr result (IsPieceFault (head.now.text.items ++ more.now) head.now.size) }
     {
         let text = head.text.as_slice();
-        match window_after(alloc, text, head.size, more, self.number, most) {
-            Ok(window) => Ok(window),
-            Err(fault) => Err(fault),
-        }
+        window_after(alloc, text, head.size, more, self.number, most)
     }
 
     // The trace of the piece, if it can be read after a head with all threads.
@@ -255,13 +245,9 @@ impl Front {
         ensures ok { IfOk result (λ next. IsReadAfter self.now.read more.now next.trace next.from) }
         ensures err { IfErr result (IsPieceFault (head.now.text.items ++ more.now) head.now.size) }
     {
-        match piece(alloc, head.text.as_slice(), more) {
-            Ok(trace) => Ok(Next {
-                trace,
-                from: head.size,
-            }),
-            Err(fault) => Err(fault),
-        }
+        let from = head.size;
+        let trace = piece(alloc, head.text.as_slice(), more)?;
+        Ok(Next { trace, from })
     }
 
     // The text of such a head, which may not be readable as a trace.
@@ -322,8 +308,5 @@ fn counted(number: u64, events: u32) -> Option<u64>
     ensures none { result ≡ None → 1000000000000000000 ≤ number + events }
 {
     let sum = number.checked_add(u64::from(events))?;
-    if sum >= MAX_NUMBER {
-        return None;
-    }
-    Some(sum)
+    (sum < MAX_NUMBER).then_some(sum)
 }

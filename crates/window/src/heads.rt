@@ -1,9 +1,8 @@
 //! A text that replaces what was read, before a piece of a trace.
-ghost use Rattle.std.specs.Prelude.{◌≡◌, ℕ, List, [], false, if◌then◌else◌, codes, IfOk};
+ghost use Rattle.std.specs.Prelude.{◌≡◌, false, IfOk};
 ghost use Rattle.rapid_text.specs.Appended.{Appended};
-ghost use Rattle.window.specs.HeadText.{all_kept, all_of, first_outside, head_text, noted_lines, said_line};
-ghost use Rattle.window.specs.Heads.{level_names, names_of, past_of};
-ghost use Rattle.window.specs.Streams.{is_named, read_name};
+ghost use Rattle.window.specs.HeadText.{NoneNoted, all_of, head_text, said_line, whole_head_text};
+ghost use Rattle.window.specs.Heads.{all_calls, call_if, calls, join_lines, level_names, names_of, past_of, read_if, read_lines};
 
 use crate::known::Known;
 use crate::levels::{Levels, Names, first_of, first_other, is_noted};
@@ -36,7 +35,7 @@ fn append_call(
     word: &[u8],
     name: &[u8],
 ) -> Result<(), OutOfMemory>
-    ensures { Appended result text.old text.new (if is_named (level_names noted.now) name.now then said_line thread.now word.now name.now else []) }
+    ensures { Appended result text.old text.new (call_if thread.now word.now noted.now name.now) }
 {
     if is_noted(noted, name) {
         append_said(text, thread, word, name)?;
@@ -52,7 +51,7 @@ fn append_calls(
     thread: &[u8],
     word: &[u8],
 ) -> Result<(), OutOfMemory>
-    ensures { Appended result text.old text.new (noted_lines (λ name. said_line thread.now word.now name) (level_names noted.now) raw.now.threads) }
+    ensures { Appended result text.old text.new (calls thread.now word.now noted.now raw.now.threads) }
 {
     for other in 0..raw.threads() {
         append_call(text, noted, thread, word, raw.thread_name(other))?;
@@ -62,8 +61,7 @@ fn append_calls(
 
 // Whether any thread of the piece is noted.
 fn is_any_noted(noted: &Levels, raw: &RawTrace) -> bool
-    ensures none { result ≡ false
-        → (line : List ℕ → List ℕ) → noted_lines line (level_names noted.now) raw.now.threads ≡ [] }
+    ensures none { result ≡ false → NoneNoted (level_names noted.now) raw.now.threads }
 {
     for thread in 0..raw.threads() {
         if is_noted(noted, raw.thread_name(thread)) {
@@ -82,18 +80,17 @@ fn append_joins(
     seen: &Levels,
     joined: &Levels,
 ) -> Result<(), OutOfMemory>
-    ensures { Appended result text.old text.new (noted_lines (λ name. said_line (first_outside (level_names seen.now) (level_names joined.now)) (codes "join") name) (level_names joined.now) raw.now.threads) }
+    ensures { Appended result text.old text.new (join_lines seen.now joined.now raw.now.threads) }
 {
     if !is_any_noted(joined, raw) {
         return Ok(());
     }
-    append_calls(text, raw, joined, first_other(seen, joined), b"join")?;
-    Ok(())
+    append_calls(text, raw, joined, first_other(seen, joined), b"join")
 }
 
 // Appends a read by the thread of this name, if it is noted.
 fn append_read(text: &mut Vec<u8>, noted: &Levels, name: &[u8]) -> Result<(), OutOfMemory>
-    ensures { Appended result text.old text.new (if is_named (level_names noted.now) name.now then said_line name.now (codes "r") read_name else []) }
+    ensures { Appended result text.old text.new (read_if noted.now name.now) }
 {
     if is_noted(noted, name) {
         append_said(text, name, b"r", b"seen")?;
@@ -103,7 +100,7 @@ fn append_read(text: &mut Vec<u8>, noted: &Levels, name: &[u8]) -> Result<(), Ou
 
 // Appends such a read for each noted thread of the piece.
 fn append_reads(text: &mut Vec<u8>, raw: &RawTrace, noted: &Levels) -> Result<(), OutOfMemory>
-    ensures { Appended result text.old text.new (noted_lines (λ name. said_line name (codes "r") read_name) (level_names noted.now) raw.now.threads) }
+    ensures { Appended result text.old text.new (read_lines noted.now raw.now.threads) }
 {
     for other in 0..raw.threads() {
         append_read(text, noted, raw.thread_name(other))?;
@@ -119,7 +116,7 @@ fn append_level_calls(
     thread: &[u8],
     word: &[u8],
 ) -> Result<(), OutOfMemory>
-    ensures { Appended result text.old text.new (noted_lines (λ name. said_line thread.now word.now name) (level_names noted.now) (names_of level.now)) }
+    ensures { Appended result text.old text.new (calls thread.now word.now noted.now (names_of level.now)) }
 {
     for at in 0..level.len() {
         append_call(text, noted, thread, word, level[at].as_slice())?;
@@ -134,7 +131,7 @@ fn append_all_calls(
     thread: &[u8],
     word: &[u8],
 ) -> Result<(), OutOfMemory>
-    ensures { Appended result text.old text.new (noted_lines (λ name. said_line thread.now word.now name) (level_names noted.now) (level_names noted.now)) }
+    ensures { Appended result text.old text.new (all_calls thread.now word.now noted.now) }
 {
     for at in 0..noted.levels.len() {
         append_level_calls(text, noted, &noted.levels[at], thread, word)?;
@@ -144,7 +141,7 @@ fn append_all_calls(
 
 // Appends a read by each noted thread of the level.
 fn append_level_reads(text: &mut Vec<u8>, noted: &Levels, level: &Names) -> Result<(), OutOfMemory>
-    ensures { Appended result text.old text.new (noted_lines (λ name. said_line name (codes "r") read_name) (level_names noted.now) (names_of level.now)) }
+    ensures { Appended result text.old text.new (read_lines noted.now (names_of level.now)) }
 {
     for at in 0..level.len() {
         append_read(text, noted, level[at].as_slice())?;
@@ -154,7 +151,7 @@ fn append_level_reads(text: &mut Vec<u8>, noted: &Levels, level: &Names) -> Resu
 
 // Appends a read by each noted thread.
 fn append_all_reads(text: &mut Vec<u8>, noted: &Levels) -> Result<(), OutOfMemory>
-    ensures { Appended result text.old text.new (noted_lines (λ name. said_line name (codes "r") read_name) (level_names noted.now) (level_names noted.now)) }
+    ensures { Appended result text.old text.new (read_lines noted.now (level_names noted.now)) }
 {
     for at in 0..noted.levels.len() {
         append_level_reads(text, noted, &noted.levels[at])?;
@@ -165,8 +162,7 @@ fn append_all_reads(text: &mut Vec<u8>, noted: &Levels) -> Result<(), OutOfMemor
 impl Known {
     /// The text that replaces what was read, before any piece: it has all threads.
     pub(crate) fn whole_head(&self, alloc: Global) -> Result<Vec<u8>, OutOfMemory>
-        ensures { IfOk result
-            (λ text. text.items ≡ head_text (past_of self.now) (all_kept (past_of self.now))) }
+        ensures { IfOk result (λ text. text.items ≡ whole_head_text (past_of self.now)) }
     {
         let mut text = Vec::new(alloc);
         let first = first_of(&self.seen);

@@ -1,9 +1,9 @@
 //! The summary of a trace that was read: which threads were forked, have an event, or were joined, and which locks
 //! are held.
-ghost use Rattle.std.specs.Prelude.{◌≡◌, ◌||◌, ◌≤◌, ℕ, [], List, length, IfOk, OnOk, OnErr};
-ghost use Rattle.window.specs.Heads.{grown_names, level_names, names_of, past_of};
-ghost use Rattle.window.specs.Streams.{IsHeldText, is_named};
-ghost use Rattle.window.specs.Tables.{found_name, has_fork, has_join, has_thread};
+ghost use Rattle.std.specs.Prelude.{◌≡◌, ◌≤◌, [], length, IfOk, OnOk, OnErr};
+ghost use Rattle.window.specs.Heads.{AreThreadsOf, Grows, HasMore, grown_names, level_names, names_of, past_of};
+ghost use Rattle.window.specs.Streams.{HoldsIn};
+ghost use Rattle.window.specs.Tables.{acts, forks, joins};
 
 use crate::leaving::held_text;
 use crate::levels::{Grown, Levels, Names, no_names, note_levels, with_found};
@@ -53,11 +53,7 @@ impl Known {
 
     /// The names of all threads.
     pub(crate) fn threads(&self, alloc: Global) -> Result<Names, OutOfMemory>
-        ensures { IfOk result (λ all.
-            (name : List ℕ)
-            → is_named (names_of all) name
-            ≡ ((is_named (past_of self.now).seen name || is_named (past_of self.now).forked name)
-            || is_named (past_of self.now).joined name)) }
+        ensures { IfOk result (λ all. AreThreadsOf (past_of self.now) (names_of all)) }
     {
         let mut all = no_names(alloc, self.seen.keyed());
         note_levels(&mut all, alloc, self.seen.levels.as_slice())?;
@@ -82,23 +78,10 @@ impl Known {
         from: u32,
     ) -> Result<(), OutOfMemory>
         requires { from ≤ length trace.now.events }
-        ensures forked { OnOk result
-            ((name : List ℕ)
-            → is_named (level_names self.new.forked) name
-            ≡ (is_named (level_names self.old.forked) name
-            || found_name trace.now.threads (has_fork trace.now.events from (length trace.now.events)) (length trace.now.threads) name)) }
-        ensures seen { OnOk result
-            ((name : List ℕ)
-            → is_named (level_names self.new.seen) name
-            ≡ (is_named (level_names self.old.seen) name
-            || found_name trace.now.threads (has_thread trace.now.events from (length trace.now.events)) (length trace.now.threads) name)) }
-        ensures joined { OnOk result
-            ((name : List ℕ)
-            → is_named (level_names self.new.joined) name
-            ≡ (is_named (level_names self.old.joined) name
-            || found_name trace.now.threads (has_join trace.now.events from (length trace.now.events)) (length trace.now.threads) name)) }
-        ensures held { OnOk result
-            ((is : IsHeldText trace.now self.new.held.items) × (self.new.holds ≡ length is.events)) }
+        ensures forked { OnOk result (HasMore level_names self.old.forked self.new.forked (forks trace.now from)) }
+        ensures seen { OnOk result (HasMore level_names self.old.seen self.new.seen (acts trace.now from)) }
+        ensures joined { OnOk result (HasMore level_names self.old.joined self.new.joined (joins trace.now from)) }
+        ensures held { OnOk result (HoldsIn trace.now self.new.held.items self.new.holds) }
         ensures past { OnErr result (past_of self.new ≡ past_of self.old) }
         ensures holds { OnErr result (self.new.holds ≡ self.old.holds) }
     {
@@ -110,22 +93,10 @@ impl Known {
     // The updates for this trace.
     fn after(&self, alloc: Global, trace: &Trace, from: u32) -> Result<Later, OutOfMemory>
         requires { from ≤ length trace.now.events }
-        ensures forked { IfOk result (λ later.
-            (name : List ℕ)
-            → is_named (grown_names self.now.forked later.forked) name
-            ≡ (is_named (level_names self.now.forked) name
-            || found_name trace.now.threads (has_fork trace.now.events from (length trace.now.events)) (length trace.now.threads) name)) }
-        ensures seen { IfOk result (λ later.
-            (name : List ℕ)
-            → is_named (grown_names self.now.seen later.seen) name
-            ≡ (is_named (level_names self.now.seen) name
-            || found_name trace.now.threads (has_thread trace.now.events from (length trace.now.events)) (length trace.now.threads) name)) }
-        ensures joined { IfOk result (λ later.
-            (name : List ℕ)
-            → is_named (grown_names self.now.joined later.joined) name
-            ≡ (is_named (level_names self.now.joined) name
-            || found_name trace.now.threads (has_join trace.now.events from (length trace.now.events)) (length trace.now.threads) name)) }
-        ensures held { IfOk result (λ later. (is : IsHeldText trace.now later.held.items) × (later.holds ≡ length is.events)) }
+        ensures forked { IfOk result (λ later. Grows self.now.forked later.forked (forks trace.now from)) }
+        ensures seen { IfOk result (λ later. Grows self.now.seen later.seen (acts trace.now from)) }
+        ensures joined { IfOk result (λ later. Grows self.now.joined later.joined (joins trace.now from)) }
+        ensures held { IfOk result (λ later. HoldsIn trace.now later.held.items later.holds) }
     {
         let to = trace.raw().len();
         let forks = forks_in(alloc, trace, from, to)?;

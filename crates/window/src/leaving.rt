@@ -1,12 +1,9 @@
 //! A text that takes the locks that a trace holds at its end.
-ghost use Rattle.std.specs.Prelude.{◌≡◌, ◌++◌, ◌∷◌, ℕ, All, List, length, replicate, IfOk, OnOk};
+ghost use Rattle.std.specs.Prelude.{◌≡◌, ℕ, All, IfOk, OnOk};
 ghost use Rattle.rapid_text.specs.Appended.{Appended};
 ghost use Rattle.rapid_text.specs.declared.event.Op.{Op};
-ghost use Rattle.trace_rules.specs.Rules.{hold_count};
-ghost use Rattle.window.specs.declared.holding.Held.{Held};
-ghost use Rattle.window.specs.Made.{does};
-ghost use Rattle.window.specs.Streams.{IsHeldText, IsOf};
-ghost use Rattle.window.specs.Tables.{AreHeld, all_takes, takes_of};
+ghost use Rattle.window.specs.Streams.{HoldTheSame, HoldsIn, IsOf};
+ghost use Rattle.window.specs.Tables.{AddsTakes, takes_of};
 
 use crate::holding::{Held, held_before};
 use crate::lines::append_prologue;
@@ -29,10 +26,7 @@ fn add_takes(events: &mut Vec<Event>, held: Held, lock: u32) -> Result<(), OutOf
 
 // Adds acquires for all locks that are held after the trace.
 fn add_holds(alloc: Global, trace: &Trace, events: &mut Vec<Event>) -> Result<(), OutOfMemory>
-    ensures { OnOk result
-        ((held : List Held)
-        × AreHeld trace.now.events (length trace.now.events) (length trace.now.locks) held
-        × (events.new.items ≡ events.old.items ++ all_takes held (length trace.now.locks))) }
+    ensures { OnOk result (AddsTakes trace.now events.old.items events.new.items) }
 {
     let held = held_before(alloc, trace, trace.raw().len())?;
     for lock in 0..trace.raw().locks() {
@@ -45,11 +39,9 @@ fn add_holds(alloc: Global, trace: &Trace, events: &mut Vec<Event>) -> Result<()
 fn takes_after(alloc: Global, trace: &Trace) -> Result<Vec<Event>, OutOfMemory>
     ensures named { IfOk result (λ events. All (IsOf trace.now) events.items) }
     ensures takes { IfOk result (λ events. All (λ e. (l : ℕ) × (e.op ≡ Op.Acquire l)) events.items) }
-    ensures holds { IfOk result
-        (λ events. (t l : ℕ) → hold_count trace.now.events t l ≡ hold_count events.items t l) }
+    ensures holds { IfOk result (λ events. HoldTheSame trace.now.events events.items) }
 {
-    // the trace is well formed
-    let _ = trace.raw();
+    let _raw = trace.raw();
     let mut events = Vec::new(alloc);
     add_holds(alloc, trace, &mut events)?;
     Ok(events)
@@ -57,11 +49,10 @@ fn takes_after(alloc: Global, trace: &Trace) -> Result<Vec<Event>, OutOfMemory>
 
 /// The text of acquires for all locks that are held after the trace, and their number.
 pub(crate) fn held_text(alloc: Global, trace: &Trace) -> Result<(Vec<u8>, usize), OutOfMemory>
-    ensures { IfOk result (λ made. (is : IsHeldText trace.now made.0.items) × (made.1 ≡ length is.events)) }
+    ensures { IfOk result (λ made. HoldsIn trace.now made.0.items made.1) }
 {
     let events = takes_after(alloc, trace)?;
     let mut text = Vec::new(alloc);
-    let all = events.as_slice();
-    append_prologue(&mut text, trace.raw(), b"seen", all)?;
-    Ok((text, all.len()))
+    append_prologue(&mut text, trace.raw(), b"seen", events.as_slice())?;
+    Ok((text, events.len()))
 }

@@ -1,10 +1,9 @@
 //! Names of threads in levels: tables that are made once, and joined when there are many.
-ghost use Rattle.std.specs.Prelude.{◌≡◌, ◌&&◌, ◌||◌, ◌<◌, ◌≤◌, ℕ, [], List, flat_map, length, not, true, false, bytes_eq, slice_index_or, vec_len, vec_capacity, if◌then◌else◌, ◌++◌, ◌∷◌, IfOk, OnOk};
-ghost use Rattle.std.specs.List.{position_or_len};
-ghost use Rattle.window.specs.HeadText.{first_name, first_outside};
-ghost use Rattle.window.specs.Heads.{grown_names, level_names, names_of};
+ghost use Rattle.std.specs.Prelude.{◌≡◌, ◌&&◌, ◌<◌, ◌≤◌, [], flat_map, length, not, bytes_eq, vec_len, vec_capacity, IfOk, OnOk};
+ghost use Rattle.window.specs.HeadText.{first_name, first_outside, place_outside};
+ghost use Rattle.window.specs.Heads.{Grows, HasMore, HaveSame, both_names, grown_names, level_names, names_of, with_new};
 ghost use Rattle.window.specs.Streams.{is_named};
-ghost use Rattle.window.specs.Tables.{found_name};
+ghost use Rattle.window.specs.Tables.{found_in};
 
 use indexmap::IndexSet;
 use rapid_text::{OutOfMemory, RawTrace, TextKeyed};
@@ -56,9 +55,7 @@ pub(crate) fn is_noted(names: &Levels, name: &[u8]) -> bool
 
 // Adds the name, if it is new.
 fn note(names: &mut Names, alloc: Global, name: &[u8]) -> Result<(), OutOfMemory>
-    ensures { OnOk result
-        (names_of names.new
-        ≡ (if is_named (names_of names.old) name.now then names_of names.old else names_of names.old ++ name.now ∷ [])) }
+    ensures { OnOk result (names_of names.new ≡ with_new (names_of names.old) name.now) }
 {
     let owned = Vec::from_slice(alloc, name)?;
     names.insert(owned)?;
@@ -67,24 +64,17 @@ fn note(names: &mut Names, alloc: Global, name: &[u8]) -> Result<(), OutOfMemory
 
 // Adds the name, if `asked` is true.
 fn note_if(names: &mut Names, alloc: Global, asked: bool, name: &[u8]) -> Result<(), OutOfMemory>
-    ensures { OnOk result
-        ((other : List ℕ)
-        → is_named (names_of names.new) other
-        ≡ (is_named (names_of names.old) other || (asked && bytes_eq other name.now))) }
+    ensures { OnOk result (HasMore names_of names.old names.new (λ other. asked && bytes_eq other name.now)) }
 {
     if !asked {
         return Ok(());
     }
-    note(names, alloc, name)?;
-    Ok(())
+    note(names, alloc, name)
 }
 
 // Adds these names.
 fn note_all(names: &mut Names, alloc: Global, others: &Names) -> Result<(), OutOfMemory>
-    ensures { OnOk result
-        ((other : List ℕ)
-        → is_named (names_of names.new) other
-        ≡ (is_named (names_of names.old) other || is_named (names_of others.now) other)) }
+    ensures { OnOk result (HasMore names_of names.old names.new (is_named (names_of others.now))) }
 {
     for at in 0..others.len() {
         note_if(names, alloc, true, others[at].as_slice())?;
@@ -98,10 +88,7 @@ pub(crate) fn note_levels(
     alloc: Global,
     levels: &[Names],
 ) -> Result<(), OutOfMemory>
-    ensures { OnOk result
-        ((other : List ℕ)
-        → is_named (names_of names.new) other
-        ≡ (is_named (names_of names.old) other || is_named (flat_map names_of levels.now) other)) }
+    ensures { OnOk result (HasMore names_of names.old names.new (is_named (flat_map names_of levels.now))) }
 {
     for at in 0..levels.len() {
         note_all(names, alloc, &levels[at])?;
@@ -125,11 +112,7 @@ fn note_found(
     found: &[bool],
 ) -> Result<(), OutOfMemory>
     requires { length found.now ≡ length raw.now.threads }
-    ensures { OnOk result
-        ((other : List ℕ)
-        → is_named (level_names known.now ++ names_of names.new) other
-        ≡ (is_named (level_names known.now ++ names_of names.old) other
-        || found_name raw.now.threads (λ t. slice_index_or found.now t false) (length raw.now.threads) other)) }
+    ensures { OnOk result (HasMore (both_names known.now) names.old names.new (found_in raw.now found.now)) }
 {
     for thread in 0..raw.threads() {
         let name = raw.thread_name(thread);
@@ -172,10 +155,7 @@ fn joined(
     known: &Levels,
     names: &Names,
 ) -> Result<Grown, OutOfMemory>
-    ensures { IfOk result (λ grown.
-        (other : List ℕ)
-        → is_named (grown_names known.now grown) other
-        ≡ is_named (level_names known.now ++ names_of names.now) other) }
+    ensures { IfOk result (λ grown. HaveSame (grown_names known.now grown) (both_names known.now names.now)) }
 {
     let keep = kept_levels(known, names.len());
     let mut level = no_names(alloc, keyed);
@@ -192,17 +172,12 @@ pub(crate) fn with_found(
     found: &[bool],
 ) -> Result<Grown, OutOfMemory>
     requires { length found.now ≡ length raw.now.threads }
-    ensures { IfOk result (λ grown.
-        (other : List ℕ)
-        → is_named (grown_names known.now grown) other
-        ≡ (is_named (level_names known.now) other
-        || found_name raw.now.threads (λ t. slice_index_or found.now t false) (length raw.now.threads) other)) }
+    ensures { IfOk result (λ grown. Grows known.now grown (found_in raw.now found.now)) }
 {
     let keyed = keyed_by(known, raw);
     let mut names = no_names(alloc, keyed);
     note_found(&mut names, alloc, raw, known, found)?;
-    let grown = joined(alloc, keyed, known, &names)?;
-    Ok(grown)
+    joined(alloc, keyed, known, &names)
 }
 
 /// The first of the names; empty if there is none.
@@ -220,7 +195,7 @@ pub(crate) fn first_of(names: &Levels) -> &[u8]
 
 // The index of the first name that no other level has; the number of names if there is none.
 fn outside_at(names: &Names, others: &Levels) -> usize
-    ensures { result ≡ position_or_len (λ name. not (is_named (level_names others.now) name)) (names_of names.now) }
+    ensures { result ≡ place_outside (names_of names.now) (level_names others.now) }
 {
     for at in 0..names.len() {
         if !is_noted(others, names[at].as_slice()) {

@@ -1,11 +1,10 @@
 //! Appends the lines of a window.
 ghost use Rattle.std.specs.Fmt.{decimal};
-ghost use Rattle.std.specs.Prelude.{◌≡◌, ◌+◌, ◌<◌, ◌≤◌, ◌++◌, ◌-◌, ◌∷◌, [], All, length, take, drop, codes};
+ghost use Rattle.std.specs.Prelude.{◌≡◌, ◌+◌, ◌<◌, ◌≤◌, ◌++◌, ◌∷◌, [], All, length, codes};
 ghost use Rattle.rapid_text.specs.Appended.{Appended};
-ghost use Rattle.rapid_text.specs.Canonical.{event_text, events_text, name_at, op_text};
+ghost use Rattle.rapid_text.specs.Canonical.{name_at, op_text};
 ghost use Rattle.rapid_text.specs.Recording.{IsNamed, IsNamedOp};
-ghost use Rattle.window.specs.Cuts.{begin_line, with_name};
-ghost use Rattle.window.specs.Made.{part_of};
+ghost use Rattle.window.specs.Cuts.{begin_line, own_line, own_lines, span_lines, with_name};
 
 use itoa::Buffer;
 use rapid_text::{Event, Op, OutOfMemory, RawTrace};
@@ -16,10 +15,9 @@ fn variable_name<'a>(trace: &'a RawTrace, own: &'a [u8], variable: u32) -> &'a [
     ensures { result.now ≡ name_at (trace.now.variables ++ own.now ∷ []) variable }
 {
     if variable < trace.variables() {
-        trace.variable_name(variable)
-    } else {
-        own
+        return trace.variable_name(variable);
     }
+    own
 }
 
 // The name of a lock of the trace, or `own` for the number after them.
@@ -28,10 +26,9 @@ fn lock_name<'a>(trace: &'a RawTrace, own: &'a [u8], lock: u32) -> &'a [u8]
     ensures { result.now ≡ name_at (trace.now.locks ++ own.now ∷ []) lock }
 {
     if lock < trace.locks() {
-        trace.lock_name(lock)
-    } else {
-        own
+        return trace.lock_name(lock);
     }
+    own
 }
 
 // Appends `word(name)`.
@@ -74,7 +71,7 @@ fn append_line(
     location: &[u8],
 ) -> Result<(), OutOfMemory>
     requires { IsNamed (with_name trace.now own.now) event }
-    ensures { Appended result text.old text.new (event_text (with_name trace.now own.now) event location.now) }
+    ensures { Appended result text.old text.new (own_line trace.now own.now event location.now) }
 {
     text.extend_from_slice(trace.thread_name(event.thread))?;
     text.push(b'|')?;
@@ -93,7 +90,7 @@ pub(crate) fn append_prologue(
     events: &[Event],
 ) -> Result<(), OutOfMemory>
     requires { All (IsNamed (with_name trace.now own.now)) events.now }
-    ensures { Appended result text.old text.new (events_text (with_name trace.now own.now) events.now []) }
+    ensures { Appended result text.old text.new (own_lines trace.now own.now events.now) }
 {
     for at in 0..events.len() {
         append_line(text, trace, own, events[at], b"")?;
@@ -111,7 +108,7 @@ pub(crate) fn append_part(
 ) -> Result<(), OutOfMemory>
     requires from { from ≤ to }
     requires to { to ≤ length trace.now.events }
-    ensures { Appended result text.old text.new (events_text (with_name trace.now own.now) (part_of trace.now.events from to) (take (to - from) (drop from trace.now.locations))) }
+    ensures { Appended result text.old text.new (span_lines trace.now own.now from to) }
 {
     for event in from..to {
         append_line(text, trace, own, trace.event(event), trace.location(event))?;

@@ -1,10 +1,9 @@
 //! Replaces the numbers of a window's events by their numbers in the whole trace, in the lines of `triage --json`.
-ghost use Rattle.std.specs.Prelude.{◌≡◌, ◌^◌, ◌+◌, ◌*◌, ◌<◌, ◌≤◌, ◌++◌, ℕ, List, length, take, drop, true, false, IfOk, IfSome, OnOk, None};
-ghost use Rattle.memchr.specs.Find.{FindsNeedle};
+ghost use Rattle.std.specs.Prelude.{◌≡◌, ◌^◌, ◌+◌, ◌*◌, ◌<◌, ◌≤◌, length, take, drop, true, false, IfOk, IfSome, OnOk, None};
 ghost use Rattle.std.specs.Char.{digit_value};
 ghost use Rattle.std.specs.Str.Parse.{AllDigits, digits_value};
 ghost use Rattle.rapid_text.specs.Appended.{Appended, IfFound};
-ghost use Rattle.window.specs.Moving.{HasNoDigit, IsMarked, IsMoved, Marked, event_mark, moved_digits};
+ghost use Rattle.window.specs.Moving.{AppendsMoved, HasNoDigit, HasNoMark, MovesFirst, moved_digits};
 
 use crate::cutting::Window;
 use itoa::Buffer;
@@ -89,9 +88,8 @@ impl Window {
         out: &mut Vec<u8>,
         text: &'a [u8],
     ) -> Result<Option<&'a [u8]>, OutOfMemory>
-        ensures none { IfOk result
-            (λ rest. rest ≡ None → FindsNeedle text.now event_mark 0 None × (out.new.items ≡ out.old.items)) }
-        ensures some { IfFound result (λ rest. (m : Marked) × IsMarked m rest.now × (text.now ≡ m.front ++ (m.digits ++ rest.now)) × (out.new.items ≡ out.old.items ++ (m.front ++ moved_digits self.now.prologue self.now.from m.digits))) }
+        ensures none { IfOk result (λ rest. rest ≡ None → HasNoMark text.now × (out.new.items ≡ out.old.items)) }
+        ensures some { IfFound result (λ rest. MovesFirst self.now text.now rest.now out.old.items out.new.items) }
         ensures shorter { IfFound result (λ rest. length rest.now < length text.now) }
     {
         let Some(at) = memmem::find(text, EVENT) else {
@@ -106,10 +104,7 @@ impl Window {
 
     /// Appends the line with the numbers that its events have in the trace. Nothing else in it changes.
     pub fn append_moved(&self, out: &mut Vec<u8>, line: &[u8]) -> Result<(), OutOfMemory>
-        ensures { OnOk result
-            ((moved : List ℕ)
-            × IsMoved self.now.prologue self.now.from line.now moved
-            × (out.new.items ≡ out.old.items ++ moved)) }
+        ensures { OnOk result (AppendsMoved self.now line.now out.old.items out.new.items) }
     {
         let mut left = line;
         'numbers: while let Some(rest) = self.append_first(out, left)? {

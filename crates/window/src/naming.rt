@@ -45,7 +45,7 @@ fn is_used(trace: &RawTrace, name: &[u8]) -> bool
 /// `window`, followed by as few underscores as make the name new.
 pub(crate) fn new_name(alloc: Global, trace: &RawTrace) -> Result<Vec<u8>, CutFault>
     ensures ok { IfOk result (λ name. IsNewName trace.now name.items) }
-    ensures err { IfErr result (λ fault. (fault ≡ OutOfMemory) ⊎ ((fault ≡ NoName) × HasNoNewName trace.now)) }
+    ensures err { IfErr result (λ why. (why ≡ OutOfMemory) ⊎ ((why ≡ NoName) × HasNoNewName trace.now)) }
 {
     let mut name = Vec::from_slice(alloc, b"window")?;
     'tries: while name.len() <= MAX_NAME {

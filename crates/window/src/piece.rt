@@ -1,11 +1,10 @@
 //! Windows of a trace of any length, which is read in pieces.
-ghost use Rattle.std.specs.Prelude.{◌≡◌, ◌⊎◌, ◌+◌, ◌<◌, ◌≤◌, ◌++◌, ℕ, List, length, true, None, Ok, IfOk, IfErr};
+ghost use Rattle.std.specs.Prelude.{◌≡◌, ◌+◌, ◌<◌, ◌≤◌, ◌++◌, ℕ, length, true, None, Ok, IfOk, IfErr};
 ghost use Rattle.rapid_text.specs.Appended.{IfFound};
-ghost use Rattle.window.specs.Fronts.{HasTooManyThreads};
 ghost use Rattle.rapid_text.specs.Reading.{reading_of};
-ghost use Rattle.trace_rules.specs.Rules.{IsDisciplined, IsFirstBreach, no_memory as no_table};
-ghost use Rattle.window.specs.Streams.{IsKept, IsPieceFault, IsWhole, IsWindowAt, Stands, long_trace, said_in};
-ghost use Rattle.window.specs.declared.piece.PieceFault.TheVariants.{Rule};
+ghost use Rattle.trace_rules.specs.Rules.{IsDisciplined};
+ghost use Rattle.window.specs.Fronts.{HasTooManyThreads, IsWindowBehind};
+ghost use Rattle.window.specs.Streams.{IsKept, IsPieceFault, IsRuleFault, said_in};
 
 use crate::cutting::{Window, cut_at};
 use crate::fault::CutFault;
@@ -51,8 +50,7 @@ fn joined(alloc: Global, front: &[u8], more: &[u8]) -> Result<Vec<u8>, OutOfMemo
 // Checks the trace against the rules.
 fn checked(alloc: Global, raw: RawTrace) -> Result<Trace, PieceFault>
     ensures ok { IfOk result (λ trace. trace ≡ raw) }
-    ensures err { IfErr result
-        (λ fault. (why : RuleRefusal) × (fault ≡ Rule why) × ((why ≡ no_table) ⊎ IsFirstBreach raw.events why)) }
+    ensures err { IfErr result (IsRuleFault raw) }
 {
     match check(alloc, raw) {
         Ok(trace) => Ok(trace),
@@ -119,8 +117,7 @@ pub(crate) fn piece(alloc: Global, head: &[u8], more: &[u8]) -> Result<Trace, Pi
     ensures ok { IfOk result (λ trace. reading_of (head.now ++ more.now) ≡ Ok trace) }
     ensures err { IfErr result (λ fault. (size : ℕ) → IsPieceFault (head.now ++ more.now) size fault) }
 {
-    let text = joined(alloc, head, more)?;
-    match parse(alloc, text.as_slice()) {
+    match parse(alloc, joined(alloc, head, more)?.as_slice()) {
         Ok(raw) => checked(alloc, raw),
         Err(why) => Err(PieceFault::Text(why)),
     }
@@ -141,13 +138,7 @@ pub(crate) fn window_after(
     requires most { 0 < most }
     ensures from { IfOk result (λ w. (w.from ≡ number) × (number < w.to) × (w.to ≤ number + most)) }
     // Whatever the head replaces, and whatever comes later, this is a window of the whole trace.
-    ensures window { IfOk result
-        (λ w. (front later : List ℕ)
-        → Stands front head.now more.now
-        → IsWhole more.now
-        → number ≡ length (said_in front)
-        → IsDisciplined (long_trace (front ++ (more.now ++ later)))
-        → IsWindowAt (front ++ (more.now ++ later)) number w.to w.prologue w.text.items) }
+    ensures window { IfOk result (IsWindowBehind head.now more.now number) }
     ensures err { IfErr result (IsPieceFault (head.now ++ more.now) size) }
 {
     let trace = match piece(alloc, head, more) {

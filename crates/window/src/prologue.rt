@@ -1,10 +1,9 @@
 //! The locks that a window's prologue takes, and the threads that wait for it.
-ghost use Rattle.std.specs.Prelude.{◌≡◌, ◌&&◌, not, ◌+◌, ◌-◌, ◌*◌, ◌<◌, ◌≤◌, ◌∷◌, [], ℕ, All, List, length, nat_lt, if◌then◌else◌, replicate, IfOk};
+ghost use Rattle.std.specs.Prelude.{◌≡◌, ◌&&◌, not, ◌-◌, ◌*◌, ◌≤◌, ◌∷◌, [], length, if◌then◌else◌, IfOk};
 ghost use Rattle.rapid_text.specs.Appended.{Appended};
-ghost use Rattle.rapid_text.specs.Recording.{IsNamed};
-ghost use Rattle.rapid_text.specs.declared.event.Op.{Op};
-ghost use Rattle.window.specs.Cuts.{prologue_of, prologue_size, with_name};
-ghost use Rattle.window.specs.Made.{chain_of, does, holds_at, readers_at, readers_of, reads_of};
+ghost use Rattle.window.specs.Cuts.{AreNamed, own_holds, own_readers, own_threads, prologue_of, prologue_size};
+ghost use Rattle.window.specs.Made.{access_of, chain_of, reads_of};
+ghost use Rattle.window.specs.Tables.{serving_holds};
 
 use crate::holding::{Held, held_before};
 use crate::touching::{forks_in, threads_in, touches_in};
@@ -19,7 +18,7 @@ fn add_holds(
     lock: u32,
     touches: u32,
 ) -> Result<(), OutOfMemory>
-    ensures { Appended result holds.old holds.new (replicate (if nat_lt (2 * touches) held.depth then 2 * touches else held.depth) (held.thread, lock)) }
+    ensures { Appended result holds.old holds.new (serving_holds held lock touches) }
 {
     let most = 2 * u64::from(touches);
     let depth = u64::from(held.depth);
@@ -39,9 +38,7 @@ fn holds_in(
 ) -> Result<Vec<(u32, u32)>, OutOfMemory>
     requires from { from ≤ to }
     requires to { to ≤ length trace.now.events }
-    ensures { IfOk result
-        (λ holds. holds.items
-        ≡ holds_at trace.now.events from to (length trace.now.threads) (length trace.now.locks)) }
+    ensures { IfOk result (λ holds. holds.items ≡ own_holds trace.now from to) }
 {
     let held = held_before(alloc, trace, from)?;
     let touches = touches_in(alloc, trace, from, to)?;
@@ -78,8 +75,7 @@ fn add_reader(readers: &mut Vec<u32>, waits: bool, thread: u32) -> Result<(), Ou
 fn readers_in(alloc: Global, trace: &Trace, from: u32, to: u32) -> Result<Vec<u32>, OutOfMemory>
     requires from { from ≤ to }
     requires to { to ≤ length trace.now.events }
-    ensures { IfOk result
-        (λ readers. readers.items ≡ readers_of trace.now.events from to (length trace.now.threads)) }
+    ensures { IfOk result (λ readers. readers.items ≡ own_threads trace.now from to) }
 {
     let found = threads_in(alloc, trace, from, to)?;
     let forked = forks_in(alloc, trace, from, to)?;
@@ -101,10 +97,8 @@ fn waiting_in(
 ) -> Result<Vec<u32>, OutOfMemory>
     requires from { from ≤ to }
     requires to { to ≤ length trace.now.events }
-    requires holds { holds.now ≡ holds_at trace.now.events from to (length trace.now.threads) (length trace.now.locks) }
-    ensures { IfOk result
-        (λ readers. readers.items
-        ≡ readers_at trace.now.events from to (length trace.now.threads) (length trace.now.locks)) }
+    requires holds { holds.now ≡ own_holds trace.now from to }
+    ensures { IfOk result (λ readers. readers.items ≡ own_readers trace.now from to) }
 {
     if holds.is_empty() {
         return Ok(Vec::new(alloc));
@@ -132,7 +126,7 @@ fn add_links(
 
 // Adds an access that is made under the prologue's lock.
 fn add_access(events: &mut Vec<Event>, thread: u32, op: Op, own: u32) -> Result<(), OutOfMemory>
-    ensures { Appended result events.old events.new (does thread (Op.Acquire own) ∷ does thread op ∷ does thread (Op.Release own) ∷ []) }
+    ensures { Appended result events.old events.new (access_of own thread op) }
 {
     events.push(Event {
         thread,
@@ -202,8 +196,7 @@ pub(crate) fn prologue_in(
     requires from { from ≤ to }
     requires to { to ≤ length trace.now.events }
     ensures events { IfOk result (λ events. events.items ≡ prologue_of trace.now from to) }
-    ensures named { IfOk result
-        (λ events. (name : List ℕ) → All (IsNamed (with_name trace.now name)) events.items) }
+    ensures named { IfOk result (λ events. AreNamed trace.now events.items) }
     ensures size { IfOk result (λ events. length events.items ≡ prologue_size trace.now from to) }
     ensures short { IfOk result (λ events. length events.items ≤ 17 * (to - from)) }
 {

@@ -1,8 +1,6 @@
 //! What the events of a part do: how many are on each lock, which threads they have, and which they fork or join.
-ghost use Rattle.std.specs.Prelude.{◌≡◌, ◌+◌, ◌<◌, ◌≤◌, length, IfOk};
-ghost use Rattle.event_index.specs.Tables.{IsTable};
-ghost use Rattle.window.specs.Made.{touch_count};
-ghost use Rattle.window.specs.Tables.{has_fork, has_join, has_thread};
+ghost use Rattle.std.specs.Prelude.{◌+◌, ◌<◌, ◌≤◌, length, IfOk};
+ghost use Rattle.window.specs.Tables.{IsForkTable, IsJoinTable, IsThreadTable, IsTouchTable};
 
 use rapid_text::{Op, OutOfMemory};
 use std::alloc::Global;
@@ -17,8 +15,7 @@ pub(crate) fn touches_in(
 ) -> Result<Vec<u32>, OutOfMemory>
     requires from { from ≤ to }
     requires to { to ≤ length trace.now.events }
-    ensures { IfOk result
-        (λ counts. IsTable (touch_count trace.now.events from to) (length trace.now.locks) counts.items) }
+    ensures { IfOk result (λ counts. IsTouchTable trace.now from to counts.items) }
 {
     let mut counts = vec![in alloc; 0u32; trace.raw().locks() as usize]?;
     for event in from..to {
@@ -31,12 +28,11 @@ pub(crate) fn touches_in(
 fn note_touch(counts: &mut Vec<u32>, trace: &Trace, from: u32, at: u32)
     requires from { from ≤ at }
     requires event { at < length trace.now.events }
-    requires table { IsTable (touch_count trace.now.events from at) (length trace.now.locks) counts.old.items }
-    ensures { IsTable (touch_count trace.now.events from (at + 1)) (length trace.now.locks) counts.new.items }
+    requires table { IsTouchTable trace.now from at counts.old.items }
+    ensures { IsTouchTable trace.now from (at + 1) counts.new.items }
 {
     match trace.raw().event(at).op {
-        Op::Acquire(lock) => counts[lock as usize] += 1,
-        Op::Release(lock) => counts[lock as usize] += 1,
+        Op::Acquire(lock) | Op::Release(lock) => counts[lock as usize] += 1,
         Op::Read(_) | Op::Write(_) | Op::Fork(_) | Op::Join(_) => {}
     }
 }
@@ -50,8 +46,7 @@ pub(crate) fn threads_in(
 ) -> Result<Vec<bool>, OutOfMemory>
     requires from { from ≤ to }
     requires to { to ≤ length trace.now.events }
-    ensures { IfOk result
-        (λ found. IsTable (has_thread trace.now.events from to) (length trace.now.threads) found.items) }
+    ensures { IfOk result (λ found. IsThreadTable trace.now from to found.items) }
 {
     let mut found = vec![in alloc; false; trace.raw().threads() as usize]?;
     for event in from..to {
@@ -64,8 +59,8 @@ pub(crate) fn threads_in(
 fn note_thread(found: &mut Vec<bool>, trace: &Trace, from: u32, at: u32)
     requires from { from ≤ at }
     requires event { at < length trace.now.events }
-    requires table { IsTable (has_thread trace.now.events from at) (length trace.now.threads) found.old.items }
-    ensures { IsTable (has_thread trace.now.events from (at + 1)) (length trace.now.threads) found.new.items }
+    requires table { IsThreadTable trace.now from at found.old.items }
+    ensures { IsThreadTable trace.now from (at + 1) found.new.items }
 {
     found[trace.raw().event(at).thread as usize] = true;
 }
@@ -79,8 +74,7 @@ pub(crate) fn forks_in(
 ) -> Result<Vec<bool>, OutOfMemory>
     requires from { from ≤ to }
     requires to { to ≤ length trace.now.events }
-    ensures { IfOk result
-        (λ found. IsTable (has_fork trace.now.events from to) (length trace.now.threads) found.items) }
+    ensures { IfOk result (λ found. IsForkTable trace.now from to found.items) }
 {
     let mut found = vec![in alloc; false; trace.raw().threads() as usize]?;
     for event in from..to {
@@ -93,8 +87,8 @@ pub(crate) fn forks_in(
 fn note_fork(found: &mut Vec<bool>, trace: &Trace, from: u32, at: u32)
     requires from { from ≤ at }
     requires event { at < length trace.now.events }
-    requires table { IsTable (has_fork trace.now.events from at) (length trace.now.threads) found.old.items }
-    ensures { IsTable (has_fork trace.now.events from (at + 1)) (length trace.now.threads) found.new.items }
+    requires table { IsForkTable trace.now from at found.old.items }
+    ensures { IsForkTable trace.now from (at + 1) found.new.items }
 {
     if let Op::Fork(thread) = trace.raw().event(at).op {
         found[thread as usize] = true;
@@ -110,8 +104,7 @@ pub(crate) fn joins_in(
 ) -> Result<Vec<bool>, OutOfMemory>
     requires from { from ≤ to }
     requires to { to ≤ length trace.now.events }
-    ensures { IfOk result
-        (λ found. IsTable (has_join trace.now.events from to) (length trace.now.threads) found.items) }
+    ensures { IfOk result (λ found. IsJoinTable trace.now from to found.items) }
 {
     let mut found = vec![in alloc; false; trace.raw().threads() as usize]?;
     for event in from..to {
@@ -124,8 +117,8 @@ pub(crate) fn joins_in(
 fn note_join(found: &mut Vec<bool>, trace: &Trace, from: u32, at: u32)
     requires from { from ≤ at }
     requires event { at < length trace.now.events }
-    requires table { IsTable (has_join trace.now.events from at) (length trace.now.threads) found.old.items }
-    ensures { IsTable (has_join trace.now.events from (at + 1)) (length trace.now.threads) found.new.items }
+    requires table { IsJoinTable trace.now from at found.old.items }
+    ensures { IsJoinTable trace.now from (at + 1) found.new.items }
 {
     if let Op::Join(thread) = trace.raw().event(at).op {
         found[thread as usize] = true;
