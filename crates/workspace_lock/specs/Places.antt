@@ -5,12 +5,14 @@
 use Rattle.std.specs.Prelude.{◌≡◌, ℕ, ◌+◌, ◌<◌, ◌≤◌, length, List, [], ◌∷◌, Option, Some, None}
 use Rattle.atomic_table.specs.Seated.{TableId}
 use Rattle.atomic_table.specs.Table.{Me}
+use Rattle.atomic_table.specs.declared.shared.Seat.{Seat}
 use Rattle.rapid_text.specs.Recording.{Recording}
 use Rattle.inverse_log.specs.declared.entry.Entry.{Entry}
 use Rattle.inverse_log.specs.Log.{Benched}
 use Rattle.dependence.specs.Limits.{client_limit}
+use Rattle.workspace_lock.specs.Limits.{turn_limit}
 use Rattle.workspace_lock.specs.Turns.{Mark, mark, Sees}
-use Rattle.workspace_lock.specs.Seating.{Site, SeatView}
+use Rattle.workspace_lock.specs.Seating.{Site, SeatView, mark_in}
 
 -- between two calls, or waiting with a ticket, or with the turn
 pub data Stage : Type 0 where
@@ -32,6 +34,14 @@ blank = record { marks = []; turns = 0; stage = idle }
 -- a place's view, and the slots that it has taken
 abbrev pub PlaceState : Type 0
 PlaceState = Me (Option Benched) PlaceView
+
+-- a place
+abbrev pub PlaceAt : Type 0
+PlaceAt = Seat (Option Benched) PlaceView
+
+-- it is the same place at the same table, and P holds of its state
+abbrev pub KeepsPlace : PlaceAt → PlaceAt → Type 0 → Type 0
+KeepsPlace old new P = (new.table_id ≡ old.table_id) × (new.id ≡ old.id) × P
 
 -- the bench with this trace and this log
 abbrev pub bench_of : Recording → List Entry → Benched
@@ -96,6 +106,14 @@ TookBench m b n =
     × (b.trace ≡ (mark_of m.0).start.trace)
     × (n ≡ (solo (saw (mark_of m.0) b.log) (m.0.turns + 1) (holds t), (0, None) ∷ []))
 
+-- the place published the log, and still has the turn
+abbrev pub HasPublished : PlaceState → List Entry → PlaceState → Type 0
+HasPublished m log n = n ≡ (solo (saw (mark_of m.0) log) m.0.turns (holds (ticket_in m.0.stage)), (0, None) ∷ [])
+
+-- the place has seen the log, and has neither a ticket nor a slot
+abbrev pub IsRested : PlaceState → List Entry → PlaceState → Type 0
+IsRested m log n = n ≡ (solo (saw (mark_of m.0) log) m.0.turns idle, [])
+
 -- the place read the front: it is the length of a log that the client may see
 abbrev pub Looked : PlaceState → ℕ → PlaceState → Type 0
 Looked m found n =
@@ -111,6 +129,14 @@ site_of z m = record { table = z; start = m.start; clients = m.clients }
 -- the seat that has this place, as a caller sees it
 abbrev pub seat_view : TableId → PlaceState → SeatView
 seat_view z m = record { site = site_of z (mark_of m.0); number = (mark_of m.0).number; turns = m.0.turns; seen = (mark_of m.0).seen }
+
+-- this is the place of the seat, between two calls
+abbrev pub IsPlaceOfSeat : SeatView → PlaceAt → Type 0
+IsPlaceOfSeat s p =
+    (p.table_id ≡ s.site.table)
+    × IsSized p.table_id
+    × (p.me ≡ (solo (mark_in s) s.turns idle, []))
+    × (s.turns ≤ turn_limit)
 
 -- the place of a seat between two calls
 abbrev pub IsSeatOf : TableId → PlaceState → ℕ → ℕ → Type 0

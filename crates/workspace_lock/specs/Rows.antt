@@ -1,7 +1,7 @@
 -- The rows of seats and their places: how seats are made from the first place, and how they are joined again. All
 -- notions here are this project's own.
 use Rattle.std.specs.List.{All, Contains}
-use Rattle.std.specs.Prelude.{suc, ◌-◌, ◌≡◌, ℕ, ◌+◌, ◌*◌, ◌<◌, ◌≤◌, length, List, [], ◌∷◌, Option, Some, None}
+use Rattle.std.specs.Prelude.{suc, ◌-◌, ◌≡◌, ℕ, ◌+◌, ◌*◌, ◌<◌, ◌≤◌, length, List, [], ◌∷◌, ◌++◌, Option, Some, None}
 use Rattle.atomic_table.specs.Seated.{TableId}
 use Rattle.rapid_text.specs.Recording.{Recording}
 use Rattle.inverse_log.specs.Log.{Benched}
@@ -9,7 +9,7 @@ use Rattle.dependence.specs.Limits.{client_limit}
 use Rattle.workspace_lock.specs.Limits.{turn_limit}
 use Rattle.workspace_lock.specs.Turns.{Mark, Sees}
 use Rattle.workspace_lock.specs.Seating.{Site, SeatView, mark_in}
-use Rattle.workspace_lock.specs.Places.{idle, PlaceState, IsSized}
+use Rattle.workspace_lock.specs.Places.{idle, PlaceAt, PlaceState, IsSized}
 use Rattle.workspace_lock.specs.Rule.{fresh_marks}
 
 -- the second list has every mark of the first
@@ -22,6 +22,14 @@ pub record Gathers (m : PlaceState) : Type 0 where
   pub idle_is : m.0.stage ≡ idle
   pub empty : m.1 ≡ []
   pub fair : m.0.turns ≤ turn_limit * length m.0.marks
+
+-- it is at the same table, others can still be joined to it, and P holds
+abbrev pub GathersOn : PlaceAt → PlaceAt → Type 0 → Type 0
+GathersOn old new P = (new.table_id ≡ old.table_id) × Gathers new.me × P
+
+-- the seat's place was joined to the place, which has the seat's mark at the end now
+abbrev pub JoinsSeat : PlaceAt → SeatView → PlaceAt → Type 0
+JoinsSeat old seat new = GathersOn old new (new.me.0.marks ≡ old.me.0.marks ++ mark_in seat ∷ [])
 
 -- what the marks of all seats say about the bench at the end
 pub record IsEnd (trace : Recording) (marks : List Mark) (bench : Benched) : Type 0 where

@@ -1,6 +1,6 @@
 -- What a caller sees of a seat and of all seats: which seats are in, what opening gives, and what closing returns.
 -- Clauses of callers cite this page. All notions here are this project's own.
-use Rattle.std.specs.Prelude.{slice_get, slice_set, zero, suc, ◌-◌, ◌≡◌, ℕ, ◌<◌, ◌≤◌, List, [], ◌∷◌, Option, Some, None}
+use Rattle.std.specs.Prelude.{slice_get, slice_set, zero, suc, ◌-◌, ◌≡◌, ℕ, ◌<◌, ◌≤◌, length, List, [], ◌∷◌, Option, Some, None}
 use Rattle.atomic_table.specs.Seated.{TableId}
 use Rattle.inverse_log.specs.declared.entry.Entry.{Entry}
 use Rattle.inverse_log.specs.Log.{Benched}
@@ -48,6 +48,35 @@ fresh_rows site n (suc k) = Some (fresh_seat site n) ∷ fresh_rows site (suc n)
 -- seats for this many clients on this bench, none of which has made a call
 abbrev pub Opened : Benched → ℕ → SeatsView → Type 0
 Opened bench clients s = (s.site.start ≡ bench) × (s.site.clients ≡ clients) × (s.rows ≡ fresh_rows s.site 1 clients)
+
+-- all seats are in
+abbrev pub AreAllIn : List (Option SeatView) → Type 0
+AreAllIn rows = (i : ℕ) → i < length rows → (c : SeatView) × (slice_get rows i ≡ Some (Some c))
+
+-- no seat is in
+abbrev pub NoneIn : List (Option SeatView) → Type 0
+NoneIn rows = (j : ℕ) → j < length rows → slice_get rows j ≡ Some None
+
+-- a seat is out
+abbrev pub HasOneOut : List (Option SeatView) → Type 0
+HasOneOut rows = (i : ℕ) × (slice_get rows i ≡ Some None)
+
+-- row i is the first that has a seat
+abbrev pub IsFirstIn : List (Option SeatView) → ℕ → Type 0
+IsFirstIn rows i =
+    (i < length rows)
+    × ((c : SeatView) × (slice_get rows i ≡ Some (Some c)))
+    × ((j : ℕ) → j < i → slice_get rows j ≡ Some None)
+
+-- the seat with this number is in
+abbrev pub IsIn : SeatsView → ℕ → Type 0
+IsIn s number = (c : SeatView) × (slice_get s.rows (number - 1) ≡ Some (Some c))
+
+-- the seat c was out, and is now in its row
+abbrev pub PutsBack : SeatsView → SeatView → SeatsView → Type 0
+PutsBack s c n =
+    (slice_get s.rows (c.number - 1) ≡ Some None)
+    × (n ≡ record s { rows = slice_set s.rows (c.number - 1) (Some c) })
 
 -- the seat c had the least number of all seats that were in, and is now out
 pub record TakesFirst (s : SeatsView) (c : SeatView) (n : SeatsView) : Type 0 where

@@ -1,14 +1,13 @@
 //! A client's seat, and a call through it.
-ghost use Rattle.std.specs.Prelude.{◌≡◌, ℕ, ◌+◌, ◌*◌, ◌<◌, ◌≤◌, [], ◌∷◌, None, Some, Err, length};
+ghost use Rattle.std.specs.Prelude.{◌≡◌, ℕ, ◌+◌, ◌*◌, ◌<◌, ◌≤◌, [], ◌∷◌, Some, Err, length};
 ghost use Rattle.std.specs.Io.KnownBytes.{Appends};
 ghost use Rattle.std.specs.Arc.{arc_value};
 ghost use Rattle.inverse_log.specs.Answer.{IsLegal, Grown};
 ghost use Rattle.dependence.specs.Limits.{client_limit};
 ghost use Rattle.workspace_lock.specs.Limits.{turn_limit};
-ghost use Rattle.workspace_lock.specs.Seating.{mark_in};
 ghost use Rattle.workspace_lock.specs.Runs.{Ran, Fronted, Passes, Hears};
-ghost use Rattle.workspace_lock.specs.Places.{idle, holds, mark_of, saw, solo, ticket_in, seat_view};
-ghost use Rattle.workspace_lock.specs.Places.{IsSized, IsResting, IsWaiting, IsBusy, GotTurn, TookBench, Looked};
+ghost use Rattle.workspace_lock.specs.Places.{idle, mark_of, solo, seat_view};
+ghost use Rattle.workspace_lock.specs.Places.{IsSized, IsResting, IsWaiting, IsBusy, IsRested, IsPlaceOfSeat, KeepsPlace, GotTurn, TookBench, HasPublished, Looked};
 ghost use Rattle.inverse_log.specs.declared.refusal.SeatRefusal.TheVariants.{SeatSpent};
 
 use crate::boxed::BoxedBench;
@@ -85,7 +84,7 @@ fn pass_answered<R: Wait, G: Gate, N: Told>(rt: &R, gate: &mut G, answered: &Res
 // Sleeps until it is the ticket's turn. The load that sees the turn also takes the bench.
 fn watch<R: Wait>(rt: &R, hall: &Hall, place: &mut Place, ticket: u64)
     requires { (place.old.table_id ≡ hall.now.lock.shared.table_id) × IsSized place.old.table_id × IsWaiting ticket place.old.me }
-    ensures { (place.new.table_id ≡ place.old.table_id) × (place.new.id ≡ place.old.id) × GotTurn ticket place.old.me place.new.me }
+    ensures { KeepsPlace place.old place.new (GotTurn ticket place.old.me place.new.me) }
 {
     for _ in rt.forever() {
         if hall.lock.shared.load::<Watch>(place, 1) == ticket {
@@ -100,7 +99,7 @@ fn watch<R: Wait>(rt: &R, hall: &Hall, place: &mut Place, ticket: u64)
 fn take_bench<R: Wait>(rt: &R, hall: &Hall, place: &mut Place) -> BoxedBench
     requires { (place.old.table_id ≡ hall.now.lock.shared.table_id) × IsSized place.old.table_id
         × IsResting place.old.me × (place.old.me.0.turns < turn_limit) }
-    ensures { (place.new.table_id ≡ place.old.table_id) × (place.new.id ≡ place.old.id) × TookBench place.old.me result place.new.me }
+    ensures { KeepsPlace place.old place.new (TookBench place.old.me result place.new.me) }
 {
     hall.door.enter(rt);
     let ticket = hall.lock.shared.fetch_add::<Draw>(place, 0, 1);
@@ -115,8 +114,7 @@ fn publish<N: Named>(lock: &Lock, place: &mut Place, bench: &BoxedBench)
     requires bench { IsLegal (mark_of place.old.me.0).start.trace bench.now.log
         × Grown (mark_of place.old.me.0).seen (mark_of place.old.me.0).number bench.now.log
         × (length (mark_of place.old.me.0).seen < length bench.now.log) }
-    ensures { (place.new.table_id ≡ place.old.table_id) × (place.new.id ≡ place.old.id)
-        × (place.new.me ≡ (solo (saw (mark_of place.old.me.0) bench.now.log) place.old.me.0.turns (holds (ticket_in place.old.me.0.stage)), (0, None) ∷ [])) }
+    ensures { KeepsPlace place.old place.new (HasPublished place.old.me bench.now.log place.new.me) }
 {
     let _ = bench.log_len();
     lock.shared.fetch_add::<Publish<N>>(place, 2, 1);
@@ -130,8 +128,7 @@ fn give_back(hall: &Hall, place: &mut Place, bench: BoxedBench, before: u64)
         × Grown (mark_of place.old.me.0).seen (mark_of place.old.me.0).number bench.log
         × (bench.trace ≡ (mark_of place.old.me.0).start.trace) }
     requires before { before ≡ length (mark_of place.old.me.0).seen }
-    ensures { (place.new.table_id ≡ place.old.table_id) × (place.new.id ≡ place.old.id)
-        × (place.new.me ≡ (solo (saw (mark_of place.old.me.0) bench.log) place.old.me.0.turns idle, [])) }
+    ensures { KeepsPlace place.old place.new (IsRested place.old.me bench.log place.new.me) }
 {
     if before < bench.log_len() {
         publish::<Brand>(&hall.lock, place, &bench);
@@ -145,7 +142,7 @@ fn give_back(hall: &Hall, place: &mut Place, bench: BoxedBench, before: u64)
 // Reads FRONT with one load.
 fn look(lock: &Lock, place: &mut Place) -> u64
     requires { (place.old.table_id ≡ lock.now.shared.table_id) × IsSized place.old.table_id × IsResting place.old.me }
-    ensures { (place.new.table_id ≡ place.old.table_id) × (place.new.id ≡ place.old.id) × Looked place.old.me result place.new.me }
+    ensures { KeepsPlace place.old place.new (Looked place.old.me result place.new.me) }
 {
     lock.shared.load::<Look>(place, 2)
 }
@@ -212,8 +209,7 @@ impl Seat {
 
     // Takes the place out of the seat, for good.
     pub(crate) fn into_place(self) -> Place
-        ensures { (result.table_id ≡ self.site.table) × IsSized result.table_id
-            × (result.me ≡ (solo (mark_in self) self.turns idle, [])) × (self.turns ≤ turn_limit) }
+        ensures { IsPlaceOfSeat self result }
     {
         let Seat {
             hall: _,

@@ -1,12 +1,12 @@
 //! All seats of a shared bench.
-ghost use Rattle.std.specs.Prelude.{◌≡◌, ℕ, ◌+◌, ◌*◌, ◌<◌, ◌≤◌, [], ◌∷◌, ◌++◌, ◌-◌, Some, None, length, true, false};
-ghost use Rattle.std.specs.Prelude.{IfSome, IfNone, IfErr, IfOk, slice_get, slice_set, OnOk, MatchBool, vec_capacity};
+ghost use Rattle.std.specs.Prelude.{◌≡◌, ◌+◌, ◌*◌, ◌<◌, ◌≤◌, [], ◌++◌, length, true, false};
+ghost use Rattle.std.specs.Prelude.{IfSome, IfNone, IfErr, IfOk, OnOk, MatchBool, vec_capacity};
 ghost use Rattle.std.specs.Arc.{arc_value};
 ghost use Rattle.dependence.specs.Limits.{client_limit};
-ghost use Rattle.workspace_lock.specs.Seating.{mark_in, TakesFirst, Closes, SeatView, site_at, fresh_rows, Opened};
+ghost use Rattle.workspace_lock.specs.Seating.{AreAllIn, Closes, HasOneOut, IsFirstIn, IsIn, NoneIn, Opened, PutsBack, TakesFirst, fresh_rows, site_at};
 ghost use Rattle.workspace_lock.specs.Counts.{IsBadCount};
 ghost use Rattle.workspace_lock.specs.Places.{idle, mark_of, saw, solo, IsSized};
-ghost use Rattle.workspace_lock.specs.Rows.{IsEnd, Gathers, marks_in, AllSeated, HasAll, dealt};
+ghost use Rattle.workspace_lock.specs.Rows.{IsEnd, Gathers, GathersOn, JoinsSeat, marks_in, AllSeated, HasAll, dealt};
 
 use crate::bells::Bells;
 use crate::boxed::BoxedBench;
@@ -35,7 +35,7 @@ fn finish(lock: &Lock, place: &mut Place) -> Bench
 fn join_in(lock: &Lock, place: &mut Place, seat: Seat)
     requires place { (place.old.table_id ≡ lock.now.shared.table_id) × IsSized place.old.table_id × Gathers place.old.me }
     requires seat { seat.site.table ≡ lock.now.shared.table_id }
-    ensures { (place.new.table_id ≡ place.old.table_id) × Gathers place.new.me × (place.new.me.0.marks ≡ place.old.me.0.marks ++ mark_in seat ∷ []) }
+    ensures { JoinsSeat place.old seat place.new }
 {
     let other = seat.into_place();
     lock.shared.join_seat::<Gather>(place, other);
@@ -46,7 +46,7 @@ fn gather(lock: &Lock, place: &mut Place, mut rows: Vec<Option<Seat>>)
     requires place { (place.old.table_id ≡ lock.now.shared.table_id) × IsSized place.old.table_id × Gathers place.old.me }
     requires rows { AllSeated lock.now.shared.table_id rows.items }
     requires first { 0 < length place.old.me.0.marks }
-    ensures place { (place.new.table_id ≡ place.old.table_id) × Gathers place.new.me × (mark_of place.new.me.0 ≡ mark_of place.old.me.0) }
+    ensures place { GathersOn place.old place.new (mark_of place.new.me.0 ≡ mark_of place.old.me.0) }
     ensures count { length place.new.me.0.marks ≡ length place.old.me.0.marks + length rows.items }
     ensures marks { HasAll (place.old.me.0.marks ++ marks_in rows.items) place.new.me.0.marks }
 {
@@ -91,10 +91,8 @@ impl Model for Seats {
 
 // The index of the first row that has a seat.
 fn first_in(rows: &[Option<Seat>]) -> Option<usize>
-    ensures some { IfSome result (λ i. (i < length rows.now)
-        × ((c : SeatView) × (slice_get rows.now i ≡ Some (Some c)))
-        × ((j : ℕ) → j < i → slice_get rows.now j ≡ Some None)) }
-    ensures none { IfNone result ((j : ℕ) → j < length rows.now → slice_get rows.now j ≡ Some None) }
+    ensures some { IfSome result (IsFirstIn rows.now) }
+    ensures none { IfNone result (NoneIn rows.now) }
 {
     for (i, row) in rows.iter().enumerate() {
         if row.is_some() {
@@ -106,9 +104,7 @@ fn first_in(rows: &[Option<Seat>]) -> Option<usize>
 
 // Whether a row has no seat.
 fn is_one_out(rows: &[Option<Seat>]) -> bool
-    ensures { MatchBool result
-        ((i : ℕ) × (slice_get rows.now i ≡ Some None))
-        ((i : ℕ) → i < length rows.now → (c : SeatView) × (slice_get rows.now i ≡ Some (Some c))) }
+    ensures { MatchBool result (HasOneOut rows.now) (AreAllIn rows.now) }
 {
     for row in rows {
         if row.is_none() {
@@ -122,7 +118,7 @@ impl Seats {
     /// Takes out the seat with the least number that is in. Returns None if all seats are out.
     pub fn take(&mut self) -> Option<Seat>
         ensures some { IfSome result (λ c. TakesFirst self.old c self.new) }
-        ensures none { IfNone result ((self.new ≡ self.old) × ((j : ℕ) → j < length self.old.rows → slice_get self.old.rows j ≡ Some None)) }
+        ensures none { IfNone result ((self.new ≡ self.old) × NoneIn self.old.rows) }
     {
         let i = first_in(self.rows.as_slice())?;
         let row = &mut self.rows[i];
@@ -132,10 +128,8 @@ impl Seats {
     /// Takes a seat back. Returns it as the error if a seat with its number is in already.
     pub fn give(&mut self, seat: Seat) -> Result<(), Seat>
         requires { seat.site ≡ self.old.site }
-        ensures ok { OnOk result ((slice_get self.old.rows (seat.number - 1) ≡ Some None)
-            × (self.new ≡ record self.old { rows = slice_set self.old.rows (seat.number - 1) (Some seat) })) }
-        ensures err { IfErr result (λ s. (s ≡ seat) × (self.new ≡ self.old)
-            × ((c : SeatView) × (slice_get self.old.rows (seat.number - 1) ≡ Some (Some c)))) }
+        ensures ok { OnOk result (PutsBack self.old seat self.new) }
+        ensures err { IfErr result (λ s. (s ≡ seat) × (self.new ≡ self.old) × IsIn self.old seat.number) }
     {
         let i = seat.row();
         let is_in = self.rows[i].is_some();
@@ -149,8 +143,8 @@ impl Seats {
     /// Returns the bench, if all seats are in. Otherwise returns the seats as part of the error. Needs no memory and
     /// waits for nobody.
     pub fn close(self) -> Result<Bench, (Seats, CloseRefusal)>
-        ensures ok { IfOk result (λ b. Closes self b × ((i : ℕ) → i < length self.rows → (c : SeatView) × (slice_get self.rows i ≡ Some (Some c)))) }
-        ensures err { IfErr result (λ e. (e.0 ≡ self) × (e.1 ≡ CloseRefusal.NotAll) × ((i : ℕ) × (slice_get self.rows i ≡ Some None))) }
+        ensures ok { IfOk result (λ b. Closes self b × AreAllIn self.rows) }
+        ensures err { IfErr result (λ e. (e.0 ≡ self) × (e.1 ≡ CloseRefusal.NotAll) × HasOneOut self.rows) }
     {
         if is_one_out(self.rows.as_slice()) {
             return Err((self, CloseRefusal::NotAll));
