@@ -77,9 +77,13 @@ proposed_or T L a b P None =
     if does_show T.events P a b then Ok (ProposedAs (length L) (length (board_of T L))) else Err NotShown
 proposed_or T L a b P (Some p) = Err (NotReordering p)
 
+-- the answer if there is no such schedule
+abbrev pub no_schedule : Result Reply Refusal
+no_schedule = Err (Move NoSuchSchedule)
+
 -- the answer to a look at a schedule, from its row
 abbrev pub seen_or : (Row → Reply) → Option Row → Result Reply Refusal
-seen_or look None = Err (Move NoSuchSchedule)
+seen_or look None = no_schedule
 seen_or look (Some r) = Ok (look r)
 
 -- the answer to the client's call, unless memory runs out

@@ -1,6 +1,6 @@
 -- What a bench keeps: its rows, board, inverses and lists are those of its log. No public clause cites this module. `T`
 -- is the trace, `L` is the log.
-use Rattle.std.specs.Prelude.{◌≡◌, ◌<◌, ℕ, true, false, List, [], ◌∷◌, ◌++◌, Option, Some, None, Result, Ok, Err, IsOk, length, slice_get}
+use Rattle.std.specs.Prelude.{◌≡◌, ◌<◌, ℕ, true, false, List, [], ◌∷◌, ◌++◌, Option, Some, None, Result, Ok, Err, IsOk, Vec, length, slice_get, vec_capacity, vec_len}
 use Rattle.rapid_text.specs.Recording.{Recording}
 use Rattle.trace_rules.specs.Rules.{IsDisciplined}
 use Rattle.schedule.specs.Faults.{IsFirstFault}
@@ -89,6 +89,10 @@ pub record IsUnblocked (L : List Entry) (e : Live) : Type 0 where
   pub later : List Live
   pub split : live_of L ≡ earlier ++ e ∷ later
   pub free : blocker_of L e ≡ None
+
+-- the vector has room for one more item
+abbrev pub CanPush : {X A : Type 0} → Vec X A → Type 0
+CanPush items = vec_len items < vec_capacity items
 
 -- the lists are exactly those of the log
 pub record IsListed (L : List Entry) (N : Lists) (C : List (List ℕ)) : Type 0 where

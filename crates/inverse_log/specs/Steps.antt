@@ -3,7 +3,9 @@ use Rattle.std.specs.Prelude.{ℕ, List, [], ◌∷◌, Option, Some, None, slic
 use Rattle.moves.specs.declared.command.Command.{Command}
 use Rattle.moves.specs.declared.inverse.Inverse.{Inverse}
 use Rattle.moves.specs.declared.inverse.Step.TheVariants as step
+use Rattle.moves.specs.Batches.{IsTurnedAll}
 use Rattle.moves.specs.Commands.{writes}
+use Rattle.moves.specs.Rows.{Rows}
 use Rattle.inverse_log.specs.declared.entry.Entry.{Entry}
 use Rattle.inverse_log.specs.declared.entry.Entry.TheVariants.{Did, Batch}
 use Rattle.inverse_log.specs.declared.kept.Form.{Form}
@@ -25,6 +27,10 @@ abbrev pub inverses_of : Held → List Command → List Inverse
 inverses_of (Many I) D = I
 inverses_of (One s) (d ∷ D) = record { name = writes d; step = s } ∷ []
 inverses_of held D = []
+
+-- these commands were taken back, by what is kept for them
+abbrev pub IsTakenBack : Held → List Command → Rows → Rows → Type 0
+IsTakenBack held D old new = IsTurnedAll (inverses_of held D) old new
 
 abbrev pub single_in : Option Entry → Option Command
 single_in (Some (Did c d)) = Some d

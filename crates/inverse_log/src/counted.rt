@@ -2,11 +2,11 @@
 ghost use Rattle.std.specs.Prelude.{◌≡◌, ◌<◌, ◌≤◌, ◌+◌, length, OnOk, OnErr, IfOk, IfErr};
 ghost use Rattle.moves.specs.Ages.{age};
 ghost use Rattle.moves.specs.Applied.{IsApplied};
-ghost use Rattle.moves.specs.Batches.{IsAppliedAll, AreOfTrace, CanTurnAll, IsTurnedAll};
+ghost use Rattle.moves.specs.Batches.{IsAppliedAll, AreOfTrace, CanTurnAll};
 ghost use Rattle.moves.specs.Boards.{IsBoardOf};
 ghost use Rattle.moves.specs.Inverses.{IsStepOf};
 ghost use Rattle.moves.specs.Rows.{Below, IsOfTrace};
-ghost use Rattle.inverse_log.specs.Steps.{inverses_of};
+ghost use Rattle.inverse_log.specs.Steps.{IsTakenBack, inverses_of};
 
 use crate::changing::Changing;
 use crate::kept::Held;
@@ -111,8 +111,7 @@ impl<W: Changing> Counted<W> {
         requires few { self.old.edits < 64000000 }
         requires short { length commands.now ≤ 64 }
         requires whole { length (inverses_of held commands.now) ≡ length commands.now }
-        ensures ok { OnOk result
-            (IsTurnedAll (inverses_of held commands.now) (W.rows self.old.rows) (W.rows self.new.rows)) }
+        ensures ok { OnOk result (IsTakenBack held commands.now (W.rows self.old.rows) (W.rows self.new.rows)) }
         ensures err { OnErr result (W.rows self.new.rows ≡ W.rows self.old.rows) }
         ensures back { IfErr result (λ back. back ≡ held) }
         ensures counted { OnOk result (self.new.edits ≡ self.old.edits + length commands.now) }
@@ -136,7 +135,7 @@ fn turn_back<W: Changing>(
     requires of_trace { IsOfTrace indexed.now (W.rows rows.old) }
     requires steps { AreOfTrace indexed.now (inverses_of held commands.now) }
     requires fits { CanTurnAll (inverses_of held commands.now) (W.rows rows.old) }
-    ensures ok { OnOk result (IsTurnedAll (inverses_of held commands.now) (W.rows rows.old) (W.rows rows.new)) }
+    ensures ok { OnOk result (IsTakenBack held commands.now (W.rows rows.old) (W.rows rows.new)) }
     ensures err { OnErr result (W.rows rows.new ≡ W.rows rows.old) }
     ensures back { IfErr result (λ back. back ≡ held) }
     ensures changed { OnOk result (W.changed (length (inverses_of held commands.now)) rows.old rows.new) }

@@ -8,7 +8,7 @@ ghost use Rattle.inverse_log.specs.Answer.{is_batch};
 ghost use Rattle.inverse_log.specs.Log.{commands_at, is_own};
 ghost use Rattle.inverse_log.specs.Steps.{single_at, batch_at};
 ghost use Rattle.inverse_log.specs.Nearest.{nearer, nearest};
-ghost use Rattle.inverse_log.specs.Kept.{refused_as};
+ghost use Rattle.inverse_log.specs.Kept.{CanPush, refused_as};
 
 use crate::entry::Entry;
 use crate::kept::{Held, Kept, Spare};
@@ -33,8 +33,7 @@ pub(crate) fn make_room(
     ensures steps { steps.new.items ≡ steps.old.items }
     ensures log_len { vec_len log.new ≡ vec_len log.old }
     ensures steps_len { vec_len steps.new ≡ vec_len steps.old }
-    ensures room { OnOk result
-        ((vec_len log.new < vec_capacity log.new) × (vec_len steps.new < vec_capacity steps.new)) }
+    ensures room { OnOk result (CanPush log.new × CanPush steps.new) }
     ensures spare { OnOk result (IsSome spare.new) }
 {
     if spare.is_none() {
@@ -54,7 +53,7 @@ pub(crate) fn make_room(
 
 /// Appends an entry. There is room for it.
 pub(crate) fn add_entry(log: &mut Vec<Entry>, entry: Entry)
-    requires { vec_len log.old < vec_capacity log.old }
+    requires { CanPush log.old }
     ensures { log.new.items ≡ log.old.items ++ entry ∷ [] }
 {
     let _ = log.push(entry);
@@ -62,7 +61,7 @@ pub(crate) fn add_entry(log: &mut Vec<Entry>, entry: Entry)
 
 /// Appends what takes the next entry back. There is room for it.
 pub(crate) fn add_held(steps: &mut Vec<Kept>, spare: &mut Spare, held: Held)
-    requires room { vec_len steps.old < vec_capacity steps.old }
+    requires room { CanPush steps.old }
     requires spare { IsSome spare.old }
     ensures { steps.new.items ≡ steps.old.items ++ held ∷ [] }
 {
@@ -71,7 +70,7 @@ pub(crate) fn add_held(steps: &mut Vec<Kept>, spare: &mut Spare, held: Held)
 
 /// Appends that nothing takes the next entry back. There is room for that.
 pub(crate) fn add_nothing(steps: &mut Vec<Kept>)
-    requires { vec_len steps.old < vec_capacity steps.old }
+    requires { CanPush steps.old }
     ensures { steps.new.items ≡ steps.old.items ++ held.Nothing ∷ [] }
 {
     let _ = steps.push(Kept::nothing());

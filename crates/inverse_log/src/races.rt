@@ -1,7 +1,7 @@
 //! The pairs that a schedule shows.
 ghost use Rattle.std.specs.Prelude.{◌≡◌, ◌++◌, IfOk, OnOk};
 ghost use Rattle.inverse_log.specs.Next.{next_events};
-ghost use Rattle.inverse_log.specs.Pairs.{shown_pairs, pairs_with};
+ghost use Rattle.inverse_log.specs.Pairs.{shown_pairs, shown_with};
 
 use event_index::{Indexed, Pairs};
 use rapid_text::OutOfMemory;
@@ -36,8 +36,7 @@ fn add_pairs(
     later: &[u32],
 ) -> Result<(), OutOfMemory>
     requires { schedule.now.trace ≡ indexed.now }
-    ensures { OnOk result (pairs.new ≡ pairs.old ++ pairs_with indexed.now.events schedule.now.events first
-        later.now) }
+    ensures { OnOk result (pairs.new ≡ pairs.old ++ shown_with indexed.now schedule.now first later.now) }
 {
     for second in later {
         if schedule.shows(indexed, first, *second) {

@@ -1,7 +1,7 @@
 //! Calls that look at the workspace and change nothing.
 ghost use Rattle.std.specs.Prelude.{◌≡◌, ◌<◌, ℕ, Some, None, Ok, Err, IfSome, IfNone};
 ghost use Rattle.inverse_log.specs.declared.call.Call.{Call};
-ghost use Rattle.inverse_log.specs.Answer.{Called, show_answer};
+ghost use Rattle.inverse_log.specs.Answer.{Called, no_schedule, show_answer};
 
 use crate::bench::Bench;
 use crate::races::shown_pairs;
@@ -13,8 +13,7 @@ use moves::{MoveRefusal, Name};
 impl Bench {
     /// The events of this schedule, as a call `Show` answers them. It borrows them, so it takes no memory.
     pub fn shown(&self, name: &Name) -> Option<&[u32]>
-        ensures none { (c : ℕ) → IfNone result (show_answer self.now c name.now ≡ Err (Refusal.Move
-            MoveRefusal.NoSuchSchedule)) }
+        ensures none { (c : ℕ) → IfNone result (show_answer self.now c name.now ≡ no_schedule) }
         ensures some { (c : ℕ) → IfSome result (λ es. show_answer self.now c name.now ≡ Ok (Reply.Shown es.now)) }
     {
         match self.rows.workspace().get(name) {
