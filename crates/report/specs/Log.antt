@@ -8,13 +8,17 @@ use Rattle.report.specs.Commands.{command_words, commands_words}
 use Rattle.report.specs.Info.{count_line}
 use Rattle.report.specs.Pieces.{spaced}
 
+-- the words of a proposal
+abbrev pub proposed_words : ℕ → ℕ → List ℕ → List ℕ
+proposed_words first second events =
+    codes "propose " ++ decimal first ++ codes " " ++ decimal second ++ spaced events
+
 -- what the client did
 abbrev pub entry_words : Entry → List ℕ
 entry_words (Did client command) = command_words command
 entry_words (Batch client commands) = codes "batch " ++ commands_words commands
 entry_words (Undid client entry) = codes "undo " ++ decimal entry
-entry_words (Proposed client first second events) =
-    codes "propose " ++ decimal first ++ codes " " ++ decimal second ++ spaced events
+entry_words (Proposed client first second events) = proposed_words first second events
 
 -- the line of an entry: its number, its client, and what the client did
 abbrev pub entry_line : ℕ → Entry → List ℕ

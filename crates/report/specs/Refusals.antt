@@ -18,11 +18,15 @@ move_words trace (SwapBy why) = codes "47 " ++ swap_words why
 move_words trace TooShort = codes "48 too short"
 move_words trace NoMoveMemory = codes "49 out of memory"
 
+-- why an undo is refused: a later entry touches a name that its entry wrote
+abbrev pub rests_words : ℕ → List ℕ → List ℕ
+rests_words entry name = codes "52 rests on " ++ decimal entry ++ codes " " ++ name
+
 -- why a call is refused
 abbrev pub refusal_words : Recording → Refusal → List ℕ
 refusal_words trace (Move why) = move_words trace why
 refusal_words trace NothingToUndo = codes "51 nothing to undo"
-refusal_words trace (RestsOn entry name) = codes "52 rests on " ++ decimal entry ++ codes " " ++ name
+refusal_words trace (RestsOn entry name) = rests_words entry name
 refusal_words trace (NotReordering position) = codes "53 not a reordering at " ++ decimal position
 refusal_words trace NotShown = codes "54 not shown"
 refusal_words trace LogFull = codes "55 log full"

@@ -24,10 +24,9 @@ fn thread_piece(indexed: &Indexed, thread: u32) -> Piece<'_>
     ensures { piece_bytes result ≡ thread_words indexed.now thread }
 {
     if thread < indexed.threads() {
-        Piece::Words(indexed.thread_name(thread))
-    } else {
-        Piece::Number(u64::from(thread))
+        return Piece::Words(indexed.thread_name(thread));
     }
+    Piece::Number(u64::from(thread))
 }
 
 /// Appends the line of a refusal. The pieces are its number and its words. If memory runs out, `out` stays as it was.

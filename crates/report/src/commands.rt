@@ -45,7 +45,7 @@ fn append_branch<'a>(
     length: u32,
     to: &'a Name,
 ) -> Result<(), OutOfMemory>
-    ensures ok { Appended result out.old out.new (codes "branch " ++ name.now ++ codes " " ++ decimal length ++ codes " " ++ to.now) }
+    ensures ok { Appended result out.old out.new (command_words (Command.Branch name.now length to.now)) }
     ensures err { OnErr result (out.new.items ≡ out.old.items) }
 {
     append_pieces(

@@ -4,7 +4,7 @@ ghost use Rattle.rapid_text.specs.Appended.{Appended};
 ghost use Rattle.rapid_text.specs.Canonical.{name_at};
 ghost use Rattle.report.specs.Info.{info_text, counts_text, thread_line, thread_lines};
 
-use crate::pieces::{Piece, append_count, append_pieces};
+use crate::pieces::{Piece, append_bytes, append_count, append_pieces};
 use event_index::Indexed;
 use rapid_text::OutOfMemory;
 
@@ -17,8 +17,7 @@ pub fn info(indexed: &Indexed, out: &mut Vec<u8>) -> Result<(), OutOfMemory>
     let mut text = Vec::new(*out.allocator());
     append_counts(&mut text, indexed)?;
     append_threads(&mut text, indexed)?;
-    out.extend_from_slice(&text)?;
-    Ok(())
+    append_bytes(out, &text)
 }
 
 /// Appends the lines of the four numbers.
@@ -28,8 +27,7 @@ fn append_counts(out: &mut Vec<u8>, indexed: &Indexed) -> Result<(), OutOfMemory
     append_count(out, b"events", u64::from(indexed.len()))?;
     append_count(out, b"threads", u64::from(indexed.threads()))?;
     append_count(out, b"variables", u64::from(indexed.variables()))?;
-    append_count(out, b"locks", u64::from(indexed.locks()))?;
-    Ok(())
+    append_count(out, b"locks", u64::from(indexed.locks()))
 }
 
 /// Appends the lines of all threads.

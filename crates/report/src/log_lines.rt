@@ -2,8 +2,7 @@
 ghost use Rattle.std.specs.Prelude.{◌≡◌, ◌<◌, ◌++◌, length, OnErr, codes, decimal};
 ghost use Rattle.inverse_log.specs.Log.{client_of};
 ghost use Rattle.rapid_text.specs.Appended.{Appended};
-ghost use Rattle.report.specs.Log.{entry_words, entry_line, line_at, entry_lines, log_text};
-ghost use Rattle.report.specs.Pieces.{spaced};
+ghost use Rattle.report.specs.Log.{entry_words, entry_line, line_at, entry_lines, log_text, proposed_words};
 
 use crate::commands::{append_batch, append_command};
 use crate::pieces::{Piece, append_count, append_pieces};
@@ -152,7 +151,7 @@ fn append_proposed(
     second: u32,
     events: &[u32],
 ) -> Result<(), OutOfMemory>
-    ensures ok { Appended result out.old out.new (codes "propose " ++ decimal first ++ codes " " ++ decimal second ++ spaced events.now) }
+    ensures ok { Appended result out.old out.new (proposed_words first second events.now) }
     ensures err { OnErr result (out.new.items ≡ out.old.items) }
 {
     append_pieces(

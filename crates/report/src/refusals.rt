@@ -2,7 +2,7 @@
 ghost use Rattle.std.specs.Prelude.{◌≡◌, ◌++◌, OnErr, codes, decimal};
 ghost use Rattle.rapid_text.specs.Appended.{Appended};
 ghost use Rattle.report.specs.Causes.{disabled_words, swap_words, refused_line};
-ghost use Rattle.report.specs.Refusals.{move_words, refusal_text};
+ghost use Rattle.report.specs.Refusals.{move_words, refusal_text, rests_words};
 
 use crate::causes::{append_disabled, append_refused, append_swap, append_words};
 use crate::pieces::{Piece, append_bytes, append_pieces};
@@ -138,7 +138,7 @@ fn append_in_batch(
     place: u32,
     why: MoveRefusal,
 ) -> Result<(), OutOfMemory>
-    ensures ok { Appended result out.old out.new (refused_line (codes "70 at " ++ decimal place ++ codes " " ++ move_words indexed.now why)) }
+    ensures ok { Appended result out.old out.new (refusal_text indexed.now (Refusal.InBatch place why)) }
     ensures err { OnErr result (out.new.items ≡ out.old.items) }
 {
     let start = out.len();
@@ -152,7 +152,7 @@ fn append_in_batch(
 
 /// Appends the line of an undo that is refused because a later entry touches a name that its entry wrote.
 fn append_rests_on(out: &mut Vec<u8>, entry: u64, name: &Name) -> Result<(), OutOfMemory>
-    ensures ok { Appended result out.old out.new (refused_line (codes "52 rests on " ++ decimal entry ++ codes " " ++ name.now)) }
+    ensures ok { Appended result out.old out.new (refused_line (rests_words entry name.now)) }
     ensures err { OnErr result (out.new.items ≡ out.old.items) }
 {
     append_refused(
