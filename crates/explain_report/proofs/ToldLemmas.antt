@@ -18,10 +18,10 @@ module _ (r : Recording) (cs : List Chain) where
 
   pub told-more :
       (old mid new told : List ℕ) (i d deeper : ℕ) (c : Chain) (takes : Bool) → GoesOn r cs told → mid ≡ old ++ told → slice_get cs i ≡ Some c
-      → new ≡ mid ++ (cause_text r d c (holding takes) ++ chain_text r deeper c) → (more : List ℕ) × GoesOn r cs more × (new ≡ old ++ more)
+      → new ≡ mid ++ (cause_text r d c (holding takes) ++ chain_text r deeper c) → (more : List ℕ) × (new ≡ old ++ more) × GoesOn r cs more
   told-more old mid new told i d deeper c takes goes e found f =
       let text = cause_text r d c (holding takes) ++ chain_text r deeper c in (
         told ++ text,
-        goes_on-more told i d deeper c takes goes found,
         f ∙ ap (λ (t : List ℕ). t ++ text) e ∙ append_assoc old told text,
+        goes_on-more told i d deeper c takes goes found,
       )

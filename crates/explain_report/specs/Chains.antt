@@ -79,6 +79,10 @@ lock_by r _ = []
 abbrev pub lock_name : Recording → ℕ → List ℕ
 lock_name r e = lock_by r (op_at r.events e)
 
+-- a section ends of the lock that event p acquires
+abbrev pub ended_text : Recording → ℕ → List ℕ
+ended_text r p = codes "  ends a section of " ++ lock_name r p ++ codes " that comes before the one of\n"
+
 -- the reason why a step leads from a to b, as `IsReason` of must-before gives it
 abbrev pub reason_text : Recording → ℕ → ℕ → Reason → List ℕ
 reason_text r a b Later = codes "  and later in its thread\n"
@@ -86,7 +90,7 @@ reason_text r a b Forked = codes "  begins the thread of\n"
 reason_text r a b Written = codes "  is read by" ++ race_note r.events a b ++ codes "\n"
 reason_text r a b Joined = codes "  ends the thread that is joined by\n"
 reason_text r a b ForkJoined = codes "  forks the thread that is joined by\n"
-reason_text r a b (Ended p) = codes "  ends a section of " ++ lock_name r p ++ codes " that comes before the one of\n"
+reason_text r a b (Ended p) = ended_text r p
 
 -- the lines of a step: its reason, and the event to which it leads
 abbrev pub step_text : Recording → ℕ → Step → List ℕ
@@ -108,6 +112,11 @@ steps_text r d later [] = later_text r d later
 steps_text r d later (s ∷ ss) =
     cond (is_later s.reason) (steps_text r d (Some s.to) ss) (later_text r d later ++ step_text r d s ++ steps_text r d None ss)
 
+-- With one step more, the lines go from `old` to `new`, and the last step that waits from `later` to `next`. So the
+-- lines of further steps complete both alike.
+abbrev pub GoesTo : Recording → ℕ → Option ℕ → Step → List ℕ → List ℕ → Option ℕ → Type 0
+GoesTo r d later s old new next = (rest : List Step) → new ++ steps_text r d next rest ≡ old ++ steps_text r d later (s ∷ rest)
+
 -- the lines of a chain
 abbrev pub chain_text : Recording → ℕ → Chain → List ℕ
 chain_text r d c = indent_text d ++ line_at r c.first ++ steps_text r d None c.steps.items
@@ -122,6 +131,11 @@ abbrev pub cause_text : Recording → ℕ → Chain → List ℕ → List ℕ
 cause_text r d c words =
     indent_text d ++ codes "for " ++ thread_name r c.last ++ words ++ lock_name r c.first ++ codes " at " ++ decimal c.last
     ++ codes ", and that section began before:\n"
+
+-- a chain is appended, after what it is for
+abbrev pub AddsCaused : Recording → ℕ → Chain → List ℕ → List ℕ → Type 0
+AddsCaused r deeper c old new =
+    (d : ℕ) × (takes : Bool) × (new ≡ old ++ (cause_text r d c (holding takes) ++ chain_text r deeper c))
 
 -- The text has the lines of chains of this list: first those of the first chain, then those of others, each after
 -- what it is for.

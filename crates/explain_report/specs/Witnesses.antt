@@ -13,9 +13,17 @@ add_line e = codes "1 add S " ++ decimal e ++ codes "\n"
 abbrev pub add_lines : List ℕ → List ℕ
 add_lines es = flat_map add_line es
 
+-- a script that builds the schedule P, and prints the pairs that it shows
+abbrev pub script_lines : List ℕ → List ℕ
+script_lines P = codes "1 new S\n" ++ add_lines P ++ codes "1 races S\n"
+
+-- a trace of the events of the schedule P and of the pair a, b
+abbrev pub trace_lines : Recording → List ℕ → ℕ → ℕ → List ℕ
+trace_lines r P a b = event_lines r P ++ event_lines r (a ∷ b ∷ [])
+
 -- the schedule P that shows the pair a, b, in this form: its events, each after its number; a script of one client
 -- that builds it and prints the pairs that it shows; or the canonical lines of its events and of the pair
 abbrev pub witness_lines : Recording → List ℕ → ℕ → ℕ → Form → List ℕ
 witness_lines r P a b Events = numbered_lines r P
-witness_lines r P a b Script = codes "1 new S\n" ++ add_lines P ++ codes "1 races S\n"
-witness_lines r P a b Trace = event_lines r P ++ event_lines r (a ∷ b ∷ [])
+witness_lines r P a b Script = script_lines P
+witness_lines r P a b Trace = trace_lines r P a b

@@ -1,10 +1,10 @@
 //! Prints why a pair is not a race, or why it is undecided.
-ghost use Rattle.std.specs.Prelude.{◌≡◌, ◌<◌, ◌++◌, List, ℕ, OnOk, length, codes};
+ghost use Rattle.std.specs.Prelude.{◌<◌, ◌++◌, length, codes};
 ghost use Rattle.explain_report.specs.Chains.{line_at};
 ghost use Rattle.explain_report.specs.Sections.{IsSectionTold, section_text, until_text};
 ghost use Rattle.explain_report.specs.Told.{IsForcedTold, IsGuardedTold, IsUndecidedTold};
 ghost use Rattle.explain_report.specs.Verdicts.{forced_head, guarded_head, undecided_head};
-ghost use Rattle.rapid_text.specs.Appended.{Appended};
+ghost use Rattle.rapid_text.specs.Appended.{Appended, AppendedOne};
 
 use crate::accesses::append_pair;
 use crate::chains::append_chains;
@@ -38,13 +38,12 @@ pub(crate) fn append_forced(
     chains: &[Chain],
     pair: (u32, u32),
 ) -> Result<(), OutOfMemory>
-    ensures { OnOk result ((text : List ℕ) × IsForcedTold analysis.now chains.now pair.0 pair.1 text × (out.new.items ≡ out.old.items ++ text)) }
+    ensures { AppendedOne result out.old out.new (IsForcedTold analysis.now chains.now pair.0 pair.1) }
 {
     append_forced_head(out, pair.0, pair.1)?;
     append_pair(out, analysis, pair.0, pair.1)?;
     append_words(out, b"since\n")?;
-    append_chains(out, analysis, chains)?;
-    Ok(())
+    append_chains(out, analysis, chains)
 }
 
 /// Appends the line with which a guarded pair begins.
@@ -68,13 +67,12 @@ pub(crate) fn append_guarded(
     lock: u32,
     pair: (u32, u32),
 ) -> Result<(), OutOfMemory>
-    ensures { OnOk result ((text : List ℕ) × IsGuardedTold analysis.now lock pair.0 pair.1 text × (out.new.items ≡ out.old.items ++ text)) }
+    ensures { AppendedOne result out.old out.new (IsGuardedTold analysis.now lock pair.0 pair.1) }
 {
     append_guarded_head(out, analysis.indexed(), lock)?;
     append_pair(out, analysis, pair.0, pair.1)?;
     append_section(out, analysis, lock, pair.0)?;
-    append_section(out, analysis, lock, pair.1)?;
-    Ok(())
+    append_section(out, analysis, lock, pair.1)
 }
 
 /// Appends the section of the lock that the event is in, if there is one.
@@ -84,7 +82,7 @@ fn append_section(
     lock: u32,
     event: u32,
 ) -> Result<(), OutOfMemory>
-    ensures { OnOk result ((text : List ℕ) × IsSectionTold analysis.now event lock text × (out.new.items ≡ out.old.items ++ text)) }
+    ensures { AppendedOne result out.old out.new (IsSectionTold analysis.now event lock) }
 {
     let indexed = analysis.indexed();
     if lock >= indexed.locks() {
@@ -112,8 +110,7 @@ fn append_held(
     append_thread_of(out, indexed, event)?;
     append_words(out, b" holds it from ")?;
     append_line(out, indexed, acquire)?;
-    append_until(out, indexed, indexed.section(acquire))?;
-    Ok(())
+    append_until(out, indexed, indexed.section(acquire))
 }
 
 /// Appends the end of a section, or that it lasts to the end.
@@ -155,11 +152,10 @@ pub(crate) fn append_undecided(
     events: &[u32],
     pair: (u32, u32),
 ) -> Result<(), OutOfMemory>
-    ensures { OnOk result ((text : List ℕ) × IsUndecidedTold analysis.now pair.0 pair.1 text × (out.new.items ≡ out.old.items ++ text)) }
+    ensures { AppendedOne result out.old out.new (IsUndecidedTold analysis.now pair.0 pair.1) }
 {
     append_undecided_head(out)?;
     append_pair(out, analysis, pair.0, pair.1)?;
     append_words(out, b"in SHB\n")?;
-    append_shb_chain(out, analysis, events)?;
-    Ok(())
+    append_shb_chain(out, analysis, events)
 }

@@ -1,9 +1,8 @@
 //! Prints chains of steps from event to event.
-ghost use Rattle.std.specs.Prelude.{◌≡◌, ◌++◌, ◌∷◌, List, ℕ, Bool, Some, None, OnOk, IfOk, codes};
-ghost use Rattle.explain_report.specs.Chains.{AreTold, GoesOn, cause_text, chain_text, holding, is_later, later_text, lock_name, reason_text, step_text, steps_text};
+ghost use Rattle.std.specs.Prelude.{◌≡◌, ◌++◌, Bool, Some, None, OnOk, IfOk};
+ghost use Rattle.explain_report.specs.Chains.{AddsCaused, AreTold, GoesOn, GoesTo, cause_text, chain_text, ended_text, holding, is_later, later_text, reason_text, step_text, steps_text};
 ghost use Rattle.must_order.specs.declared.chains.Reason.TheVariants.{Written};
-ghost use Rattle.must_order.specs.declared.chains.Step.{Step as StepValue};
-ghost use Rattle.rapid_text.specs.Appended.{Appended};
+ghost use Rattle.rapid_text.specs.Appended.{Appended, AppendedOne};
 
 use crate::event_lines::{append_line, append_lock_of, append_thread_of, op_of};
 use crate::pieces::{append_indent, append_number, append_words};
@@ -19,7 +18,7 @@ pub(crate) fn append_chains(
     analysis: &Analysis<'_>,
     chains: &[Chain],
 ) -> Result<(), OutOfMemory>
-    ensures { OnOk result ((told : List ℕ) × AreTold analysis.now chains.now told × (out.new.items ≡ out.old.items ++ told)) }
+    ensures { AppendedOne result out.old out.new (AreTold analysis.now chains.now) }
 {
     let Some(chain) = chains.first() else {
         return Ok(());
@@ -36,7 +35,7 @@ fn append_causes(
     chains: &[Chain],
     first: &Chain,
 ) -> Result<(), OutOfMemory>
-    ensures { OnOk result ((told : List ℕ) × GoesOn analysis.now chains.now told × (out.new.items ≡ out.old.items ++ told)) }
+    ensures { AppendedOne result out.old out.new (GoesOn analysis.now chains.now) }
 {
     let alloc = *out.allocator();
     let mut told = vec![in alloc; false; chains.len()]?;
@@ -63,8 +62,7 @@ fn append_below(
     chain: &Chain,
     depth: u32,
 ) -> Result<(), OutOfMemory>
-    ensures { OnOk result ((d : ℕ) × (takes : Bool)
-        × (out.new.items ≡ out.old.items ++ (cause_text analysis.now d chain.now (holding takes) ++ chain_text analysis.now depth chain.now))) }
+    ensures { OnOk result (AddsCaused analysis.now depth chain.now out.old.items out.new.items) }
 {
     append_cause(out, analysis.indexed(), chain, depth.saturating_sub(1))?;
     append_chain(out, analysis, chain, depth)?;
@@ -194,8 +192,7 @@ fn append_next(
     step: Step,
     depth: u32,
 ) -> Result<Option<u32>, OutOfMemory>
-    ensures { IfOk result (λ next. (rest : List StepValue)
-        → out.new.items ++ steps_text analysis.now depth next rest ≡ out.old.items ++ steps_text analysis.now depth later (step ∷ rest)) }
+    ensures { IfOk result (GoesTo analysis.now depth later step out.old.items out.new.items) }
 {
     if is_later(step.reason) {
         return Ok(Some(step.to));
@@ -219,7 +216,7 @@ fn is_later(reason: Reason) -> bool
 }
 
 /// Appends the later event of the thread, if steps wait.
-fn append_later(
+pub(crate) fn append_later(
     out: &mut Vec<u8>,
     indexed: &Indexed,
     later: Option<u32>,
@@ -244,8 +241,7 @@ fn append_later_line(
     append_indent(out, depth)?;
     append_words(out, b"  and later in its thread\n")?;
     append_indent(out, depth)?;
-    append_line(out, indexed, event)?;
-    Ok(())
+    append_line(out, indexed, event)
 }
 
 /// Appends the reason of the step, and the event to which it leads.
@@ -260,8 +256,7 @@ fn append_step(
     append_indent(out, depth)?;
     append_reason(out, analysis, step)?;
     append_indent(out, depth)?;
-    append_line(out, analysis.indexed(), step.to)?;
-    Ok(())
+    append_line(out, analysis.indexed(), step.to)
 }
 
 /// Appends the reason of the step. For a read that races with the write that it reads, adds a note.
@@ -295,7 +290,7 @@ pub(crate) fn append_written(
 
 /// Appends that a section ends of the lock that the event `acquire` acquires.
 fn append_ended(out: &mut Vec<u8>, indexed: &Indexed, acquire: u32) -> Result<(), OutOfMemory>
-    ensures { Appended result out.old out.new (codes "  ends a section of " ++ lock_name indexed.now acquire ++ codes " that comes before the one of\n") }
+    ensures { Appended result out.old out.new (ended_text indexed.now acquire) }
 {
     append_words(out, b"  ends a section of ")?;
     append_lock_of(out, indexed, acquire)?;

@@ -66,8 +66,7 @@ fn append_call(out: &mut Vec<u8>, word: &[u8], name: &[u8]) -> Result<(), OutOfM
     out.extend_from_slice(word)?;
     out.push(b'(')?;
     out.extend_from_slice(name)?;
-    out.push(b')')?;
-    Ok(())
+    Ok(out.push(b')')?)
 }
 
 /// Appends the number of the event and its canonical line.
@@ -137,11 +136,10 @@ pub(crate) fn append_thread(
 ) -> Result<(), OutOfMemory>
     ensures { Appended result out.old out.new (name_at indexed.now.threads thread) }
 {
-    let raw = indexed.trace().raw();
-    if thread < raw.threads() {
-        append_words(out, raw.thread_name(thread))?;
+    if thread >= indexed.threads() {
+        return Ok(());
     }
-    Ok(())
+    append_words(out, indexed.thread_name(thread))
 }
 
 /// Appends the name of the event's thread, if the trace has the event.
@@ -166,11 +164,10 @@ pub(crate) fn append_lock(
 ) -> Result<(), OutOfMemory>
     ensures { Appended result out.old out.new (name_at indexed.now.locks lock) }
 {
-    let raw = indexed.trace().raw();
-    if lock < raw.locks() {
-        append_words(out, raw.lock_name(lock))?;
+    if lock >= indexed.locks() {
+        return Ok(());
     }
-    Ok(())
+    append_words(out, indexed.trace().raw().lock_name(lock))
 }
 
 /// Appends the name of the lock that the event acquires.
@@ -192,20 +189,12 @@ pub(crate) fn thread_of(indexed: &Indexed, event: u32) -> Option<u32>
     ensures thread { result ≡ thread_at indexed.now.events event }
     ensures within { IfSome result (λ t. t < length indexed.now.threads) }
 {
-    if event < indexed.len() {
-        Some(indexed.trace().raw().event(event).thread)
-    } else {
-        None
-    }
+    Some(indexed.get(event)?.thread)
 }
 
 /// The operation of the event, or None if the trace lacks it.
 pub(crate) fn op_of(indexed: &Indexed, event: u32) -> Option<Op>
     ensures { result ≡ op_at indexed.now.events event }
 {
-    if event < indexed.len() {
-        Some(indexed.trace().raw().event(event).op)
-    } else {
-        None
-    }
+    Some(indexed.get(event)?.op)
 }

@@ -31,8 +31,7 @@ pub(crate) fn append_count(out: &mut Vec<u8>, number: u64, words: &[u8]) -> Resu
     append_number(out, number)?;
     append_words(out, b" ")?;
     append_words(out, words)?;
-    append_words(out, plural_of(number))?;
-    Ok(())
+    append_words(out, plural_of(number))
 }
 
 /// The ending of a noun for this number of things.

@@ -1,7 +1,7 @@
 //! Computes and prints why SHB keeps one event before another: a chain of events, built backwards from its end.
 ghost use Rattle.std.specs.Prelude.{◌≡◌, ◌++◌, ℕ, List, OnOk};
 
-use crate::chains::append_written;
+use crate::chains::{append_later, append_written};
 use crate::event_lines::{append_line, op_of, thread_of};
 use crate::pieces::append_words;
 use crate::waiting::words_between;
@@ -36,11 +36,10 @@ pub fn shb_chain(
 }
 
 pub(crate) fn base_of(indexed: &Indexed, event: u32) -> Option<u32> {
-    if event < indexed.len() {
-        indexed.base(event)
-    } else {
-        None
+    if event >= indexed.len() {
+        return None;
     }
+    indexed.base(event)
 }
 
 /// The last release of its lock before each acquire.
@@ -87,11 +86,10 @@ pub(crate) fn source_of(indexed: &Indexed, event: u32) -> Option<u32> {
 }
 
 fn writer_of(indexed: &Indexed, event: u32) -> Option<u32> {
-    if event < indexed.len() {
-        indexed.last_writer(event)
-    } else {
-        None
+    if event >= indexed.len() {
+        return None;
     }
+    indexed.last_writer(event)
 }
 
 fn end_of(indexed: &Indexed, thread: u32) -> Option<u32> {
@@ -149,7 +147,7 @@ fn append_links(
         if is_later {
             later = Some(*event);
         } else {
-            append_later(out, indexed, later)?;
+            append_later(out, indexed, later, 0)?;
             later = None;
             if let Some(other) = before {
                 append_link(out, analysis, other, *event)?;
@@ -158,7 +156,7 @@ fn append_links(
         }
         before = Some(*event);
     }
-    append_later(out, indexed, later)
+    append_later(out, indexed, later, 0)
 }
 
 /// Appends why the first event comes before the second, which is of another thread.
@@ -178,17 +176,4 @@ fn append_link(
     append_words(out, b"  ")?;
     append_words(out, words_between(indexed, first, second))?;
     append_words(out, b"\n")
-}
-
-/// Appends the later event of the thread, if there is one.
-fn append_later(
-    out: &mut Vec<u8>,
-    indexed: &Indexed,
-    later: Option<u32>,
-) -> Result<(), OutOfMemory> {
-    let Some(event) = later else {
-        return Ok(());
-    };
-    append_words(out, b"  and later in its thread\n")?;
-    append_line(out, indexed, event)
 }

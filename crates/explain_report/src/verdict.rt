@@ -1,8 +1,8 @@
 //! Prints the verdict on a pair of conflicting events, and the reason.
-ghost use Rattle.std.specs.Prelude.{◌≡◌, ◌++◌, List, ℕ, OnOk, OnErr, length};
+ghost use Rattle.std.specs.Prelude.{◌≡◌, ◌++◌, ℕ, OnOk, OnErr, length};
 ghost use Rattle.explain_report.specs.Told.{IsRaceTold, IsTold, race_words};
 ghost use Rattle.explain_report.specs.Verdicts.{how_text, race_head, verdict_head};
-ghost use Rattle.rapid_text.specs.Appended.{Appended};
+ghost use Rattle.rapid_text.specs.Appended.{Appended, AppendedOne};
 
 use crate::accesses::append_pair;
 use crate::apart::{
@@ -66,7 +66,7 @@ pub fn explain_text(
     out: &mut Vec<u8>,
 ) -> Result<(), OutOfMemory>
     // The text has the verdict, both accesses with the locks held before them, and the reason.
-    ensures ok { OnOk result ((text : List ℕ) × IsTold analysis.now verdict.now pair.0 pair.1 text × (out.new.items ≡ out.old.items ++ text)) }
+    ensures ok { AppendedOne result out.old out.new (IsTold analysis.now verdict.now pair.0 pair.1) }
     ensures err { OnErr result (out.new.items ≡ out.old.items) }
 {
     let mut text = Vec::new(*out.allocator());
@@ -82,7 +82,7 @@ fn append_told(
     verdict: &Verdict<'_>,
     pair: (u32, u32),
 ) -> Result<(), OutOfMemory>
-    ensures { OnOk result ((text : List ℕ) × IsTold analysis.now verdict.now pair.0 pair.1 text × (out.new.items ≡ out.old.items ++ text)) }
+    ensures { AppendedOne result out.old out.new (IsTold analysis.now verdict.now pair.0 pair.1) }
 {
     match *verdict {
         Verdict::Race { how, events, all } => {
@@ -124,8 +124,7 @@ fn append_race_head(out: &mut Vec<u8>, how: How, events: u64) -> Result<(), OutO
     append_words(out, how_words(how))?;
     append_words(out, b": after ")?;
     append_count(out, events, b"event")?;
-    append_words(out, b" in ")?;
-    Ok(())
+    append_words(out, b" in ")
 }
 
 /// Appends that the pair is a race, the two events, and the runs of its schedule: all, or only the last of many.
@@ -136,8 +135,8 @@ fn append_race(
     shown: (How, bool),
     pair: (u32, u32),
 ) -> Result<(), OutOfMemory>
-    ensures { OnOk result ((text : List ℕ) × IsRaceTold analysis.now shown.0 (length events.now) pair.0 pair.1 text
-        × (out.new.items ≡ out.old.items ++ text)) }
+    ensures { AppendedOne result out.old out.new
+        (IsRaceTold analysis.now shown.0 (length events.now) pair.0 pair.1) }
 {
     append_race_words(out, analysis, shown.0, events, pair)?;
     append_runs(out, analysis.indexed(), events, shown.1)?;

@@ -1,7 +1,6 @@
 //! Prints a schedule that shows a pair.
-ghost use Rattle.std.specs.Prelude.{◌≡◌, ◌<◌, ◌++◌, [], ◌∷◌, length, All, OnErr, codes};
-ghost use Rattle.explain_report.specs.EventLines.{event_lines};
-ghost use Rattle.explain_report.specs.Witnesses.{add_line, add_lines, witness_lines};
+ghost use Rattle.std.specs.Prelude.{◌≡◌, ◌<◌, length, All, OnErr};
+ghost use Rattle.explain_report.specs.Witnesses.{add_line, add_lines, script_lines, trace_lines, witness_lines};
 ghost use Rattle.rapid_text.specs.Appended.{Appended};
 
 use crate::event_lines::{append_all_numbered, append_events};
@@ -63,7 +62,7 @@ fn append_witness(
 
 /// Appends a script that builds the schedule.
 fn append_script(out: &mut Vec<u8>, events: &[u32]) -> Result<(), OutOfMemory>
-    ensures { Appended result out.old out.new (codes "1 new S\n" ++ add_lines events.now ++ codes "1 races S\n") }
+    ensures { Appended result out.old out.new (script_lines events.now) }
 {
     append_words(out, b"1 new S\n")?;
     append_adds(out, events)?;
@@ -102,7 +101,7 @@ fn append_trace(
     requires events { All (λ e. e < length indexed.now.events) events.now }
     requires first { first < length indexed.now.events }
     requires second { second < length indexed.now.events }
-    ensures { Appended result out.old out.new (event_lines indexed.now events.now ++ event_lines indexed.now (first ∷ second ∷ [])) }
+    ensures { Appended result out.old out.new (trace_lines indexed.now events.now first second) }
 {
     append_events(out, indexed, events)?;
     append_events(out, indexed, &[first, second])?;

@@ -35,9 +35,13 @@ least_misfit misfits = fold min 3 misfits
 abbrev pub flags_of_place : Recording → List ℕ → List Bool
 flags_of_place r word = map (λ m. nat_lt m 3 && m == least_misfit (misfits_of r word)) (misfits_of r word)
 
+-- for each event, whether it has this number
+abbrev pub flags_of_event : Recording → ℕ → List Bool
+flags_of_event r number = map (λ e. e == number) (before (length r.events))
+
 -- for each event whether the name means it
 abbrev pub flags_of : Recording → Name → List Bool
-flags_of r (Numbered number) = map (λ e. e == number) (before (length r.events))
+flags_of r (Numbered number) = flags_of_event r number
 flags_of r (Place word) = flags_of_place r word.now
 
 -- the event has a flag

@@ -1,8 +1,9 @@
 //! Draws the two accesses at the bottom, one below the other, so that a narrow page shows both.
+use crate::event_lines::{op_of, thread_of};
 use crate::picture::canvas::Canvas;
 use crate::picture::class::Class;
 use crate::picture::columns::MARGIN;
-use crate::picture::labels::{lock_name, op_of, thread_name, thread_of};
+use crate::picture::labels::{lock_name, thread_name};
 use crate::picture::layout::height_of;
 use crate::picture::pieces::{Piece, plural_of};
 use crate::picture::rows::{BoxLine, draw_box, draw_label, draw_pieces};

@@ -1,7 +1,7 @@
 //! Draws the arrows from a run to the event that waits for it.
+use crate::event_lines::thread_of;
 use crate::picture::canvas::Canvas;
 use crate::picture::columns::Columns;
-use crate::picture::labels::thread_of;
 use crate::picture::layout::{BOX, Placed};
 use crate::picture::shapes::Arrow;
 use event_index::Indexed;

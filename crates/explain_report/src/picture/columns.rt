@@ -1,5 +1,5 @@
 //! The column of each thread.
-use crate::picture::labels::thread_of;
+use crate::event_lines::thread_of;
 use crate::picture::layout::Placed;
 use event_index::Indexed;
 use rapid_text::OutOfMemory;
@@ -91,20 +91,18 @@ impl Columns {
     pub(crate) fn left(&self, thread: u32) -> u64 {
         let place = self.places.get(thread as usize).copied().flatten();
         let column = place.unwrap_or(0) as usize;
-        left_of(if self.is_shared() {
-            column.min(SHARED)
-        } else {
-            column
-        })
+        if self.is_shared() {
+            return left_of(column.min(SHARED));
+        }
+        left_of(column)
     }
 
     /// The width of all columns, with the margins.
     pub(crate) fn width(&self) -> u64 {
-        left_of(if self.is_shared() {
-            SHARED.saturating_add(1)
-        } else {
-            self.threads.len()
-        })
+        if self.is_shared() {
+            return left_of(SHARED.saturating_add(1));
+        }
+        left_of(self.threads.len())
     }
 }
 

@@ -1,5 +1,5 @@
 //! Draws the schedule that shows a pair.
-ghost use Rattle.std.specs.Prelude.{◌≡◌, List, ℕ, OnErr};
+ghost use Rattle.std.specs.Prelude.{◌≡◌, OnErr};
 ghost use Rattle.explain_report.specs.picture.Pictures.{IsFigure, IsPicture, IsStyled};
 ghost use Rattle.rapid_text.specs.Appended.{AppendedOne};
 
@@ -118,7 +118,7 @@ pub fn picture_text(
     out: &mut Vec<u8>,
 ) -> Result<(), OutOfMemory>
     // The picture names the events of the schedule and the pair.
-    ensures ok { AppendedOne result out.old out.new (λ text. IsPicture events.now first second text) }
+    ensures ok { AppendedOne result out.old out.new (IsPicture events.now first second) }
     ensures err { OnErr result (out.new.items ≡ out.old.items) }
 {
     styled_text(indexed, events, (first, second), STYLE, out)
@@ -134,7 +134,7 @@ pub fn figure_text(
     out: &mut Vec<u8>,
 ) -> Result<(), OutOfMemory>
     // The figure names the events of the schedule and the pair.
-    ensures ok { AppendedOne result out.old out.new (λ text. IsFigure events.now first second text) }
+    ensures ok { AppendedOne result out.old out.new (IsFigure events.now first second) }
     ensures err { OnErr result (out.new.items ≡ out.old.items) }
 {
     styled_text(indexed, events, (first, second), b"", out)
@@ -148,7 +148,7 @@ fn styled_text(
     style: &[u8],
     out: &mut Vec<u8>,
 ) -> Result<(), OutOfMemory>
-    ensures ok { AppendedOne result out.old out.new (λ text. IsStyled style.now events.now pair.0 pair.1 text) }
+    ensures ok { AppendedOne result out.old out.new (IsStyled style.now events.now pair.0 pair.1) }
     ensures err { OnErr result (out.new.items ≡ out.old.items) }
 {
     let mut text = Vec::new(*out.allocator());
@@ -165,13 +165,11 @@ fn append_styled(
     pair: (u32, u32),
     style: &[u8],
 ) -> Result<(), OutOfMemory>
-    ensures { AppendedOne result out.old out.new (λ text. IsStyled style.now events.now pair.0 pair.1 text) }
+    ensures { AppendedOne result out.old out.new (IsStyled style.now events.now pair.0 pair.1) }
 {
     let mut canvas = Canvas::new(*out.allocator());
-    match draw(&mut canvas, indexed, events, pair.0, pair.1) {
-        Ok(size) => append_drawing(out, size, &canvas, events, pair, style),
-        Err(refused) => Err(refused),
-    }
+    let size = draw(&mut canvas, indexed, events, pair.0, pair.1)?;
+    append_drawing(out, size, &canvas, events, pair, style)
 }
 
 /// Appends the picture with the shapes of the canvas.
@@ -183,13 +181,12 @@ fn append_drawing(
     pair: (u32, u32),
     style: &[u8],
 ) -> Result<(), OutOfMemory>
-    ensures { AppendedOne result out.old out.new (λ text. IsStyled style.now events.now pair.0 pair.1 text) }
+    ensures { AppendedOne result out.old out.new (IsStyled style.now events.now pair.0 pair.1) }
 {
     append_root(out, size)?;
     append_description(out, events, pair.0, pair.1)?;
     append_words(out, style)?;
-    append_drawn(out, canvas.bytes())?;
-    Ok(())
+    append_drawn(out, canvas.bytes())
 }
 
 /// Draws the schedule, and returns the size of the drawing.

@@ -1,5 +1,4 @@
 //! Words and names of a picture's lines.
-ghost use Rattle.std.specs.Prelude.{◌<◌, length, IfSome};
 ghost use Rattle.rapid_text.specs.Recording.{IsNamedOp};
 
 use crate::picture::canvas::Canvas;
@@ -46,40 +45,16 @@ pub(crate) fn name_in(trace: &RawTrace, op: Op) -> &[u8]
 
 /// The name of the thread; empty if the trace lacks it.
 pub(crate) fn thread_name(indexed: &Indexed, thread: u32) -> &[u8] {
-    let raw = indexed.trace().raw();
-    if thread < raw.threads() {
-        raw.thread_name(thread)
-    } else {
-        b""
+    if thread >= indexed.threads() {
+        return b"";
     }
+    indexed.thread_name(thread)
 }
 
 /// The name of the lock; empty if the trace lacks it.
 pub(crate) fn lock_name(indexed: &Indexed, lock: u32) -> &[u8] {
-    let raw = indexed.trace().raw();
-    if lock < raw.locks() {
-        raw.lock_name(lock)
-    } else {
-        b""
+    if lock >= indexed.locks() {
+        return b"";
     }
-}
-
-/// The thread of the event, or None if the trace lacks it.
-pub(crate) fn thread_of(indexed: &Indexed, event: u32) -> Option<u32>
-    ensures { IfSome result (λ t. t < length indexed.now.threads) }
-{
-    if event < indexed.len() {
-        Some(indexed.trace().raw().event(event).thread)
-    } else {
-        None
-    }
-}
-
-/// The operation of the event, or None if the trace lacks it.
-pub(crate) fn op_of(indexed: &Indexed, event: u32) -> Option<Op> {
-    if event < indexed.len() {
-        Some(indexed.trace().raw().event(event).op)
-    } else {
-        None
-    }
+    indexed.trace().raw().lock_name(lock)
 }

@@ -1,7 +1,7 @@
 //! Draws the bar at the left edge of a box, which is shaded where the thread holds a lock.
+use crate::event_lines::{op_of, thread_of};
 use crate::picture::canvas::Canvas;
 use crate::picture::class::Class;
-use crate::picture::labels::{op_of, thread_of};
 use crate::picture::layout::Placed;
 use event_index::Indexed;
 use rapid_text::{Op, OutOfMemory};

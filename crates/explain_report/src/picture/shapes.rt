@@ -21,8 +21,7 @@ pub(crate) fn append_rect(
     append_begin(out, b"<rect", class, left, top)?;
     append_attribute(out, b"width", width)?;
     append_attribute(out, b"height", height)?;
-    append_words(out, b"/>\n")?;
-    Ok(())
+    append_words(out, b"/>\n")
 }
 
 /// Appends a line of text, which is escaped and so may have any bytes.
@@ -38,8 +37,7 @@ pub(crate) fn append_line(
     append_begin(out, b"<text", class, left, base)?;
     append_words(out, b">")?;
     escape(text, out)?;
-    append_words(out, b"</text>\n")?;
-    Ok(())
+    append_words(out, b"</text>\n")
 }
 
 /// An arrow: a curve that leaves its first point downwards, towards `below`, and reaches its last point from above.
@@ -111,8 +109,7 @@ pub(crate) fn append_point(out: &mut Vec<u8>, x: u64, y: u64) -> Result<(), OutO
     append_pieces(
         out,
         &[Piece::Number(x), Piece::Words(b" "), Piece::Number(y)],
-    )?;
-    Ok(())
+    )
 }
 
 /// Appends a blank and `name="number"`.

@@ -1,7 +1,6 @@
 //! The accesses that a word means.
-ghost use Rattle.std.specs.Prelude.{◌≡◌, ◌==◌, ℕ, IfOk, IfSome, None, length, map, true, false};
-ghost use Rattle.event_index.specs.Lookups.{before};
-ghost use Rattle.explain_report.specs.places.Accesses.{AreApart, HasFlag, HaveSeveral, HaveShared, IsAtOnePlace, flags_of, flags_of_place, is_use, least_misfit, misfit_at, misfits_of, place_of};
+ghost use Rattle.std.specs.Prelude.{◌≡◌, ℕ, IfOk, IfSome, None, length, true, false};
+ghost use Rattle.explain_report.specs.places.Accesses.{AreApart, HasFlag, HaveSeveral, HaveShared, IsAtOnePlace, flags_of, flags_of_event, flags_of_place, is_use, least_misfit, misfit_at, misfits_of, place_of};
 
 use crate::places::arrows::cut_at_arrow;
 use crate::places::located::location_of;
@@ -25,7 +24,7 @@ pub fn flags_of(alloc: Global, indexed: &Indexed, name: Name<'_>) -> Result<Vec<
 
 /// The flags of one event.
 fn flags_of_event(alloc: Global, indexed: &Indexed, number: u32) -> Result<Vec<bool>, OutOfMemory>
-    ensures { IfOk result (λ flags. flags.items ≡ map (λ e. e == number) (before (length indexed.now.events))) }
+    ensures { IfOk result (λ flags. flags.items ≡ flags_of_event indexed.now number) }
 {
     let flags = (0..indexed.len())
         .map(|event| event == number)

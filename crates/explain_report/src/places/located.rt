@@ -8,9 +8,8 @@ use event_index::Indexed;
 pub fn location_of(indexed: &Indexed, event: u32) -> &[u8]
     ensures { result.now ≡ location_at indexed.now event }
 {
-    if event < indexed.len() {
-        indexed.trace().raw().location(event)
-    } else {
-        b""
+    if event >= indexed.len() {
+        return b"";
     }
+    indexed.trace().raw().location(event)
 }

@@ -4,4 +4,4 @@ use Rattle.explain_report.specs.Chains.{GoesOn}
 use Rattle.explain_report.proofs.chains.append_causes.Given as goal
 
 abbrev pub invariant-loop-chain : goal.invariant-loop-chain
-invariant-loop-chain l = (told : List ℕ) × GoesOn l.analysis l.chains told × (l.out.items ≡ l.fn.out.items ++ told)
+invariant-loop-chain l = (told : List ℕ) × (l.out.items ≡ l.fn.out.items ++ told) × GoesOn l.analysis l.chains told

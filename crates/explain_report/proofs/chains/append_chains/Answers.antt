@@ -4,7 +4,7 @@ use Rattle.explain_report.specs.Chains.{AreTold, chain_text}
 use Rattle.explain_report.proofs.chains.append_chains.Goals as goal
 
 pub returns-in_default : goal.returns-in_default
-returns-in_default c = ([], AreTold.none (sym c.first.ensures.value ∙ ap option_copied c.in_default.is), sym (append-nil _))
+returns-in_default c = ([], sym (append-nil _), AreTold.none (sym c.first.ensures.value ∙ ap option_copied c.in_default.is))
 
 pub returns : goal.returns
 returns c =
@@ -12,6 +12,6 @@ returns c =
     let chain = c.in-Some.chain.now in
     let first = chain_text c.args.analysis.now 0 chain in (
       first ++ below.0,
-      below.1 first (AreTold.first chain (sym c.first.ensures.value ∙ ap option_copied c.in-Some.is)),
-      below.2 ∙ ap (λ (t : List ℕ). t ++ below.0) c.in_ok-append_chain.ensures ∙ append_assoc _ first below.0,
+      below.1 ∙ ap (λ (t : List ℕ). t ++ below.0) c.in_ok-append_chain.ensures ∙ append_assoc _ first below.0,
+      below.2 first (AreTold.first chain (sym c.first.ensures.value ∙ ap option_copied c.in-Some.is)),
     )

@@ -1,6 +1,8 @@
-use Rattle.explain_report.proofs.PieceLemmas.{four_pieces}
+use Rattle.explain_report.proofs.PieceLemmas.{four_pieces, on_ok}
 use Rattle.explain_report.proofs.chains.append_later_line.Goals as goal
 
 pub returns : goal.returns
 returns c =
-    four_pieces c.args.out.now.items _ _ _ _ _ c.in_ok-append_indent.ensures c.in_ok-append_words.ensures _ _ _ c.in_ok-append_indent-2.ensures c.in_ok-append_line.ensures
+    on_ok c.append_line.result _ _
+    (λ line. four_pieces c.args.out.now.items _ _ _ _ _ c.in_ok-append_indent.ensures c.in_ok-append_words.ensures _ _ _ c.in_ok-append_indent-2.ensures line)
+    c.append_line.ensures

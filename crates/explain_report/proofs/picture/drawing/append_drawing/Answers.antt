@@ -1,13 +1,14 @@
 use Rattle.std.proofs.Common.{refl}
+use Rattle.explain_report.proofs.PieceLemmas.{on_ok}
 use Rattle.explain_report.proofs.picture.PieceLemmas.{four_pieces}
 use Rattle.explain_report.proofs.picture.drawing.append_drawing.Goals as goal
 
 pub returns : goal.returns
 returns c =
-    let whole =
-    four_pieces _ _ _ _ _ _ c.in_ok-append_root.ensures c.in_ok-append_description.ensures _ _ _ c.in_ok-append_words.ensures c.in_ok-append_drawn.ensures in (
+    on_ok c.append_drawn.result _ _
+    (λ drawn. (
       _,
-      whole,
+      four_pieces _ _ _ _ _ _ c.in_ok-append_root.ensures c.in_ok-append_description.ensures _ _ _ c.in_ok-append_words.ensures drawn,
       record {
         width = c.args.size.width;
         height = c.args.size.height;
@@ -17,4 +18,5 @@ returns c =
         printed = refl;
         drawn = rw c.bytes.ensures.text c.bytes.ensures.shapes;
       },
-    )
+    ))
+    c.append_drawn.ensures
