@@ -10,5 +10,6 @@ pub mod LeavingLines
 pub mod LeavingListed
 pub mod LeavingSplitting
 pub mod Left
+pub mod Listings
 pub mod Merging
 pub mod Triaged

@@ -10,6 +10,7 @@ mod leaving;
 mod left;
 mod listing;
 mod merging;
+mod tables;
 mod texts;
 mod triaged;
 mod writing;

@@ -5,6 +5,7 @@ use denote.Ref.{Bor}
 use Rattle.race_triage.specs.Known.{accesses_in, AreFirstTwo, IsBlock, IsLocation}
 use Rattle.race_triage.specs.Places.{IsSpot}
 use Rattle.race_triage.specs.declared.known.Block.{Block}
+use Rattle.race_triage.specs.declared.places.Places.{Places}
 use Rattle.race_triage.specs.declared.known.Block.TheVariants.{Nothing, Race, First}
 
 -- one is the first access line of these lines
@@ -35,6 +36,14 @@ IsPlace keys line n = (location : List ℕ) × IsLocation line location × IsSpo
 -- the numbers of the locations in two lines, the lesser first
 abbrev pub ArePair : List (Vec ℕ Global) → List ℕ → List ℕ → ℕ → ℕ → Type 0
 ArePair keys one other p q = (m n : ℕ) × IsPlace keys one m × IsPlace keys other n × (p ≡ min m n) × (q ≡ max m n)
+
+-- the line's location has no number
+abbrev pub HasNoPlace : Places → List ℕ → Type 0
+HasNoPlace places line = (n : ℕ) → ¬ IsPlace places.locations.keys line n
+
+-- one of the two lines has a location without a number
+abbrev pub HaveNoPair : Places → List ℕ → List ℕ → Type 0
+HaveNoPair places one other = (p q : ℕ) → ¬ ArePair places.locations.keys one other p q
 
 -- The pair of locations is added if two lines are returned and the trace has both locations.
 abbrev pub IsNoted : List (Vec ℕ Global) → Option (Bor (List ℕ) × Bor (List ℕ)) → List (ℕ × ℕ) → List (ℕ × ℕ) → Type 0

@@ -1,7 +1,8 @@
 -- Which verdicts are printed. All notions here are this project's own.
-use Rattle.std.specs.Prelude.{◌≡◌, ℕ, ◌+◌, ◌-◌, ◌^◌, ◌==◌, ◌&&◌, ◌||◌, nat_eq, not, Bool, true, false, cond, max, min, List, [], ◌++◌, drop, filter, length, count_by, is_some, option_map, Option, Some, None}
+use Rattle.std.specs.Prelude.{◌≡◌, ℕ, ◌+◌, ◌-◌, ◌^◌, ◌==◌, ◌&&◌, ◌||◌, nat_eq, not, Bool, true, false, cond, max, min, List, [], ◌++◌, drop, filter, length, count_by, is_some, map, option_map, Option, Some, None, Result, IfOk}
 use Rattle.std.specs.List.{list_any, starts_with}
 use Rattle.indexmap.specs.IndexSet.{IndexSet, keys}
+use Rattle.rapid_text.specs.declared.memory.OutOfMemory.{OutOfMemory}
 use Rattle.rapid_text.specs.Recording.{Recording}
 use Rattle.event_index.specs.Lookups.{before}
 use Rattle.race_groups.specs.Rows.{same_places}
@@ -9,9 +10,11 @@ use Rattle.race_triage.specs.Pieces.{capped, event_words_at}
 use Rattle.race_triage.specs.declared.chosen.Chosen.{Chosen}
 use Rattle.race_triage.specs.declared.chosen.Part.{Part}
 use Rattle.race_triage.specs.declared.chosen.Part.TheVariants.{Races, Open, Never}
+use Rattle.race_triage.specs.declared.filters.Filters.{Filters}
 use Rattle.race_triage.specs.declared.verdicts.Outcome.TheVariants.{Race, Undecided, Apart}
 use Rattle.race_triage.specs.declared.verdicts.Outcome.{Outcome}
 use Rattle.race_triage.specs.declared.verdicts.Verdict.{Verdict}
+use Rattle.race_triage.specs.declared.verdicts.Verdicts.{Verdicts}
 
 -- the kind of an outcome
 abbrev pub part_of : Outcome → Part
@@ -99,3 +102,40 @@ pub record AreConsidered (r : Recording) (known : Option (List (ℕ × ℕ))) (o
   pub races : new.races ≡ raised old.races (count_by (λ v. is_told r known only hide v && is_of Races v) some)
   pub known_races : new.known ≡ more_of old.known (count_by (is_known_race known) some)
   pub hidden : new.hidden ≡ more_of old.hidden (count_by (is_hidden r known only hide) some)
+
+-- the texts of the filters
+abbrev pub only_texts : Filters → List (List ℕ)
+only_texts f = map (λ t. t.now) f.only.now
+
+abbrev pub hide_texts : Filters → List (List ℕ)
+hide_texts f = map (λ t. t.now) f.hide.now
+
+-- there is a filter
+abbrev pub filters_any : Filters → Bool
+filters_any f = not (length (only_texts f) == 0) || not (length (hide_texts f) == 0)
+
+-- the filters keep a block with these two lines
+abbrev pub shows_lines : Filters → List ℕ → List ℕ → Bool
+shows_lines f first second = is_shown (only_texts f) (hide_texts f) first second
+
+-- the filters keep the block of this verdict
+abbrev pub keeps_block : Recording → Filters → Verdict → Bool
+keeps_block r f v = is_kept r (only_texts f) (hide_texts f) v
+
+-- without filters a block is kept
+abbrev pub KeepsUnfiltered : Filters → Result Bool OutOfMemory → Type 0
+KeepsUnfiltered f answer = f.only.now ≡ [] → f.hide.now ≡ [] → IfOk answer (λ kept. kept ≡ true)
+
+-- what is chosen of all verdicts, with these known races and filters
+abbrev pub AreChosenBy : {S : Type 0} → Recording → Option (IndexSet (ℕ × ℕ) S) → Filters → Bool → Verdicts → Chosen → Type 0
+AreChosenBy r known f apart found c =
+    AreChosen r (known_places known) (only_texts f) (hide_texts f) apart found.verdicts.items c
+
+-- what is chosen before and after some more verdicts are considered, with these known races and filters
+abbrev pub AreConsideredBy : {S : Type 0} → Recording → Option (IndexSet (ℕ × ℕ) S) → Filters → List Verdict → Chosen → Chosen → Type 0
+AreConsideredBy r known f some old new =
+    AreConsidered r (known_places known) (only_texts f) (hide_texts f) some old new
+
+-- the same, for the verdicts of one kind among these
+abbrev pub IsPartChosen : {S : Type 0} → Recording → Option (IndexSet (ℕ × ℕ) S) → Filters → Part → List Verdict → Chosen → Chosen → Type 0
+IsPartChosen r known f part vs old new = AreConsideredBy r known f (filter (is_of part) vs) old new

@@ -2,11 +2,13 @@
 use Rattle.std.specs.Prelude.{◌≡◌, ◌↔◌, ◌⊎◌, ◌&&◌, ◌<◌, ◌≤◌, ℕ, nat_eq, not, min, max, Bool, true, List, ◌∷◌, ◌++◌, filter, length, slice_get, slice_index, Contains, Vec, Some, codes}
 use Rattle.std.specs.List.{after_first, before_first, list_any, slice_split, starts_with}
 use Rattle.std.specs.declared.alloc.Global.{Global}
+use Rattle.indexmap.specs.IndexSet.{IndexSet, keys}
 use Rattle.rapid_text.specs.Reading.{is_bar, is_line_feed, trimmed}
 use Rattle.rapid_text.specs.Recording.{Recording}
 use Rattle.race_groups.specs.least_pairs.Pairs.{AreAt}
 use Rattle.race_triage.specs.Chosen.{is_known}
-use Rattle.race_triage.specs.Places.{IsSpot}
+use Rattle.race_triage.specs.Places.{AreSpotsOf, IsSpot}
+use Rattle.race_triage.specs.declared.places.Places.{Places}
 use Rattle.race_triage.specs.declared.verdicts.Verdict.{Verdict}
 
 -- the first line of a `race` block
@@ -75,3 +77,15 @@ AllNamed r numbers text pairs =
     → slice_get r.locations v.first ≡ Some x → slice_get r.locations v.second ≡ Some y
     → v.row.places.0 ≤ v.row.places.1 → AreAt (slice_index numbers) v.row.places v.first v.second
     → NamesRace text x y ⊎ NamesRace text y x → is_known (Some pairs) v ≡ true
+
+-- the same, of the locations of a report
+abbrev pub AreKnownIn : {S : Type 0} → Places → List ℕ → IndexSet (ℕ × ℕ) S → Type 0
+AreKnownIn p text known = AreKnown p.locations.keys text (keys known)
+
+-- if these are the locations of a trace, a verdict on the trace is known only if the text names its two locations
+abbrev pub AreOnlyNamed : {S : Type 0} → Places → List ℕ → IndexSet (ℕ × ℕ) S → Type 0
+AreOnlyNamed p text known = (r : Recording) → AreSpotsOf r p → OnlyNamed r p.numbers.items text (keys known)
+
+-- and it is known if the text names them
+abbrev pub AreAllNamed : {S : Type 0} → Places → List ℕ → IndexSet (ℕ × ℕ) S → Type 0
+AreAllNamed p text known = (r : Recording) → AreSpotsOf r p → AllNamed r p.numbers.items text (keys known)

@@ -1,10 +1,12 @@
 pub mod Blocks
 pub mod Chosen
 pub mod Known
+pub mod Located
 pub mod Pieces
 pub mod Places
 pub mod Same
 pub mod Tables
 pub mod Texts
 pub mod Totals
+pub mod Triaged
 pub mod Verdicts

@@ -4,6 +4,7 @@ use Rattle.std.specs.List.{fold, list_any, position_or_len}
 use Rattle.std.specs.Cmp.Lexicographic.{pointwise}
 use Rattle.std.specs.declared.alloc.Global.{Global}
 use Rattle.rapid_text.specs.Recording.{Recording}
+use Rattle.race_triage.specs.declared.places.Places.{Places}
 
 -- Each event has a number. Two events have the same number exactly if their locations are equal, byte by byte.
 pub record AreNumbers (r : Recording) (numbers : List ℕ) : Type 0 where
@@ -40,3 +41,23 @@ texts_of keys = map (λ (v : Vec ℕ Global). v.items) keys
 -- number a location has.
 abbrev pub AreFirstUses : Recording → ℕ → List (Vec ℕ Global) → Type 0
 AreFirstUses r n keys = texts_of keys ≡ first_uses (take n r.locations)
+
+-- each event of the trace has the number of its location
+abbrev pub AreSpotsOf : Recording → Places → Type 0
+AreSpotsOf r p = AreNumbered r (length r.events) p.locations.keys p.numbers.items
+
+-- the locations of the trace have their numbers in the order of their first use
+abbrev pub AreFirstUsesOf : Recording → Places → Type 0
+AreFirstUsesOf r p = AreFirstUses r (length r.events) p.locations.keys
+
+-- the location has this number
+abbrev pub IsSpotIn : Places → List ℕ → ℕ → Type 0
+IsSpotIn p name n = IsSpot p.locations.keys name n
+
+-- the location has no number
+abbrev pub HasNoSpot : Places → List ℕ → Type 0
+HasNoSpot p name = (n : ℕ) → ¬ IsSpotIn p name n
+
+-- the texts of the new set are those of the old one, with this one if it is new
+abbrev pub AreTextsWith : List (Vec ℕ Global) → List (Vec ℕ Global) → List ℕ → Type 0
+AreTextsWith old new name = texts_of new ≡ with_text (texts_of old) name

@@ -1,5 +1,6 @@
 -- The text that `triage` prints for a trace. `r` is the trace's recording. All notions here are this project's own.
-use Rattle.std.specs.Prelude.{◌≡◌, ℕ, ◌+◌, nat_lt, Bool, false, cond, List, [], ◌++◌, length, take, filter, flat_map, sum_by, count_by, slice_get, Option, Some, None, codes}
+use Rattle.std.specs.Prelude.{◌≡◌, ℕ, ◌+◌, nat_lt, Bool, false, cond, List, [], ◌∷◌, ◌++◌, Vec, length, take, filter, flat_map, sum_by, count_by, slice_get, Option, Some, None, codes}
+use Rattle.std.specs.declared.alloc.Global.{Global}
 use Rattle.rapid_text.specs.Canonical.{name_at}
 use Rattle.rapid_text.specs.Recording.{Recording}
 use Rattle.rapid_text.specs.declared.event.Event.{Event}
@@ -17,6 +18,7 @@ use Rattle.race_triage.specs.declared.totals.Totals.{Totals}
 use Rattle.race_triage.specs.declared.verdicts.Outcome.{Outcome}
 use Rattle.race_triage.specs.declared.verdicts.Outcome.TheVariants.{Race, Undecided, Apart}
 use Rattle.race_triage.specs.declared.verdicts.Verdict.{Verdict}
+use Rattle.race_triage.specs.declared.verdicts.Verdicts.{Verdicts}
 
 -- the number of pairs of all kinds
 abbrev pub all_in : Counts → ℕ
@@ -35,6 +37,14 @@ pub record AreTotals (r : Recording) (vs : List Verdict) (t : Totals) : Type 0 w
   pub races : t.races ≡ capped (count_by (is_of Races) vs)
   pub undecided : t.undecided ≡ capped (count_by (is_of Open) vs)
   pub apart : t.apart ≡ capped (count_by (is_of Never) vs)
+
+-- the counts of a trace and of all its verdicts
+abbrev pub AreTotalsIn : Recording → Verdicts → Totals → Type 0
+AreTotalsIn r found t = AreTotals r found.verdicts.items t
+
+-- one more verdict is counted
+abbrev pub AreTotalsWith : Verdict → Totals → Totals → Type 0
+AreTotalsWith v old new = (r : Recording) (vs : List Verdict) → AreTotals r vs old → AreTotals r (vs ++ v ∷ []) new
 
 -- the lines of the counts
 abbrev pub trace_lines : Totals → List ℕ
@@ -58,6 +68,10 @@ totals_text t = trace_lines t ++ kind_lines t ++ place_lines t
 abbrev pub pairs_by : Outcome → Counts → ℕ
 pairs_by Apart c = all_in c
 pairs_by o c = cond (nat_lt 0 c.candidates) c.candidates c.open_pairs
+
+-- the number of pairs that the verdict's block covers
+abbrev pub pairs_covered : Verdict → ℕ
+pairs_covered v = pairs_by v.outcome v.row.counts
 
 abbrev pub pairs_text : Verdict → List ℕ
 pairs_text v = codes " pairs" ++ number_text (pairs_by v.outcome v.row.counts)
@@ -115,6 +129,10 @@ access_text r e = access_by r e (slice_get r.events e)
 abbrev pub block_text : Recording → Verdict → List ℕ
 block_text r v = head_line v ++ access_text r v.first ++ access_text r v.second
 
+-- the line of event e alone
+abbrev pub access_line : Recording → ℕ → List ℕ
+access_line r e = codes "  " ++ event_words_at r e ++ codes "\n"
+
 abbrev pub block_texts : Recording → List Verdict → List ℕ
 block_texts r vs = flat_map (block_text r) vs
 
@@ -132,3 +150,7 @@ pub record IsTriageText (r : Recording) (vs : List Verdict) (c : Chosen) (text :
   pub totals : Totals
   pub counted : AreTotals r vs totals
   pub printed : text ≡ triage_words r totals c
+
+-- such a text of all these verdicts is appended
+abbrev pub AppendsTriage : Recording → Verdicts → Chosen → Vec ℕ Global → Vec ℕ Global → Type 0
+AppendsTriage r found c old new = (text : List ℕ) × IsTriageText r found.verdicts.items c text × (new.items ≡ old.items ++ text)

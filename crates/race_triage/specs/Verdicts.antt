@@ -1,7 +1,7 @@
 -- What a verdict says about a pair of locations, and about the pair of events that it names. `T` is the events of a
 -- trace, and `r` is its recording. `place` gives the number of each event's location. All notions here are this
 -- project's own.
-use Rattle.std.specs.Prelude.{◌≡◌, ◌≢◌, ◌⊎◌, ℕ, ◌<◌, ◌≤◌, ◌%◌, ◌/◌, ◌==◌, ◌&&◌, nat_lt, max, min, count_by, Bool, true, false, List, [], ◌∷◌, ◌++◌, All, AllPairs, Contains, length, take, slice_get, slice_index, slice_index_or, Option, Some, None, ⊤}
+use Rattle.std.specs.Prelude.{◌≡◌, ◌≢◌, ◌⊎◌, ℕ, ◌<◌, ◌≤◌, ◌%◌, ◌/◌, ◌==◌, ◌&&◌, nat_lt, max, min, count_by, Bool, true, false, List, [], ◌∷◌, ◌++◌, All, AllPairs, Contains, length, take, slice_get, slice_index, slice_index_or, Option, Some, None, Result, IfOk, ⊤}
 use Rattle.rapid_text.specs.Recording.{Recording}
 use Rattle.rapid_text.specs.declared.event.Event.{Event}
 use Rattle.event_index.specs.Lookups.{before}
@@ -28,6 +28,9 @@ use Rattle.race_groups.specs.declared.least_pairs.tries.Try.{Try}
 use Rattle.race_groups.specs.declared.least_pairs.wanted.Wanted.TheVariants.{Candidate as CandidatePair, Open as OpenPair, Any as AnyPair}
 use Rattle.race_triage.specs.Tables.{AreTables}
 use Rattle.race_triage.specs.declared.found.Found.{Found}
+use Rattle.race_triage.specs.declared.between.TheConstants.{USUAL_TRIES}
+use Rattle.race_triage.specs.declared.tables.Tables.{Tables}
+use Rattle.race_triage.specs.declared.verdicts.Effort.{Effort}
 use Rattle.race_triage.specs.declared.verdicts.Outcome.{Outcome}
 use Rattle.race_triage.specs.declared.verdicts.Outcome.TheVariants.{Race, Undecided, Apart}
 use Rattle.race_triage.specs.declared.verdicts.Verdict.{Verdict}
@@ -105,6 +108,14 @@ abbrev pub AreMissed : List Event → ℕ → List Try → ℕ → Type 0
 AreMissed T budget [] left = left ≡ budget
 AreMissed T budget (t ∷ ts) left = (m : ℕ) × IsMissed T t.pair.1 t.pair.0 budget m × AreMissed T m ts left
 
+-- no schedule was found for any of them
+abbrev pub AreAllMissed : Recording → ℕ → List Try → Type 0
+AreAllMissed r budget tried = (left : ℕ) × AreMissed r.events budget tried left
+
+-- unless the answer is an error: if nothing was found, this holds
+abbrev pub IfNoneFound : {T E : Type 0} → Result (Option T) E → Type 0 → Type 0
+IfNoneFound answer P = IfOk answer (λ found. found ≡ None → P)
+
 -- The pair is one of these. No schedule was found for those before it.
 pub record IsFirstFound (T : List Event) (budget : ℕ) (tried : List Try) (pair : ℕ × ℕ) : Type 0 where
   pub at : ℕ
@@ -169,6 +180,21 @@ pub record IsVerdict (r : Recording) (place : ℕ → ℕ) (tries : ℕ) (apart 
 abbrev pub IsVerdictOn : Recording → (ℕ → ℕ) → ℕ → Bool → Row → Verdict → Type 0
 IsVerdictOn r place tries apart row v = IsVerdict r place tries apart v × (v.row ≡ row)
 
+-- the same for tables and an effort
+abbrev pub IsVerdictBy : Tables → Effort → Row → Verdict → Type 0
+IsVerdictBy t effort row = IsVerdictOn t.indexed.now (slice_index t.places.now) effort.tries effort.apart row
+
+abbrev pub AreVerdictsIn : Tables → Effort → List Verdict → Type 0
+AreVerdictsIn t effort vs = All (IsVerdict t.indexed.now (slice_index t.places.now) effort.tries effort.apart) vs
+
+-- the same with the usual number of tries, for a verdict that always names its pair
+abbrev pub IsUsualVerdict : Tables → Verdict → Type 0
+IsUsualVerdict t = IsVerdict t.indexed.now (slice_index t.places.now) USUAL_TRIES true
+
+-- the tries of one row share this many search steps
+abbrev pub IsBudgetIn : Tables → ℕ → Type 0
+IsBudgetIn t budget = IsBudget t.indexed.now (slice_index t.places.now) budget
+
 -- these pairs are open
 abbrev pub AreOpenPairs : Recording → List Try → Type 0
 AreOpenPairs r tried = All (λ (t : Try). IsPair r.events t.pair.1 t.pair.0 × IsKind r t.pair.1 t.pair.0 OpenKind) tried
@@ -177,6 +203,10 @@ AreOpenPairs r tried = All (λ (t : Try). IsPair r.events t.pair.1 t.pair.0 × I
 pub record IsShownFirst (r : Recording) (budget : ℕ) (tried : List Try) (pair : ℕ × ℕ) (o : Outcome) : Type 0 where
   pub found : IsFirstFound r.events budget tried pair
   pub race : IsOpenRace r pair.1 pair.0 o
+
+-- the same for a pair with its race
+abbrev pub IsFirstShown : Recording → ℕ → List Try → (ℕ × ℕ) × Outcome → Type 0
+IsFirstShown r budget tried shown = IsShownFirst r budget tried shown.0 shown.1
 
 -- What was found for all rows: the least pairs of each, and, if `apart` is true, its least conflicting pair.
 pub record IsFound (r : Recording) (place : ℕ → ℕ) (tries : ℕ) (apart : Bool) (found : Found) : Type 0 where
@@ -205,6 +235,10 @@ abbrev pub AreAllTold : List Event → (ℕ → ℕ) → List Verdict → Type 0
 AreAllTold T place vs =
     (a b : ℕ) → IsPair T a b → (v : Verdict) × Contains vs v × AreAt place v.row.places a b
 
+-- the same for tables
+abbrev pub AreAllToldIn : Tables → List Verdict → Type 0
+AreAllToldIn t vs = AreAllTold t.indexed.now.events (slice_index t.places.now) vs
+
 -- no two verdicts have the same pair of locations
 abbrev pub AreOnceTold : List Verdict → Type 0
 AreOnceTold vs = AllPairs (λ (v w : Verdict). v.row.places ≢ w.row.places) vs
@@ -221,6 +255,19 @@ IsOneAt rows At row = (at : ℕ) × At at × (slice_get rows at ≡ Some row)
 pub record AreOn (rows : List Row) (At : ℕ → Type 0) (vs : List Verdict) : Type 0 where
   pub on : All (λ (v : Verdict). IsOneAt rows At v.row) vs
   pub once : AreOnceTold vs
+
+-- the same for the rows that were found
+abbrev pub AreOnRowsOf : Found → (ℕ → Type 0) → List Verdict → Type 0
+AreOnRowsOf found At vs = AreOn found.groups.rows.items At vs
+
+-- the row with this index has a verdict
+abbrev pub IsAnsweredAt : Found → List Verdict → ℕ → Type 0
+IsAnsweredAt found vs at = (d : Row) → IsAnswered vs (slice_index_or found.groups.rows.items at d)
+
+-- so has each row whose index is `from` plus a multiple of `every`
+abbrev pub IsPartAnswered : Found → ℕ → ℕ → List Verdict → Type 0
+IsPartAnswered found from every vs =
+    (k : ℕ) (d : Row) → k < length found.groups.rows.items → k % every ≡ from → IsAnswered vs (slice_index_or found.groups.rows.items k d)
 
 -- the index is below `end`, and is `from` plus a multiple of `every`
 abbrev pub IsOwn : ℕ → ℕ → ℕ → ℕ → Type 0
@@ -252,6 +299,10 @@ pub record AreWhole (r : Recording) (place : ℕ → ℕ) (tries : ℕ) (apart :
 abbrev pub IsAddedBy : Found → Row → List Verdict → List Verdict → Type 0
 IsAddedBy found =
     IsAdded found.tables.indexed.now (slice_index found.tables.places.now) found.effort.tries found.effort.apart
+
+-- a verdict on the row with this index is added
+abbrev pub IsAddedAt : Found → ℕ → List Verdict → List Verdict → Type 0
+IsAddedAt found at old new = (row : Row) × (slice_get found.groups.rows.items at ≡ Some row) × IsAddedBy found row old new
 
 abbrev pub ArePartOf : Found → ℕ → ℕ → List Verdict → Type 0
 ArePartOf found =

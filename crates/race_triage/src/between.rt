@@ -1,15 +1,16 @@
 //! The verdict on one pair of locations.
-ghost use Rattle.std.specs.Prelude.{◌≡◌, ℕ, ◌<◌, IfOk, IfSome, None, Ok, length, slice_index, true};
-ghost use Rattle.race_groups.specs.Found.{AreComplete, HaveConflict};
+ghost use Rattle.std.specs.Prelude.{◌≡◌, ℕ, ◌<◌, None, Ok, length, slice_index, true};
+ghost use Rattle.race_groups.specs.Found.{HaveConflict};
 ghost use Rattle.race_groups.specs.Groups.{is_between};
-ghost use Rattle.race_triage.specs.Tables.{AreTables};
-ghost use Rattle.race_triage.specs.Verdicts.{IsFoundIn, IsVerdict, IsVerdictOf};
+ghost use Rattle.race_triage.specs.Tables.{AreCompleteIn, AreTables, HasConflictIn};
+ghost use Rattle.race_triage.specs.Verdicts.{IsFoundIn, IsUsualVerdict, IsVerdict, IsVerdictOf};
 ghost use Rattle.rapid_text.specs.Appended.{IfFound};
 
 use crate::found::{Found, found_of};
 use crate::tables::Tables;
 use crate::verdicts::{Effort, TriageRefusal, Verdict};
 use must_order::Analysis;
+use race_groups::Classes;
 use rapid_text::OutOfMemory;
 use std::alloc::Global;
 use witness_search::trace_order::Acquires;
@@ -28,18 +29,20 @@ pub fn verdict_between(
     requires places { length places.now ≡ length analysis.now.events }
     requires few { (e : ℕ) → slice_index places.now e < 3 }
     // The verdict is the one that `triage` gives with these numbers of locations.
-    ensures verdict { IfOk result (λ found. IfSome found (IsVerdict analysis.now (slice_index places.now) USUAL_TRIES true)) }
+    ensures verdict { IfFound result (IsVerdict analysis.now (slice_index places.now) USUAL_TRIES true) }
     ensures between { IfFound result (λ v. is_between v.row.places.0 v.row.places.1 between.0 between.1 ≡ true) }
     ensures none { result ≡ Ok None → ¬ HaveConflict analysis.now.events (slice_index places.now) between }
 {
     let indexed = analysis.indexed();
     let acquires = Acquires::new(alloc, indexed)?;
+    let classes = Classes::of(alloc, indexed, places)?;
     let tables = Tables {
         alloc,
         indexed,
         clocks: analysis.clocks(),
         must: analysis.must(),
         acquires: &acquires,
+        classes: &classes,
         places,
     };
     verdict_by(tables, between)
@@ -49,10 +52,9 @@ pub fn verdict_between(
 fn verdict_by(tables: Tables<'_>, between: (u32, u32)) -> Result<Option<Verdict>, OutOfMemory>
     requires tables { AreTables tables }
     requires few { (e : ℕ) → slice_index tables.places.now e < 3 }
-    ensures verdict { IfOk result (λ found. IfSome found
-        (IsVerdict tables.entry.indexed.now (slice_index tables.entry.places.now) USUAL_TRIES true)) }
+    ensures verdict { IfFound result (IsUsualVerdict tables.entry) }
     ensures between { IfFound result (λ v. is_between v.row.places.0 v.row.places.1 between.0 between.1 ≡ true) }
-    ensures none { result ≡ Ok None → ¬ HaveConflict tables.entry.indexed.now.events (slice_index tables.entry.places.now) between }
+    ensures none { result ≡ Ok None → ¬ HasConflictIn tables.entry between }
 {
     let effort = Effort {
         tries: USUAL_TRIES,
@@ -69,10 +71,10 @@ fn verdict_by(tables: Tables<'_>, between: (u32, u32)) -> Result<Option<Verdict>
 // The same, given what was found for all pairs of locations.
 fn verdict_in(found: &Found<'_>, between: (u32, u32)) -> Result<Option<Verdict>, OutOfMemory>
     requires found { IsFoundIn found.now }
-    requires complete { AreComplete found.now.tables.indexed.now.events (slice_index found.now.tables.places.now) found.now.groups.rows.items }
-    ensures verdict { IfOk result (λ told. IfSome told (IsVerdictOf found.now)) }
+    requires complete { AreCompleteIn found.now.tables found.now.groups.rows.items }
+    ensures verdict { IfFound result (IsVerdictOf found.now) }
     ensures between { IfFound result (λ v. is_between v.row.places.0 v.row.places.1 between.0 between.1 ≡ true) }
-    ensures none { result ≡ Ok None → ¬ HaveConflict found.now.tables.indexed.now.events (slice_index found.now.tables.places.now) between }
+    ensures none { result ≡ Ok None → ¬ HasConflictIn found.now.tables between }
 {
     match found.groups.row_of(between.0, between.1) {
         Some(at) => Ok(Some(found.verdict(at)?)),

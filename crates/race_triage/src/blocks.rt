@@ -1,7 +1,6 @@
 //! Prints the block of one verdict.
-ghost use Rattle.std.specs.Prelude.{◌≡◌, ◌<◌, ◌++◌, [], length, slice_index_or, codes};
-ghost use Rattle.race_triage.specs.Pieces.{event_words_at};
-ghost use Rattle.race_triage.specs.Texts.{access_text, block_text, head_line, held_locks, how_words, lock_line, lock_lines, open_text, pairs_text, size_text, word_text};
+ghost use Rattle.std.specs.Prelude.{◌≡◌, ◌<◌, [], length, slice_index_or};
+ghost use Rattle.race_triage.specs.Texts.{access_line, access_text, block_text, head_line, held_locks, how_words, lock_line, lock_lines, open_text, pairs_text, size_text, word_text};
 ghost use Rattle.rapid_text.specs.Appended.{Appended};
 
 use crate::pieces::{append_event, append_number, append_small, append_words};
@@ -127,7 +126,7 @@ fn append_access(
 
 // Appends the canonical line of an event.
 fn append_line(out: &mut Vec<u8>, indexed: &Indexed, event: u32) -> Result<(), OutOfMemory>
-    ensures { Appended result out.old out.new (codes "  " ++ event_words_at indexed.now event ++ codes "\n") }
+    ensures { Appended result out.old out.new (access_line indexed.now event) }
 {
     append_words(out, b"  ")?;
     append_event(out, indexed, event)?;

@@ -1,6 +1,6 @@
 //! Chooses the verdicts to print.
-ghost use Rattle.std.specs.Prelude.{◌≡◌, ◌≢◌, ◌∷◌, [], IfOk, OnOk, Ok, Some, None, map, cond, filter, true, false};
-ghost use Rattle.race_triage.specs.Chosen.{is_known, is_kept, known_places, is_of, more_of, AreChosen, AreConsidered};
+ghost use Rattle.std.specs.Prelude.{◌≡◌, ◌∷◌, [], IfOk, OnOk, Some, None, cond, false};
+ghost use Rattle.race_triage.specs.Chosen.{is_known, is_of, keeps_block, known_places, more_of, AreChosenBy, AreConsideredBy, IsPartChosen, KeepsUnfiltered};
 ghost use Rattle.race_triage.specs.declared.chosen.Part.TheVariants.{Races, Open, Never};
 
 use crate::filters::Filters;
@@ -44,8 +44,7 @@ pub fn chosen_of(
     apart: bool,
 ) -> Result<Chosen, OutOfMemory>
     // The result has exactly these verdicts, and counts those that are left out.
-    ensures { IfOk result (AreChosen indexed.now (known_places known.now) (map (λ t. t.now) filters.entry.only.now) (map (λ t. t.now) filters.entry.hide.now)
-        apart verdicts.now.verdicts.items) }
+    ensures { IfOk result (AreChosenBy indexed.now known.now filters.entry apart verdicts.now) }
 {
     let all = verdicts.verdicts.as_slice();
     let mut chosen = nothing(alloc, known.is_some(), filters.is_any());
@@ -80,8 +79,7 @@ impl Chosen {
         known: &Option<Known>,
         filters: Filters<'_>,
     ) -> Result<(), OutOfMemory>
-        ensures { OnOk result (AreConsidered indexed.now (known_places known.now) (map (λ t. t.now) filters.entry.only.now) (map (λ t. t.now) filters.entry.hide.now)
-            (filter (is_of part) all.now) self.old self.new) }
+        ensures { OnOk result (IsPartChosen indexed.now known.now filters.entry part all.now self.old self.new) }
     {
         for verdict in all {
             self.consider_of(indexed, verdict, part, known, filters)?;
@@ -98,8 +96,7 @@ impl Chosen {
         known: &Option<Known>,
         filters: Filters<'_>,
     ) -> Result<(), OutOfMemory>
-        ensures { OnOk result (AreConsidered indexed.now (known_places known.now) (map (λ t. t.now) filters.entry.only.now) (map (λ t. t.now) filters.entry.hide.now)
-            (filter (is_of part) (verdict.now ∷ [])) self.old self.new) }
+        ensures { OnOk result (IsPartChosen indexed.now known.now filters.entry part (verdict.now ∷ []) self.old self.new) }
     {
         if !belongs(verdict, part) {
             return Ok(());
@@ -115,8 +112,7 @@ impl Chosen {
         known: &Option<Known>,
         filters: Filters<'_>,
     ) -> Result<(), OutOfMemory>
-        ensures { OnOk result (AreConsidered indexed.now (known_places known.now) (map (λ t. t.now) filters.entry.only.now) (map (λ t. t.now) filters.entry.hide.now)
-            (verdict.now ∷ []) self.old self.new) }
+        ensures { OnOk result (AreConsideredBy indexed.now known.now filters.entry (verdict.now ∷ []) self.old self.new) }
     {
         let is_race = belongs(verdict, Part::Races);
         if is_race && is_known(known, verdict) {
@@ -194,8 +190,8 @@ pub fn is_kept(
     filters: Filters<'_>,
     verdict: &Verdict,
 ) -> Result<bool, OutOfMemory>
-    ensures all { filters.entry.only.now ≡ [] → filters.entry.hide.now ≡ [] → IfOk result (λ kept. kept ≡ true) }
-    ensures kept { IfOk result (λ kept. kept ≡ is_kept indexed.now (map (λ t. t.now) filters.entry.only.now) (map (λ t. t.now) filters.entry.hide.now) verdict.now) }
+    ensures all { KeepsUnfiltered filters.entry result }
+    ensures kept { IfOk result (λ kept. kept ≡ keeps_block indexed.now filters.entry verdict.now) }
 {
     let mut first = Vec::new(alloc);
     let mut second = Vec::new(alloc);

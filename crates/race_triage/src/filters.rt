@@ -1,7 +1,7 @@
 //! Chooses blocks by texts that they contain.
-ghost use Rattle.std.specs.Prelude.{◌≡◌, ◌==◌, ◌||◌, not, map, length};
+ghost use Rattle.std.specs.Prelude.{◌≡◌};
 ghost use Rattle.std.specs.List.{list_any};
-ghost use Rattle.race_triage.specs.Chosen.{is_in, is_shown, stands_in};
+ghost use Rattle.race_triage.specs.Chosen.{filters_any, is_in, shows_lines, stands_in};
 
 /// Texts that choose blocks. If `only` has texts, one of them must occur in one of the block's two access lines. No
 /// text of `hide` may occur in them.
@@ -16,14 +16,14 @@ pub struct Filters<'a> {
 impl Filters<'_> {
     /// Whether there is a filter.
     pub fn is_any(&self) -> bool
-        ensures { result ≡ (not (length (map (λ t. t.now) self.now.only.now) == 0) || not (length (map (λ t. t.now) self.now.hide.now) == 0)) }
+        ensures { result ≡ filters_any self.now }
     {
         !self.only.is_empty() || !self.hide.is_empty()
     }
 
     /// Whether the filters keep a block with these two access lines.
     pub fn keeps(&self, first: &[u8], second: &[u8]) -> bool
-        ensures { result ≡ is_shown (map (λ t. t.now) self.now.only.now) (map (λ t. t.now) self.now.hide.now) first.now second.now }
+        ensures { result ≡ shows_lines self.now first.now second.now }
     {
         if stand_in(self.hide, first, second) {
             return false;

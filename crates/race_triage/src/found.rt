@@ -1,21 +1,14 @@
 //! Counts the pairs of events for each pair of locations, and finds the least ones.
-ghost use Rattle.std.specs.Prelude.{◌≡◌, ℕ, ◌<◌, ◌≤◌, All, Err, count_by, IfOk, Some, length, max, slice_get, slice_index};
-ghost use Rattle.race_groups.specs.Classes.{AreClasses, AreLocks, AreMembers};
-ghost use Rattle.race_groups.specs.Found.{AreComplete, AreOnce, AreTooMany, HaveConflict};
-ghost use Rattle.race_groups.specs.Kinds.{IsRow};
-ghost use Rattle.race_groups.specs.declared.kinds.Row.{Row as Counts};
-ghost use Rattle.race_groups.specs.least_pairs.Pairs.{AreLeasts};
-ghost use Rattle.race_groups.specs.declared.least_pairs.least.Least.{Least as Told};
-ghost use Rattle.race_triage.specs.Tables.{AreTables};
+ghost use Rattle.std.specs.Prelude.{◌≡◌, ◌<◌, ◌≤◌, Err, count_by, IfOk, Some, length, max, slice_get};
+ghost use Rattle.race_triage.specs.Tables.{AreCompleteIn, AreGroupsIn, AreLeastsOf, AreTables, AreTooManyIn};
 ghost use Rattle.race_triage.specs.Verdicts.{IsFoundIn, budget_for, has_tries};
 
 use crate::tables::Tables;
 use crate::verdicts::{Effort, MAX_PLACES, TriageRefusal};
 use explain_report::findings::BUDGET;
 use race_groups::least_pairs::{Counted, Least, Pair, firsts_of, leasts_by_workers, leasts_of};
-use race_groups::{Classes, Groups, Row, RowsRefusal, groups_by_workers, groups_of};
+use race_groups::{Groups, Row, RowsRefusal, groups_by_workers, groups_of};
 use rapid_text::OutOfMemory;
-use std::alloc::Global;
 use std::thread::Threads;
 
 // The most steps of all searches together. Each row gets `BUDGET` steps, or less if many rows have open pairs to try.
@@ -53,15 +46,13 @@ pub(crate) fn found_of<'a>(tables: Tables<'a>, effort: Effort) -> Result<Found<'
     ensures found { IfOk result IsFoundIn }
     ensures tables { IfOk result (λ found. found.tables ≡ tables.entry) }
     ensures effort { IfOk result (λ found. found.effort ≡ effort) }
-    ensures complete { IfOk result (λ found. AreComplete tables.entry.indexed.now.events (slice_index tables.entry.places.now) found.groups.rows.items) }
+    ensures complete { IfOk result (λ found. AreCompleteIn tables.entry found.groups.rows.items) }
     ensures few { IfOk result (λ found. length found.groups.rows.items ≤ MAX_PLACES) }
-    ensures too_many { result ≡ Err TriageRefusal.TooMany
-        → AreTooMany tables.entry.indexed.now.events (slice_index tables.entry.places.now) MAX_PLACES }
+    ensures too_many { result ≡ Err TriageRefusal.TooMany → AreTooManyIn tables.entry }
 {
-    let classes = Classes::of(tables.alloc, tables.indexed, tables.places)?;
-    let groups = counted(tables, &classes)?;
-    let leasts = leasts_in(tables, &classes, &groups, effort)?;
-    Ok(found_in(tables, &classes, groups, leasts, effort)?)
+    let groups = counted(tables)?;
+    let leasts = leasts_in(tables, &groups, effort)?;
+    Ok(found_in(tables, groups, leasts, effort)?)
 }
 
 /// The same by `workers` threads, which share the counting and the least pairs. With fewer than two workers, this
@@ -75,37 +66,23 @@ pub(crate) fn found_by_workers<'a, R: Threads + Sync>(
     ensures found { IfOk result IsFoundIn }
     ensures tables { IfOk result (λ found. found.tables ≡ tables.entry) }
     ensures effort { IfOk result (λ found. found.effort ≡ effort) }
-    ensures complete { IfOk result (λ found. AreComplete tables.entry.indexed.now.events (slice_index tables.entry.places.now) found.groups.rows.items) }
+    ensures complete { IfOk result (λ found. AreCompleteIn tables.entry found.groups.rows.items) }
     ensures few { IfOk result (λ found. length found.groups.rows.items ≤ MAX_PLACES) }
-    ensures too_many { result ≡ Err TriageRefusal.TooMany
-        → AreTooMany tables.entry.indexed.now.events (slice_index tables.entry.places.now) MAX_PLACES }
+    ensures too_many { result ≡ Err TriageRefusal.TooMany → AreTooManyIn tables.entry }
 {
     if effort.workers < 2 {
         return found_of(tables, effort);
     }
-    let classes = Classes::of(tables.alloc, tables.indexed, tables.places)?;
-    let groups = counted_by_workers(rt, tables, &classes, effort.workers)?;
-    let leasts = leasts_by(rt, tables, &classes, &groups, effort)?;
-    Ok(found_in(tables, &classes, groups, leasts, effort)?)
+    let groups = counted_by_workers(rt, tables, effort.workers)?;
+    let leasts = leasts_by(rt, tables, &groups, effort)?;
+    Ok(found_in(tables, groups, leasts, effort)?)
 }
 
 // The least pairs of each row.
-fn leasts_in(
-    tables: Tables<'_>,
-    classes: &Classes,
-    groups: &Groups,
-    effort: Effort,
-) -> Result<Vec<Least>, OutOfMemory>
+fn leasts_in(tables: Tables<'_>, groups: &Groups, effort: Effort) -> Result<Vec<Least>, OutOfMemory>
     requires tables { AreTables tables }
-    requires classes { AreClasses tables.indexed.now.events (slice_index tables.places.now) classes.now.numbers.items classes.now.infos.items }
-    requires locks { AreLocks tables.indexed.now.events classes.now.lists.keys classes.now.numbers.items classes.now.infos.items }
-    requires rows { All (IsRow tables.indexed.now (slice_index tables.places.now)) groups.now.rows.items }
-    requires complete { AreComplete tables.indexed.now.events (slice_index tables.places.now) groups.now.rows.items }
-    requires once { AreOnce groups.now.rows.items }
-    ensures len { IfOk result (λ leasts. length leasts.items ≡ length groups.now.rows.items) }
-    ensures leasts { IfOk result (λ leasts. (at : ℕ) (row : Counts) (l : Told) → slice_get groups.now.rows.items at ≡ Some row
-        → slice_get leasts.items at ≡ Some l
-        → AreLeasts tables.entry.indexed.now (slice_index tables.entry.places.now) row.places (max effort.tries 1) l) }
+    requires groups { AreGroupsIn tables groups.now }
+    ensures { IfOk result (λ leasts. AreLeastsOf tables.entry effort groups.now.rows.items leasts.items) }
 {
     let leasts = leasts_of(
         tables.alloc,
@@ -113,7 +90,7 @@ fn leasts_in(
         tables.places,
         tables.clocks,
         tables.must,
-        classes,
+        tables.classes,
         groups,
         most_of(effort),
     )?;
@@ -124,27 +101,19 @@ fn leasts_in(
 fn leasts_by<R: Threads + Sync>(
     rt: &R,
     tables: Tables<'_>,
-    classes: &Classes,
     groups: &Groups,
     effort: Effort,
 ) -> Result<Vec<Least>, OutOfMemory>
     requires tables { AreTables tables }
-    requires classes { AreClasses tables.indexed.now.events (slice_index tables.places.now) classes.now.numbers.items classes.now.infos.items }
-    requires locks { AreLocks tables.indexed.now.events classes.now.lists.keys classes.now.numbers.items classes.now.infos.items }
-    requires rows { All (IsRow tables.indexed.now (slice_index tables.places.now)) groups.now.rows.items }
-    requires complete { AreComplete tables.indexed.now.events (slice_index tables.places.now) groups.now.rows.items }
-    requires once { AreOnce groups.now.rows.items }
-    ensures len { IfOk result (λ leasts. length leasts.items ≡ length groups.now.rows.items) }
-    ensures leasts { IfOk result (λ leasts. (at : ℕ) (row : Counts) (l : Told) → slice_get groups.now.rows.items at ≡ Some row
-        → slice_get leasts.items at ≡ Some l
-        → AreLeasts tables.entry.indexed.now (slice_index tables.entry.places.now) row.places (max effort.tries 1) l) }
+    requires groups { AreGroupsIn tables groups.now }
+    ensures { IfOk result (λ leasts. AreLeastsOf tables.entry effort groups.now.rows.items leasts.items) }
 {
     let counted = Counted {
         indexed: tables.indexed,
         places: tables.places,
         clocks: tables.clocks,
         must: tables.must,
-        classes,
+        classes: tables.classes,
         groups,
         most: most_of(effort),
     };
@@ -162,26 +131,17 @@ fn most_of(effort: Effort) -> usize
 // The same, given the counts and the least pairs.
 fn found_in<'a>(
     tables: Tables<'a>,
-    classes: &Classes,
     groups: Groups,
     leasts: Vec<Least>,
     effort: Effort,
 ) -> Result<Found<'a>, OutOfMemory>
     requires tables { AreTables tables }
-    requires classes { AreClasses tables.indexed.now.events (slice_index tables.places.now) classes.now.numbers.items classes.now.infos.items }
-    requires locks { AreLocks tables.indexed.now.events classes.now.lists.keys classes.now.numbers.items classes.now.infos.items }
-    requires rows { All (IsRow tables.indexed.now (slice_index tables.places.now)) groups.rows.items }
-    requires complete { AreComplete tables.indexed.now.events (slice_index tables.places.now) groups.rows.items }
-    requires there { All (λ row. HaveConflict tables.indexed.now.events (slice_index tables.places.now) row.places) groups.rows.items }
-    requires once { AreOnce groups.rows.items }
-    requires few { length groups.rows.items ≤ MAX_PLACES }
-    requires leasts_len { length leasts.items ≡ length groups.rows.items }
-    requires leasts { (at : ℕ) (row : Counts) (l : Told) → slice_get groups.rows.items at ≡ Some row → slice_get leasts.items at ≡ Some l
-        → AreLeasts tables.indexed.now (slice_index tables.places.now) row.places (max effort.tries 1) l }
+    requires groups { AreGroupsIn tables groups }
+    requires leasts { AreLeastsOf tables effort groups.rows.items leasts.items }
     ensures found { IfOk result IsFoundIn }
     ensures tables { IfOk result (λ found. found.tables ≡ tables.entry) }
     ensures effort { IfOk result (λ found. found.effort ≡ effort) }
-    ensures complete { IfOk result (λ found. AreComplete tables.entry.indexed.now.events (slice_index tables.entry.places.now) found.groups.rows.items) }
+    ensures complete { IfOk result (λ found. AreCompleteIn tables.entry found.groups.rows.items) }
     ensures few { IfOk result (λ found. length found.groups.rows.items ≤ MAX_PLACES) }
 {
     let budget = budget_of(groups.rows.as_slice());
@@ -190,7 +150,7 @@ fn found_in<'a>(
             tables.alloc,
             tables.indexed,
             tables.places,
-            classes,
+            tables.classes,
             &groups,
         )?
     } else {
@@ -235,20 +195,10 @@ fn budget_for(count: u64) -> u32
 }
 
 // Counts the rows. Fails if there are too many.
-fn counted(tables: Tables<'_>, classes: &Classes) -> Result<Groups, TriageRefusal>
+fn counted(tables: Tables<'_>) -> Result<Groups, TriageRefusal>
     requires tables { AreTables tables }
-    requires classes { AreClasses tables.indexed.now.events (slice_index tables.places.now) classes.now.numbers.items classes.now.infos.items }
-    requires few { length classes.now.infos.items ≤ 1048576 }
-    requires members { AreMembers classes.now.infos.items classes.now.members.items }
-    requires locks { AreLocks tables.indexed.now.events classes.now.lists.keys classes.now.numbers.items classes.now.infos.items }
-    ensures rows { IfOk result (λ groups. All (IsRow tables.entry.indexed.now (slice_index tables.entry.places.now)) groups.rows.items) }
-    ensures complete { IfOk result (λ groups. AreComplete tables.entry.indexed.now.events (slice_index tables.entry.places.now) groups.rows.items) }
-    ensures there { IfOk result (λ groups. All
-        (λ row. HaveConflict tables.entry.indexed.now.events (slice_index tables.entry.places.now) row.places) groups.rows.items) }
-    ensures once { IfOk result (λ groups. AreOnce groups.rows.items) }
-    ensures few { IfOk result (λ groups. length groups.rows.items ≤ MAX_PLACES) }
-    ensures too_many { result ≡ Err TriageRefusal.TooMany
-        → AreTooMany tables.entry.indexed.now.events (slice_index tables.entry.places.now) MAX_PLACES }
+    ensures groups { IfOk result (AreGroupsIn tables.entry) }
+    ensures too_many { result ≡ Err TriageRefusal.TooMany → AreTooManyIn tables.entry }
 {
     match groups_of(
         tables.alloc,
@@ -256,7 +206,7 @@ fn counted(tables: Tables<'_>, classes: &Classes) -> Result<Groups, TriageRefusa
         tables.places,
         tables.clocks,
         tables.must,
-        classes,
+        tables.classes,
         MAX_PLACES,
     ) {
         Ok(groups) => Ok(groups),
@@ -269,23 +219,12 @@ fn counted(tables: Tables<'_>, classes: &Classes) -> Result<Groups, TriageRefusa
 fn counted_by_workers<R: Threads + Sync>(
     rt: &R,
     tables: Tables<'_>,
-    classes: &Classes,
     workers: u32,
 ) -> Result<Groups, TriageRefusal>
     requires tables { AreTables tables }
-    requires classes { AreClasses tables.indexed.now.events (slice_index tables.places.now) classes.now.numbers.items classes.now.infos.items }
-    requires few { length classes.now.infos.items ≤ 1048576 }
-    requires members { AreMembers classes.now.infos.items classes.now.members.items }
     requires workers { 0 < workers }
-    requires locks { AreLocks tables.indexed.now.events classes.now.lists.keys classes.now.numbers.items classes.now.infos.items }
-    ensures rows { IfOk result (λ groups. All (IsRow tables.entry.indexed.now (slice_index tables.entry.places.now)) groups.rows.items) }
-    ensures complete { IfOk result (λ groups. AreComplete tables.entry.indexed.now.events (slice_index tables.entry.places.now) groups.rows.items) }
-    ensures there { IfOk result (λ groups. All
-        (λ row. HaveConflict tables.entry.indexed.now.events (slice_index tables.entry.places.now) row.places) groups.rows.items) }
-    ensures once { IfOk result (λ groups. AreOnce groups.rows.items) }
-    ensures few { IfOk result (λ groups. length groups.rows.items ≤ MAX_PLACES) }
-    ensures too_many { result ≡ Err TriageRefusal.TooMany
-        → AreTooMany tables.entry.indexed.now.events (slice_index tables.entry.places.now) MAX_PLACES }
+    ensures groups { IfOk result (AreGroupsIn tables.entry) }
+    ensures too_many { result ≡ Err TriageRefusal.TooMany → AreTooManyIn tables.entry }
 {
     let limit = MAX_PLACES;
     match groups_by_workers(
@@ -295,7 +234,7 @@ fn counted_by_workers<R: Threads + Sync>(
         tables.places,
         tables.clocks,
         tables.must,
-        classes,
+        tables.classes,
         limit,
         workers as usize,
     ) {

@@ -1,12 +1,9 @@
 //! Gives the verdict on a row.
-ghost use Rattle.std.specs.Prelude.{◌≡◌, ◌<◌, ◌≤◌, ℕ, IfOk, None, Some, length, max, slice_get, slice_index, take, true};
-ghost use Rattle.race_groups.specs.Found.{HaveConflict};
-ghost use Rattle.race_groups.specs.Kinds.{IsNeverShownBetween, IsRow};
-ghost use Rattle.race_groups.specs.least_pairs.Pairs.{AreLeasts, IsLeastPair};
-ghost use Rattle.race_groups.specs.declared.least_pairs.wanted.Wanted.TheVariants.{Any as AnyPair};
+ghost use Rattle.std.specs.Prelude.{◌≡◌, ◌<◌, ◌≤◌, IfOk, Some, length, slice_get, slice_index, take};
+ghost use Rattle.race_groups.specs.Kinds.{IsNeverShownBetween};
 ghost use Rattle.explain_report.specs.declared.findings.searching.TheConstants.{BUDGET};
-ghost use Rattle.race_triage.specs.Tables.{AreTables};
-ghost use Rattle.race_triage.specs.Verdicts.{AreMissed, AreOpenPairs, IsBudget, IsFoundIn, IsShownFirst, IsVerdictOf, IsVerdictOn};
+ghost use Rattle.race_triage.specs.Tables.{AreLeastsIn, AreTables, HasConflictIn, IsFirstIn, IsRowIn};
+ghost use Rattle.race_triage.specs.Verdicts.{AreAllMissed, AreOpenPairs, IfNoneFound, IsBudgetIn, IsFirstShown, IsFoundIn, IsVerdictBy, IsVerdictOf};
 ghost use Rattle.rapid_text.specs.Appended.{IfFound};
 
 use crate::found::Found;
@@ -47,12 +44,12 @@ impl Tables<'_> {
         budget: u32,
     ) -> Result<Verdict, OutOfMemory>
         requires tables { AreTables self.now }
-        requires row { IsRow self.now.indexed.now (slice_index self.now.places.now) row }
-        requires there { HaveConflict self.now.indexed.now.events (slice_index self.now.places.now) row.places }
-        requires least { AreLeasts self.now.indexed.now (slice_index self.now.places.now) row.places (max effort.tries 1) least.now }
-        requires first { effort.apart ≡ true → IsLeastPair self.now.indexed.now (slice_index self.now.places.now) row.places AnyPair first }
-        requires shared { IsBudget self.now.indexed.now (slice_index self.now.places.now) budget }
-        ensures { IfOk result (IsVerdictOn self.now.indexed.now (slice_index self.now.places.now) effort.tries effort.apart row) }
+        requires row { IsRowIn self.now row }
+        requires there { HasConflictIn self.now row.places }
+        requires least { AreLeastsIn self.now effort row.places least.now }
+        requires first { IsFirstIn self.now effort row.places first }
+        requires shared { IsBudgetIn self.now budget }
+        ensures { IfOk result (IsVerdictBy self.now effort row) }
     {
         if is_apart(self.indexed, self.places, row) {
             return Ok(self.apart_row(row, least, first, effort));
@@ -71,11 +68,11 @@ impl Tables<'_> {
         _effort: Effort,
     ) -> Result<Verdict, OutOfMemory>
         requires tables { AreTables self.now }
-        requires row { IsRow self.now.indexed.now (slice_index self.now.places.now) row }
-        requires there { HaveConflict self.now.indexed.now.events (slice_index self.now.places.now) row.places }
-        requires least { AreLeasts self.now.indexed.now (slice_index self.now.places.now) row.places (max _effort.tries 1) least.now }
+        requires row { IsRowIn self.now row }
+        requires there { HasConflictIn self.now row.places }
+        requires least { AreLeastsIn self.now _effort row.places least.now }
         requires candidates { 0 < row.counts.candidates }
-        ensures { IfOk result (IsVerdictOn self.now.indexed.now (slice_index self.now.places.now) _effort.tries _effort.apart row) }
+        ensures { IfOk result (IsVerdictBy self.now _effort row) }
     {
         let Some(pair) = least.candidate else {
             unreachable!()
@@ -93,13 +90,13 @@ impl Tables<'_> {
         budget: u32,
     ) -> Result<Verdict, OutOfMemory>
         requires tables { AreTables self.now }
-        requires row { IsRow self.now.indexed.now (slice_index self.now.places.now) row }
-        requires there { HaveConflict self.now.indexed.now.events (slice_index self.now.places.now) row.places }
-        requires least { AreLeasts self.now.indexed.now (slice_index self.now.places.now) row.places (max effort.tries 1) least.now }
+        requires row { IsRowIn self.now row }
+        requires there { HasConflictIn self.now row.places }
+        requires least { AreLeastsIn self.now effort row.places least.now }
         requires candidates { row.counts.candidates ≡ 0 }
         requires open_pairs { 0 < row.counts.open_pairs }
-        requires shared { IsBudget self.now.indexed.now (slice_index self.now.places.now) budget }
-        ensures { IfOk result (IsVerdictOn self.now.indexed.now (slice_index self.now.places.now) effort.tries effort.apart row) }
+        requires shared { IsBudgetIn self.now budget }
+        ensures { IfOk result (IsVerdictBy self.now effort row) }
     {
         let all = least.tries.as_slice();
         if all.is_empty() {
@@ -125,8 +122,8 @@ impl Tables<'_> {
         requires tables { AreTables self.now }
         requires opens { AreOpenPairs self.now.indexed.now tried.now }
         requires few { budget ≤ BUDGET }
-        ensures shown { IfFound result (λ shown. IsShownFirst self.now.indexed.now budget tried.now shown.0 shown.1) }
-        ensures none { IfOk result (λ found. found ≡ None → (left : ℕ) × AreMissed self.now.indexed.now.events budget tried.now left) }
+        ensures shown { IfFound result (IsFirstShown self.now.indexed.now budget tried.now) }
+        ensures none { IfNoneFound result (AreAllMissed self.now.indexed.now budget tried.now) }
     {
         let mut left = budget;
         for at in 0..tried.len() {
@@ -140,14 +137,14 @@ impl Tables<'_> {
 
     // The verdict on a row whose pairs are all forced or guarded.
     fn apart_row(&self, row: Row, least: &Least, first: Option<Pair>, effort: Effort) -> Verdict
-        requires row { IsRow self.now.indexed.now (slice_index self.now.places.now) row }
-        requires there { HaveConflict self.now.indexed.now.events (slice_index self.now.places.now) row.places }
-        requires least { AreLeasts self.now.indexed.now (slice_index self.now.places.now) row.places (max effort.tries 1) least.now }
-        requires first { effort.apart ≡ true → IsLeastPair self.now.indexed.now (slice_index self.now.places.now) row.places AnyPair first }
+        requires row { IsRowIn self.now row }
+        requires there { HasConflictIn self.now row.places }
+        requires least { AreLeastsIn self.now effort row.places least.now }
+        requires first { IsFirstIn self.now effort row.places first }
         requires candidates { row.counts.candidates ≡ 0 }
         requires open_pairs { row.counts.open_pairs ≡ 0 }
         requires never { IsNeverShownBetween self.now.indexed.now.events (slice_index self.now.places.now) row.places.0 row.places.1 }
-        ensures { IsVerdictOn self.now.indexed.now (slice_index self.now.places.now) effort.tries effort.apart row result }
+        ensures { IsVerdictBy self.now effort row result }
     {
         if !effort.apart {
             return of_pair(row, least.variables, (0, 0), Outcome::Apart);

@@ -4,10 +4,8 @@ ghost use Rattle.std.specs.List.{after_first, list_any, slice_split};
 ghost use Rattle.rapid_text.specs.Appended.{IfFound};
 ghost use Rattle.rapid_text.specs.LinesLeft.{bytes_left, lines_left};
 ghost use Rattle.rapid_text.specs.Reading.{is_bar, is_line_feed};
-ghost use Rattle.rapid_text.specs.Recording.{Recording};
-ghost use Rattle.race_triage.specs.Blocks.{ArePair, IsNoted, IsPlace, IsRead};
-ghost use Rattle.race_triage.specs.Known.{is_access, is_head, AllNamed, AreKnown, HasBlock, IsLocation, OnlyNamed};
-ghost use Rattle.race_triage.specs.Places.{AreNumbered};
+ghost use Rattle.race_triage.specs.Blocks.{ArePair, HasNoPlace, HaveNoPair, IsNoted, IsPlace, IsRead};
+ghost use Rattle.race_triage.specs.Known.{is_access, is_head, AreAllNamed, AreKnownIn, AreOnlyNamed, HasBlock, IsLocation};
 
 use crate::places::Places;
 use indexmap::IndexSet;
@@ -21,14 +19,12 @@ pub type Known = IndexSet<(u32, u32), TextKeyed>;
 /// Reads a text that `triage` printed, or a part of one. Returns the pairs of locations of its `race` blocks, as far
 /// as the trace has these locations. Ignores everything else in the text.
 pub fn known_of(alloc: Global, places: &Places, text: &[u8]) -> Result<Known, OutOfMemory>
-    ensures known { IfOk result (λ known. AreKnown places.now.locations.keys text.now known.keys) }
+    ensures known { IfOk result (AreKnownIn places.now text.now) }
     // If these are the locations of a trace, a verdict on the trace is known only if the text names its two
     // locations.
-    ensures named { IfOk result (λ known. (r : Recording) → AreNumbered r (length r.events) places.now.locations.keys places.now.numbers.items
-        → OnlyNamed r places.now.numbers.items text.now known.keys) }
+    ensures named { IfOk result (AreOnlyNamed places.now text.now) }
     // And it is known if the text names them.
-    ensures all_named { IfOk result (λ known. (r : Recording) → AreNumbered r (length r.events) places.now.locations.keys places.now.numbers.items
-        → AllNamed r places.now.numbers.items text.now known.keys) }
+    ensures all_named { IfOk result (AreAllNamed places.now text.now) }
 {
     let mut known = IndexSet::with_hasher(alloc, TextKeyed::of(text));
     let mut block = Block::Nothing;
@@ -133,7 +129,7 @@ fn note(known: &mut Known, places: &Places, told: Option<(&[u8], &[u8])>) -> Res
 // The numbers of the locations in two access lines, the lesser first. Returns None unless the trace has both.
 fn pair_of(places: &Places, one: &[u8], other: &[u8]) -> Result<Option<(u32, u32)>, OutOfMemory>
     ensures some { IfFound result (λ pair. ArePair places.now.locations.keys one.now other.now pair.0 pair.1) }
-    ensures none { IfOk result (λ pair. IfNone pair ((p q : ℕ) → ¬ ArePair places.now.locations.keys one.now other.now p q)) }
+    ensures none { IfOk result (λ pair. IfNone pair (HaveNoPair places.now one.now other.now)) }
 {
     let Some(one) = place_of(places, one)? else {
         return Ok(None);
@@ -146,8 +142,8 @@ fn pair_of(places: &Places, one: &[u8], other: &[u8]) -> Result<Option<(u32, u32
 
 // The number of the location in an access line. Returns None if the trace does not have it.
 fn place_of(places: &Places, line: &[u8]) -> Result<Option<u32>, OutOfMemory>
-    ensures some { IfOk result (λ place. IfSome place (IsPlace places.now.locations.keys line.now)) }
-    ensures none { IfOk result (λ place. IfNone place ((n : ℕ) → ¬ IsPlace places.now.locations.keys line.now n)) }
+    ensures some { IfFound result (IsPlace places.now.locations.keys line.now) }
+    ensures none { IfOk result (λ place. IfNone place (HasNoPlace places.now line.now)) }
 {
     match location_of(line) {
         Some(location) => places.number(location),

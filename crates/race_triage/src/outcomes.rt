@@ -1,5 +1,5 @@
 //! Finds the size of a schedule that shows a pair: its events and its threads.
-ghost use Rattle.std.specs.Prelude.{◌≡◌, ◌≢◌, ◌<◌, ◌≤◌, IfOk, IfSome, None, false, length};
+ghost use Rattle.std.specs.Prelude.{◌≡◌, ◌≢◌, ◌<◌, ◌≤◌, IfOk, false, length};
 ghost use Rattle.event_index.specs.Relations.{IsConflicting};
 ghost use Rattle.must_order.specs.Kinds.{IsKind};
 ghost use Rattle.must_order.specs.declared.kind.Kind.TheVariants.{Candidate as CandidateKind, Open as OpenKind};
@@ -11,7 +11,7 @@ ghost use Rattle.witness_search.specs.declared.trace_order.refusal.InOrderRefusa
 ghost use Rattle.explain_report.specs.declared.verdict.How.TheVariants.{Candidate, Turned};
 ghost use Rattle.explain_report.specs.declared.findings.searching.TheConstants.{BUDGET};
 ghost use Rattle.race_triage.specs.Tables.{AreTables};
-ghost use Rattle.race_triage.specs.Verdicts.{IsFoundBy, IsMissed, IsOpenRace, IsRaceOf};
+ghost use Rattle.race_triage.specs.Verdicts.{IfNoneFound, IsFoundBy, IsMissed, IsOpenRace, IsRaceOf};
 ghost use Rattle.race_triage.specs.declared.verdicts.Outcome.TheVariants.{Race};
 
 use crate::tables::Tables;
@@ -55,8 +55,8 @@ impl Tables<'_> {
         requires conflict { IsConflicting self.now.indexed.now.events first second }
         requires few { left.old ≤ BUDGET }
         requires kind { IsKind self.now.indexed.now first second OpenKind }
-        ensures race { IfOk result (λ found. IfSome found (IsOpenRace self.now.indexed.now first second)) }
-        ensures none { IfOk result (λ found. found ≡ None → IsMissed self.now.indexed.now.events first second left.old left.new) }
+        ensures race { IfFound result (IsOpenRace self.now.indexed.now first second) }
+        ensures none { IfNoneFound result (IsMissed self.now.indexed.now.events first second left.old left.new) }
         ensures found { IfFound result (λ outcome. IsFoundBy self.now.indexed.now.events first second left.old) }
         ensures fewer { left.new ≤ left.old }
     {
@@ -80,8 +80,8 @@ impl Tables<'_> {
         requires few { left.old ≤ BUDGET }
         requires kind { IsKind self.now.indexed.now first second OpenKind }
         requires never { IsNeverShownInOrder self.now.indexed.now.events first second }
-        ensures race { IfOk result (λ found. IfSome found (IsRaceOf self.now.indexed.now first second Turned)) }
-        ensures none { IfOk result (λ found. found ≡ None → IsMissed self.now.indexed.now.events first second left.old left.new) }
+        ensures race { IfFound result (IsRaceOf self.now.indexed.now first second Turned) }
+        ensures none { IfNoneFound result (IsMissed self.now.indexed.now.events first second left.old left.new) }
         ensures found { IfFound result (λ outcome. IsFoundBy self.now.indexed.now.events first second left.old) }
         ensures fewer { left.new ≤ left.old }
     {
@@ -103,10 +103,10 @@ impl Tables<'_> {
     // None if there is no such schedule.
     fn size_in_order(&self, first: u32, second: u32) -> Result<Option<(u32, u32)>, OutOfMemory>
         requires tables { AreTables self.now }
-        ensures size { IfOk result (λ found. IfSome found (IsSizeInOrder self.now.indexed.now.events first second)) }
+        ensures size { IfFound result (IsSizeInOrder self.now.indexed.now.events first second) }
         ensures there { IfFound result (λ size. HasListInOrder self.now.indexed.now.events first second) }
-        ensures never { IfOk result (λ found. found ≡ None → IsNeverShownInOrder self.now.indexed.now.events first second) }
-        ensures none { IfOk result (λ found. found ≡ None → ¬ HasListInOrder self.now.indexed.now.events first second) }
+        ensures never { IfNoneFound result (IsNeverShownInOrder self.now.indexed.now.events first second) }
+        ensures none { IfNoneFound result (¬ HasListInOrder self.now.indexed.now.events first second) }
     {
         match in_order_size(
             self.alloc,

@@ -1,6 +1,7 @@
 //! Numbers the locations of events in the order of their first use.
-ghost use Rattle.std.specs.Prelude.{◌≡◌, ℕ, [], IfNone, IfOk, IfSome, OnOk, length};
-ghost use Rattle.race_triage.specs.Places.{AreFirstUses, AreNumbered, AreNumbers, AreKept, IsSpot, texts_of, with_text};
+ghost use Rattle.std.specs.Prelude.{◌≡◌, [], IfNone, IfOk, OnOk};
+ghost use Rattle.rapid_text.specs.Appended.{IfFound};
+ghost use Rattle.race_triage.specs.Places.{AreFirstUsesOf, AreKept, AreNumbered, AreNumbers, AreSpotsOf, AreTextsWith, HasNoSpot, IsSpot, IsSpotIn, texts_of};
 
 use event_index::Indexed;
 use indexmap::IndexSet;
@@ -24,9 +25,9 @@ impl Places {
     pub fn of(alloc: Global, indexed: &Indexed) -> Result<Places, OutOfMemory>
         ensures numbers { IfOk result (λ places. AreNumbers indexed.now places.numbers.items) }
         // The number of an event is the number of its location.
-        ensures spots { IfOk result (λ places. AreNumbered indexed.now (length indexed.now.events) places.locations.keys places.numbers.items) }
+        ensures spots { IfOk result (AreSpotsOf indexed.now) }
         // Locations have their numbers in the order of their first use.
-        ensures firsts { IfOk result (λ places. AreFirstUses indexed.now (length indexed.now.events) places.locations.keys) }
+        ensures firsts { IfOk result (AreFirstUsesOf indexed.now) }
     {
         let numbers = Vec::with_capacity(alloc, indexed.len() as usize)?;
         let mut places = Places {
@@ -44,8 +45,8 @@ impl Places {
         requires numbered { AreNumbered indexed.now 0 self.old.locations.keys self.old.numbers.items }
         requires empty { texts_of self.old.locations.keys ≡ [] }
         ensures numbers { OnOk result (AreNumbers indexed.now self.new.numbers.items) }
-        ensures spots { OnOk result (AreNumbered indexed.now (length indexed.now.events) self.new.locations.keys self.new.numbers.items) }
-        ensures firsts { OnOk result (AreFirstUses indexed.now (length indexed.now.events) self.new.locations.keys) }
+        ensures spots { OnOk result (AreSpotsOf indexed.now self.new) }
+        ensures firsts { OnOk result (AreFirstUsesOf indexed.now self.new) }
     {
         let _len = indexed.len();
         let raw = indexed.trace().raw();
@@ -58,8 +59,8 @@ impl Places {
 
     /// Returns the number of a location. Returns None if the trace does not have it.
     pub fn number(&self, location: &[u8]) -> Result<Option<u32>, OutOfMemory>
-        ensures some { IfOk result (λ number. IfSome number (IsSpot self.now.locations.keys location.now)) }
-        ensures none { IfOk result (λ number. IfNone number ((n : ℕ) → ¬ IsSpot self.now.locations.keys location.now n)) }
+        ensures some { IfFound result (IsSpotIn self.now location.now) }
+        ensures none { IfOk result (λ number. IfNone number (HasNoSpot self.now location.now)) }
     {
         match self.locations.get_index_of(location) {
             Some(at) => Ok(Some(small(at)?)),
@@ -72,7 +73,7 @@ impl Places {
 fn number_of(locations: &mut Locations, alloc: Global, location: &[u8]) -> Result<u32, OutOfMemory>
     ensures at { IfOk result (λ n. IsSpot locations.new.keys location.now n) }
     ensures kept { OnOk result (AreKept locations.old.keys locations.new.keys) }
-    ensures noted { OnOk result (texts_of locations.new.keys ≡ with_text (texts_of locations.old.keys) location.now) }
+    ensures noted { OnOk result (AreTextsWith locations.old.keys locations.new.keys location.now) }
 {
     if let Some(at) = locations.get_index_of(location) {
         return small(at);

@@ -1,6 +1,7 @@
 //! The tables of a trace that verdicts need.
 use event_index::Indexed;
 use must_order::Must;
+use race_groups::Classes;
 use shb_clocks::Clocks;
 use std::alloc::Global;
 use witness_search::trace_order::Acquires;
@@ -13,5 +14,6 @@ pub(crate) struct Tables<'a> {
     pub(crate) clocks: &'a Clocks,
     pub(crate) must: &'a Must,
     pub(crate) acquires: &'a Acquires,
+    pub(crate) classes: &'a Classes,
     pub(crate) places: &'a [u32],
 }

@@ -1,6 +1,6 @@
 //! Prints the verdicts as text.
-ghost use Rattle.std.specs.Prelude.{◌≡◌, ◌++◌, List, ℕ, OnOk, OnErr};
-ghost use Rattle.race_triage.specs.Texts.{block_texts, kind_lines, left_out_text, place_lines, totals_text, trace_lines, triage_words, IsTriageText};
+ghost use Rattle.std.specs.Prelude.{◌≡◌, OnOk, OnErr};
+ghost use Rattle.race_triage.specs.Texts.{block_texts, kind_lines, left_out_text, place_lines, totals_text, trace_lines, triage_words, AppendsTriage};
 ghost use Rattle.rapid_text.specs.Appended.{Appended};
 
 use crate::blocks::append_block;
@@ -23,8 +23,7 @@ pub fn triage_text(
 ) -> Result<(), OutOfMemory>
     requires must { must.now ≡ indexed.now }
     // The text is exactly the one for the trace, the counts of all verdicts, and the chosen ones.
-    ensures ok { OnOk result ((text : List ℕ) × IsTriageText indexed.now verdicts.now.verdicts.items chosen.now text
-        × (out.new.items ≡ out.old.items ++ text)) }
+    ensures ok { OnOk result (AppendsTriage indexed.now verdicts.now chosen.now out.old out.new) }
     ensures err { OnErr result (out.new.items ≡ out.old.items) }
 {
     let totals = verdicts.totals(indexed);

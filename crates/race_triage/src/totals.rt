@@ -1,9 +1,7 @@
 //! Counts over a whole trace.
-ghost use Rattle.std.specs.Prelude.{◌≡◌, ◌++◌, ◌∷◌, [], nat_lt, cond, List};
-ghost use Rattle.rapid_text.specs.Recording.{Recording};
+ghost use Rattle.std.specs.Prelude.{◌≡◌, nat_lt, cond};
 ghost use Rattle.race_triage.specs.Chosen.{is_of};
-ghost use Rattle.race_triage.specs.Texts.{all_in, pairs_by, AreTotals};
-ghost use Rattle.race_triage.specs.declared.verdicts.Verdict.{Verdict as Found};
+ghost use Rattle.race_triage.specs.Texts.{all_in, pairs_covered, AreTotalsIn, AreTotalsWith};
 
 use crate::chosen::{Part, belongs};
 use crate::verdicts::{Outcome, Verdict, Verdicts};
@@ -40,7 +38,7 @@ pub struct Totals {
 impl Verdicts {
     /// Returns the counts of the whole trace. `indexed` is the trace of these verdicts.
     pub fn totals(&self, indexed: &Indexed) -> Totals
-        ensures { AreTotals indexed.now self.now.verdicts.items result }
+        ensures { AreTotalsIn indexed.now self.now result }
     {
         let mut totals = Totals {
             events: u64::from(indexed.len()),
@@ -65,7 +63,7 @@ impl Verdicts {
 impl Totals {
     // Adds a verdict and its pairs to the counts.
     fn add(&mut self, verdict: &Verdict)
-        ensures { (r : Recording) (vs : List Found) → AreTotals r vs self.old → AreTotals r (vs ++ verdict.now ∷ []) self.new }
+        ensures { AreTotalsWith verdict.now self.old self.new }
     {
         let counts = verdict.row.counts;
         self.candidates = self.candidates.saturating_add(counts.candidates);
@@ -91,7 +89,7 @@ impl Verdict {
     /// Returns the number of pairs of events that the verdict covers. For an apart verdict these are all pairs.
     /// Otherwise they are the candidates, or the open pairs if there is no candidate.
     pub fn pairs(&self) -> u64
-        ensures { result ≡ pairs_by self.now.outcome self.now.row.counts }
+        ensures { result ≡ pairs_covered self.now }
     {
         let counts = self.row.counts;
         match self.outcome {

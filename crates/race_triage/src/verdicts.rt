@@ -1,15 +1,14 @@
 //! Gives a verdict on each pair of locations.
-ghost use Rattle.std.specs.Prelude.{◌≡◌, ℕ, ◌<◌, ◌≤◌, All, Err, IfOk, List, length, slice_index};
-ghost use Rattle.race_groups.specs.Found.{AreTooMany};
-ghost use Rattle.race_triage.specs.Tables.{AreTables};
-ghost use Rattle.race_triage.specs.Places.{AreFirstUses, AreNumbered, AreNumbers};
-ghost use Rattle.race_triage.specs.Texts.{AreTotals};
-ghost use Rattle.race_triage.specs.Totals.{AreTotalsOf};
-ghost use Rattle.race_triage.specs.declared.totals.Totals.{Totals as Sums};
-ghost use Rattle.race_triage.specs.Verdicts.{IsVerdict, IsVerdictOf, AreAllTold, AreOnceTold, AreRising};
+ghost use Rattle.std.specs.Prelude.{◌≡◌, ◌≤◌, All, Err, IfOk, length};
+ghost use Rattle.race_triage.specs.Located.{IsLocated};
+ghost use Rattle.race_triage.specs.Places.{AreFirstUsesOf, AreNumbers, AreSpotsOf};
+ghost use Rattle.race_triage.specs.Tables.{AreTables, AreTooManyIn};
+ghost use Rattle.race_triage.specs.Triaged.{AreAllToldAt, AreAllToldOf, AreCountedOf, AreTooManyAt, AreVerdictsAt, AreVerdictsOf, IsCrowded};
+ghost use Rattle.race_triage.specs.Verdicts.{AreAllToldIn, AreOnceTold, AreRising, AreVerdictsIn, IsVerdictOf};
 
 use crate::found::{Found, found_by_workers};
 use crate::laws::totals_are_of_the_trace;
+use crate::located::Located;
 use crate::places::Places;
 use crate::tables::Tables;
 use crate::watch::Watch;
@@ -20,7 +19,6 @@ use race_groups::Row;
 use rapid_text::OutOfMemory;
 use std::alloc::Global;
 use std::thread::Threads;
-use witness_search::trace_order::Acquires;
 
 /// The most pairs of locations.
 pub const MAX_PLACES: u32 = 1_048_576;
@@ -128,76 +126,72 @@ pub struct Effort {
 }
 
 /// Returns a verdict for each pair of locations with conflicting events. If a pair has open pairs of events and no
-/// candidate, tries the `tries` least open ones. The result is the same for any number of workers. `watch` hears of
-/// each verdict.
+/// candidate, tries the `tries` least open ones. `located` has the locations of the trace. The result is the same for
+/// any number of workers. `watch` hears of each verdict.
 pub fn triage<R: Threads + Sync, W: Watch + Sync>(
     rt: &R,
     alloc: Global,
     analysis: &Analysis<'_>,
+    located: Located,
     effort: Effort,
     watch: &W,
 ) -> Result<Verdicts, TriageRefusal>
+    requires located { IsLocated analysis.now located }
     // Two events have the same number exactly if their locations are equal.
     ensures places { IfOk result (λ found. AreNumbers analysis.now found.places.numbers.items) }
     // The number is that of the event's location.
-    ensures spots { IfOk result (λ found. AreNumbered analysis.now (length analysis.now.events) found.places.locations.keys found.places.numbers.items) }
+    ensures spots { IfOk result (λ found. AreSpotsOf analysis.now found.places) }
     // Locations have their numbers in the order of their first use.
-    ensures firsts { IfOk result (λ found. AreFirstUses analysis.now (length analysis.now.events) found.places.locations.keys) }
+    ensures firsts { IfOk result (λ found. AreFirstUsesOf analysis.now found.places) }
     // The counts are exact. The two events conflict, and the earlier one comes first. A schedule shows the events of
     // a race, and no schedule shows two events of locations that are apart. The verdict names the least pair of its
     // kind. For a race without a candidate it names the first pair for which a schedule was found, among the first
     // `tries` open pairs.
-    ensures verdicts { IfOk result (λ found. All (IsVerdict analysis.now (slice_index found.places.numbers.items) effort.tries effort.apart)
-        found.verdicts.items) }
+    ensures verdicts { IfOk result (AreVerdictsOf analysis.now effort) }
     // Each conflicting pair of events has a verdict on its locations. No two verdicts have the same locations, and
     // there are at most `MAX_PLACES`.
-    ensures complete { IfOk result (λ found. AreAllTold analysis.now.events (slice_index found.places.numbers.items) found.verdicts.items) }
+    ensures complete { IfOk result (AreAllToldOf analysis.now) }
     ensures once { IfOk result (λ found. AreOnceTold found.verdicts.items) }
     ensures few { IfOk result (λ found. length found.verdicts.items ≤ MAX_PLACES) }
     ensures rising { IfOk result (λ found. AreRising found.verdicts.items) }
     // The counts over the verdicts are the counts over the whole trace.
-    ensures totals { IfOk result (λ found. (t : Sums) → AreTotals analysis.now found.verdicts.items t
-        → AreTotalsOf analysis.now (slice_index found.places.numbers.items) t) }
+    ensures totals { IfOk result (AreCountedOf analysis.now) }
     // The call fails only if more than `MAX_PLACES` pairs of locations have conflicting events, or if memory runs
     // out.
-    ensures too_many { result ≡ Err TriageRefusal.TooMany
-        → (numbers : List ℕ) × AreNumbers analysis.now numbers × AreTooMany analysis.now.events (slice_index numbers) MAX_PLACES }
+    ensures too_many { result ≡ Err TriageRefusal.TooMany → IsCrowded analysis.now }
 {
     totals_are_of_the_trace();
-    let indexed = analysis.indexed();
-    let _len = indexed.len();
-    let places = Places::of(alloc, indexed)?;
-    let numbers = places.numbers.as_slice();
-    let verdicts = verdicts_at(rt, alloc, analysis, numbers, effort, watch)?;
+    let _len = analysis.indexed().len();
+    let verdicts = verdicts_at(rt, alloc, analysis, &located, effort, watch)?;
+    let Located { places, .. } = located;
     Ok(Verdicts { verdicts, places })
 }
 
-// The verdicts, given the number of each event's location.
+// The verdicts on these locations.
 fn verdicts_at<R: Threads + Sync, W: Watch + Sync>(
     rt: &R,
     alloc: Global,
     analysis: &Analysis<'_>,
-    places: &[u32],
+    located: &Located,
     effort: Effort,
     watch: &W,
 ) -> Result<Vec<Verdict>, TriageRefusal>
-    requires places { length places.now ≡ length analysis.now.events }
-    ensures verdicts { IfOk result (λ vs. All (IsVerdict analysis.now (slice_index places.now) effort.tries effort.apart) vs.items) }
-    ensures complete { IfOk result (λ vs. AreAllTold analysis.now.events (slice_index places.now) vs.items) }
+    requires located { IsLocated analysis.now located.now }
+    ensures verdicts { IfOk result (λ vs. AreVerdictsAt analysis.now located.now.places effort vs.items) }
+    ensures complete { IfOk result (λ vs. AreAllToldAt analysis.now located.now.places vs.items) }
     ensures once { IfOk result (λ vs. AreOnceTold vs.items) }
     ensures few { IfOk result (λ vs. length vs.items ≤ MAX_PLACES) }
     ensures rising { IfOk result (λ vs. AreRising vs.items) }
-    ensures too_many { result ≡ Err TriageRefusal.TooMany → AreTooMany analysis.now.events (slice_index places.now) MAX_PLACES }
+    ensures too_many { result ≡ Err TriageRefusal.TooMany → AreTooManyAt analysis.now located.now.places }
 {
-    let indexed = analysis.indexed();
-    let acquires = Acquires::new(alloc, indexed)?;
     let tables = Tables {
         alloc,
-        indexed,
+        indexed: analysis.indexed(),
         clocks: analysis.clocks(),
         must: analysis.must(),
-        acquires: &acquires,
-        places,
+        acquires: &located.acquires,
+        classes: &located.classes,
+        places: located.places.numbers.as_slice(),
     };
     verdicts_by(rt, tables, effort, watch)
 }
@@ -210,14 +204,12 @@ fn verdicts_by<R: Threads + Sync, W: Watch + Sync>(
     watch: &W,
 ) -> Result<Vec<Verdict>, TriageRefusal>
     requires tables { AreTables tables }
-    ensures verdicts { IfOk result (λ vs. All
-        (IsVerdict tables.entry.indexed.now (slice_index tables.entry.places.now) effort.tries effort.apart) vs.items) }
-    ensures complete { IfOk result (λ vs. AreAllTold tables.entry.indexed.now.events (slice_index tables.entry.places.now) vs.items) }
+    ensures verdicts { IfOk result (λ vs. AreVerdictsIn tables.entry effort vs.items) }
+    ensures complete { IfOk result (λ vs. AreAllToldIn tables.entry vs.items) }
     ensures once { IfOk result (λ vs. AreOnceTold vs.items) }
     ensures few { IfOk result (λ vs. length vs.items ≤ MAX_PLACES) }
     ensures rising { IfOk result (λ vs. AreRising vs.items) }
-    ensures too_many { result ≡ Err TriageRefusal.TooMany
-        → AreTooMany tables.entry.indexed.now.events (slice_index tables.entry.places.now) MAX_PLACES }
+    ensures too_many { result ≡ Err TriageRefusal.TooMany → AreTooManyIn tables.entry }
 {
     let found = found_by_workers(rt, tables, effort)?;
     match all_verdicts(rt, &found, watch) {
@@ -232,11 +224,11 @@ fn verdicts_by<R: Threads + Sync, W: Watch + Sync>(
 // Sorts the verdicts by their later event, and then by the earlier one.
 fn sort(_found: &Found<'_>, verdicts: &mut Vec<Verdict>)
     requires verdicts { All (IsVerdictOf _found.now) verdicts.old.items }
-    requires complete { AreAllTold _found.now.tables.indexed.now.events (slice_index _found.now.tables.places.now) verdicts.old.items }
+    requires complete { AreAllToldIn _found.now.tables verdicts.old.items }
     requires once { AreOnceTold verdicts.old.items }
     requires few { length verdicts.old.items ≤ MAX_PLACES }
     ensures verdicts { All (IsVerdictOf _found.now) verdicts.new.items }
-    ensures complete { AreAllTold _found.now.tables.indexed.now.events (slice_index _found.now.tables.places.now) verdicts.new.items }
+    ensures complete { AreAllToldIn _found.now.tables verdicts.new.items }
     ensures once { AreOnceTold verdicts.new.items }
     ensures few { length verdicts.new.items ≤ MAX_PLACES }
     ensures rising { AreRising verdicts.new.items }

@@ -1,9 +1,8 @@
 //! Gives the verdicts on all rows, by one thread or by several.
-ghost use Rattle.std.specs.Prelude.{◌≡◌, ℕ, ◌+◌, ◌<◌, ◌%◌, All, Contains, IfOk, OnOk, Result, Some, Vec, length, slice_get, slice_index_or};
+ghost use Rattle.std.specs.Prelude.{◌≡◌, ℕ, ◌+◌, ◌<◌, ◌%◌, All, Contains, IfOk, OnOk, Result, Vec, length, slice_index_or};
 ghost use Rattle.std.specs.declared.alloc.Global.{Global};
 ghost use Rattle.race_groups.specs.Found.{AreOnce};
-ghost use Rattle.race_groups.specs.declared.kinds.Row.{Row as Counted};
-ghost use Rattle.race_triage.specs.Verdicts.{AreOn, ArePartOf, AreWholeOf, IsAddedBy, IsAnswered, IsBelow, IsFoundIn, IsOwn, IsVerdictOf};
+ghost use Rattle.race_triage.specs.Verdicts.{AreOnRowsOf, ArePartOf, AreWholeOf, IsAddedAt, IsAnsweredAt, IsBelow, IsFoundIn, IsOwn, IsPartAnswered, IsVerdictOf};
 ghost use Rattle.race_triage.specs.declared.verdicts.Verdict.{Verdict as Told};
 
 use crate::found::Found;
@@ -81,11 +80,10 @@ fn add_own<W: Watch>(
     requires at { at < length found.now.groups.rows.items }
     requires every { 0 < every }
     requires verdicts { All (IsVerdictOf found.now) verdicts.old.items }
-    requires on { AreOn found.now.groups.rows.items (IsOwn from every at) verdicts.old.items }
+    requires on { AreOnRowsOf found.now (IsOwn from every at) verdicts.old.items }
     ensures verdicts { OnOk result (All (IsVerdictOf found.now) verdicts.new.items) }
-    ensures on { OnOk result (AreOn found.now.groups.rows.items (IsOwn from every (at + 1)) verdicts.new.items) }
-    ensures answered { OnOk result (at % every ≡ from → (d : Counted)
-        → IsAnswered verdicts.new.items (slice_index_or found.now.groups.rows.items at d)) }
+    ensures on { OnOk result (AreOnRowsOf found.now (IsOwn from every (at + 1)) verdicts.new.items) }
+    ensures answered { OnOk result (at % every ≡ from → IsAnsweredAt found.now verdicts.new.items at) }
     ensures kept { OnOk result ((v : Told) → Contains verdicts.old.items v → Contains verdicts.new.items v) }
 {
     if at % every != from {
@@ -100,8 +98,7 @@ fn add_own<W: Watch>(
 fn add(found: &Found<'_>, verdicts: &mut Vec<Verdict>, at: usize) -> Result<(), OutOfMemory>
     requires found { IsFoundIn found.now }
     requires at { at < length found.now.groups.rows.items }
-    ensures { OnOk result ((row : Counted) × (slice_get found.now.groups.rows.items at ≡ Some row)
-        × IsAddedBy found.now row verdicts.old.items verdicts.new.items) }
+    ensures { OnOk result (IsAddedAt found.now at verdicts.old.items verdicts.new.items) }
 {
     let verdict = found.verdict(at)?;
     verdicts.push(verdict)?;
@@ -138,12 +135,11 @@ fn add_part(
 ) -> Result<(), OutOfMemory>
     requires all { All (IsVerdictOf _found.now) all.old.items }
     requires once { AreOnce _found.now.groups.rows.items }
-    requires on { AreOn _found.now.groups.rows.items (IsBelow _every _from) all.old.items }
+    requires on { AreOnRowsOf _found.now (IsBelow _every _from) all.old.items }
     requires part { IfOk part.now (λ vs. ArePartOf _found.now _from _every vs.items) }
     ensures all { OnOk result (All (IsVerdictOf _found.now) all.new.items) }
-    ensures answered { OnOk result ((k : ℕ) (d : Counted) → k < length _found.now.groups.rows.items → k % _every ≡ _from
-        → IsAnswered all.new.items (slice_index_or _found.now.groups.rows.items k d)) }
-    ensures on { OnOk result (AreOn _found.now.groups.rows.items (IsBelow _every (_from + 1)) all.new.items) }
+    ensures answered { OnOk result (IsPartAnswered _found.now _from _every all.new.items) }
+    ensures on { OnOk result (AreOnRowsOf _found.now (IsBelow _every (_from + 1)) all.new.items) }
     ensures kept { OnOk result ((v : Told) → Contains all.old.items v → Contains all.new.items v) }
 {
     match part {

@@ -3,7 +3,6 @@ use Rattle.std.specs.Prelude.{◌≡◌, ◌≤◌, ◌⊎◌, ◌||◌, ℕ, Bo
 use Rattle.std.specs.declared.alloc.Global.{Global}
 use Rattle.std.specs.Io.KnownBytes.{Appends}
 use Rattle.rapid_text.specs.Recording.{Recording}
-use Rattle.race_groups.specs.Found.{AreTooMany}
 use Rattle.triage_report.specs.json.Lines.{IsTriageJson}
 use Rattle.triage_report.specs.lines.Lines.{IsLinesText}
 use Rattle.race_page.specs.Pages.{IsPage, left_of}
@@ -14,6 +13,7 @@ use Rattle.race_triage.specs.Known.{AreKnown}
 use Rattle.race_triage.specs.Places.{AreFirstUses, AreNumbered, AreNumbers}
 use Rattle.race_triage.specs.Texts.{AreTotals, IsTriageText}
 use Rattle.race_triage.specs.Totals.{AreTotalsOf}
+use Rattle.race_triage.specs.Triaged.{IsCrowded}
 use Rattle.race_triage.specs.Verdicts.{IsVerdict, AreAllTold, AreOnceTold, AreRising}
 use Rattle.race_triage.specs.declared.chosen.Chosen.{Chosen}
 use Rattle.race_triage.specs.declared.totals.Totals.{Totals}
@@ -99,10 +99,6 @@ pub record IsListing (r : Recording) (given : Option (List ℕ)) (asked : Asked)
   pub known_is : AreGiven r keys numbers given (entries_of asked) verdicts known
   pub found : AreVerdicts r numbers asked.tries asked.apart verdicts
   pub told : IsToldIn r numbers known asked verdicts races text
-
--- more pairs of places than there may be have a conflicting pair of events
-abbrev pub IsCrowded : Recording → Type 0
-IsCrowded r = (numbers : List ℕ) × AreNumbers r numbers × AreTooMany r.events (slice_index numbers) MAX_PLACES
 
 -- the text of known races was read, where there is one; or was not, for this reason
 abbrev pub IsKnownRead : {X : Type 0} → (X → Option (List ℕ)) → Option X → Option (Vec ℕ Global) → Type 0

@@ -1,10 +1,14 @@
 -- Why a triage file is not taken, and what is printed of that. All notions here are this project's own.
-use Rattle.std.specs.Prelude.{ℕ, List, [], ◌∷◌, ◌++◌, Option, Err, IfSome, codes, decimal, ⊤}
+use Rattle.std.specs.Prelude.{ℕ, List, [], ◌∷◌, ◌++◌, Option, Err, IfSome, String, codes, decimal, ⊤}
+use Rattle.std.specs.BTreeMap.{BTreeMap}
 use Rattle.std.specs.List.{concat}
+use Rattle.std.specs.declared.alloc.Global.{Global}
 use Rattle.client_scripts.specs.FaultTexts.{fault_words}
 use Rattle.client_scripts.specs.Steps.{IsInput}
 use Rattle.client_scripts.specs.declared.fault.ReplayFault.TheVariants.{OutOfMemory as NoMemory}
-use Rattle.triage_file.specs.Files.{IsRefusal}
+use Rattle.toml.specs.View.{table_view}
+use Rattle.toml.specs.declared.value.Value.{Value}
+use Rattle.triage_file.specs.Files.{IsRefusal, IsTaken}
 use Rattle.triage_file.specs.declared.files.Refusal.{Refusal}
 use Rattle.triage_file.specs.declared.files.Refusal.TheVariants.{Toml, Top, Entry, Expired, OutOfMemory}
 use Rattle.triage_file.specs.declared.mistakes.Mistake.{Mistake}
@@ -32,6 +36,10 @@ abbrev pub IsTriagedFault : Option (List ℕ) → ℕ → TriagedFault → Type 
 IsTriagedFault rest today (Replay fault) = IsInput 4 rest (Err fault)
 IsTriagedFault rest today (File refusal) = IfSome rest (λ told. IsRefusal told today refusal)
 
+-- the table is that of the whole file
+abbrev pub IsTableOf : Option (List ℕ) → ℕ → BTreeMap (String Global) Value → Type 0
+IsTableOf rest today table = IfSome rest (λ told. IsTaken told today (table_view table))
+
 -- what is wrong with an entry
 abbrev pub mistake_words : Mistake → List ℕ
 mistake_words NoTable = codes "is no table"
@@ -49,11 +57,16 @@ mistake_words Expires = codes "has an `expires` other than a date"
 abbrev pub spot_words : Spot → List ℕ
 spot_words spot = concat (codes "triage file line " ∷ decimal spot.line ∷ codes " column " ∷ decimal spot.column ∷ codes ": " ∷ [])
 
+-- the same with the number of an entry, and what is wrong with it
+abbrev pub wrong_entry_words : Spot → ℕ → List ℕ → List ℕ
+wrong_entry_words spot number words =
+    spot_words spot ++ concat (codes "entry " ∷ decimal number ∷ codes " " ∷ words ∷ [])
+
 abbrev pub refusal_words : Refusal → List ℕ
 refusal_words (Toml spot) = spot_words spot ++ codes "not TOML"
 refusal_words (Top spot) = spot_words spot ++ codes "not a `[[race]]` entry"
-refusal_words (Entry spot number mistake) = spot_words spot ++ concat (codes "entry " ∷ decimal number ∷ codes " " ∷ mistake_words mistake ∷ [])
-refusal_words (Expired spot number) = spot_words spot ++ concat (codes "entry " ∷ decimal number ∷ codes " " ∷ codes "has expired" ∷ [])
+refusal_words (Entry spot number mistake) = wrong_entry_words spot number (mistake_words mistake)
+refusal_words (Expired spot number) = wrong_entry_words spot number (codes "has expired")
 refusal_words OutOfMemory = fault_words NoMemory
 
 -- what is printed of it, without a line end

@@ -1,9 +1,8 @@
 //! Which races are known: those that a text of known races lists, and those that a triage file leaves out.
-ghost use Rattle.std.specs.Prelude.{◌≡◌, ◌||◌, Some, IfOk, option_map};
+ghost use Rattle.std.specs.Prelude.{◌≡◌, Some, IfOk};
 ghost use Rattle.race_triage.specs.Chosen.{is_known, known_places};
 ghost use Rattle.race_triage.specs.declared.verdicts.Verdict.{Verdict as Told};
-ghost use Rattle.triage_file.specs.Matching.{is_left_out};
-ghost use Rattle.calls.specs.triage.Answers.{AreGiven, AreKnownBy, IsGiven};
+ghost use Rattle.calls.specs.triage.Listings.{AreGivenBy, AreKnownMore, AreKnownPlus, AreKnownWith, IsGivenIn};
 
 use event_index::Indexed;
 use race_triage::{Known, Places, Verdicts, known_of};
@@ -17,7 +16,7 @@ fn known_in(
     places: &Places,
     listed: &Option<Vec<u8>>,
 ) -> Result<Option<Known>, OutOfMemory>
-    ensures { IfOk result (λ known. IsGiven places.now.locations.keys (option_map (λ v. v.items) listed.now) (known_places known)) }
+    ensures { IfOk result (IsGivenIn places.now listed.now) }
 {
     match listed {
         Some(text) => Ok(Some(known_of(alloc, places, text.as_slice())?)),
@@ -34,8 +33,7 @@ pub(crate) fn known_by(
     listed: &Option<Vec<u8>>,
     triage: Option<&[Value]>,
 ) -> Result<Option<Known>, OutOfMemory>
-    ensures { IfOk result (λ known. AreGiven indexed.now found.now.places.locations.keys found.now.places.numbers.items
-        (option_map (λ v. v.items) listed.now) (option_map (λ t. t.now) triage.entry) found.now.verdicts.items (known_places known)) }
+    ensures { IfOk result (AreGivenBy indexed.now found.now listed.now triage.entry) }
 {
     match known_in(alloc, &found.places, listed) {
         Ok(known) => known_with(alloc, indexed, found, known, triage),
@@ -51,8 +49,7 @@ fn known_with(
     known: Option<Known>,
     triage: Option<&[Value]>,
 ) -> Result<Option<Known>, OutOfMemory>
-    ensures { IfOk result (λ all. AreKnownBy indexed.now found.now.places.numbers.items (option_map (λ t. t.now) triage.entry) found.now.verdicts.items
-        (known_places known) (known_places all)) }
+    ensures { IfOk result (AreKnownWith indexed.now found.now triage.entry known) }
 {
     match triage {
         Some(entries) => known_plus(alloc, indexed, found, known, entries),
@@ -68,8 +65,7 @@ fn known_plus(
     known: Option<Known>,
     entries: &[Value],
 ) -> Result<Option<Known>, OutOfMemory>
-    ensures { IfOk result (λ all. AreKnownBy indexed.now found.now.places.numbers.items (Some entries.now) found.now.verdicts.items
-        (known_places known) (known_places all)) }
+    ensures { IfOk result (AreKnownPlus indexed.now found.now entries.now known) }
 {
     let keyed = *found.places.locations.hasher();
     match known_more(indexed, found, or_nothing(alloc, known, keyed), entries) {
@@ -95,8 +91,7 @@ fn known_more(
     mut known: Known,
     entries: &[Value],
 ) -> Result<Known, OutOfMemory>
-    ensures { IfOk result (λ more. (v : Told) → is_known (Some more.keys) v
-        ≡ (is_known (Some known.keys) v || is_left_out indexed.now found.now.places.numbers.items entries.now found.now.verdicts.items v)) }
+    ensures { IfOk result (AreKnownMore indexed.now found.now entries.now known) }
 {
     let numbers = found.places.numbers.as_slice();
     match add_triaged(

@@ -1,10 +1,10 @@
 //! Lists the races of a trace by pairs of locations: reads the trace, finds the verdicts, makes the text, and writes
 //! it.
-ghost use Rattle.std.specs.Prelude.{◌≡◌, ◌≢◌, ℕ, List, None, Err, IfErr, IfOk, IfSome, option_map, true, false};
+ghost use Rattle.std.specs.Prelude.{◌≡◌, ◌≢◌, None, Err, IfErr, IfOk, IfSome, true, false};
 ghost use Rattle.client_scripts.specs.declared.fault.ReadCause.TheVariants.{Device};
 ghost use Rattle.client_scripts.specs.declared.fault.ReplayFault.TheVariants.{Read, Write};
-ghost use Rattle.client_scripts.specs.Loading.{IsTraceOf};
-ghost use Rattle.calls.specs.triage.Answers.{IsKnownRead, IsKnownUnread, IsTriaged, IsWritten};
+ghost use Rattle.calls.specs.triage.Answers.{IsKnownRead, IsKnownUnread};
+ghost use Rattle.calls.specs.triage.Listings.{IsReportWritten, IsTriagedFrom, IsTriagedOn};
 ghost use Rattle.calls.specs.declared.triage.fault.TriageFault.TheVariants.{Replay};
 
 use crate::triage::asked::{Asked, Crew, Hears};
@@ -36,10 +36,7 @@ pub fn triage<R: Threads + Sync, S: Source, L: Source + Drop, K: Sink, W: Watch 
     requires writer { K.has_failed writer.old ≡ false }
     // The report comes from a text of the trace and a text of known races. If the types of the readers show their
     // bytes, they are those texts. Exactly the pairs of locations that the second text names are known.
-    ensures triaged { (bytes listed : List ℕ)
-        × IfSome (S.rest reader.old) (λ told. bytes ≡ told)
-        × IfSome known (λ k. IfSome (L.rest k) (λ told. listed ≡ told))
-        × IsTriaged bytes listed known asked.entry (K.taken writer.old) (K.taken writer.new) result }
+    ensures triaged { IsTriagedFrom (S.rest reader.old) L.rest known asked.entry (K.taken writer.old) (K.taken writer.new) result }
     // The fault is a failed write exactly if a write failed.
     ensures write { result ≡ Err (Replay Write) → K.has_failed writer.new ≡ true }
     ensures write_failed { K.has_failed writer.new ≡ true → result ≡ Err (Replay Write) }
@@ -69,9 +66,7 @@ pub fn triage_on<R: Threads + Sync, L: Source + Drop, K: Sink, W: Watch + Hears 
 ) -> Result<u64, TriageFault>
     requires known { IfSome known (λ k. L.has_failed k ≡ false) }
     requires writer { K.has_failed writer.old ≡ false }
-    ensures triaged { (bytes : List ℕ) → IsTraceOf bytes indexed.now → (listed : List ℕ)
-        × IfSome known (λ k. IfSome (L.rest k) (λ told. listed ≡ told))
-        × IsTriaged bytes listed known asked.entry (K.taken writer.old) (K.taken writer.new) result }
+    ensures triaged { IsTriagedOn indexed.now L.rest known asked.entry (K.taken writer.old) (K.taken writer.new) result }
     ensures write { result ≡ Err (Replay Write) → K.has_failed writer.new ≡ true }
     ensures write_failed { K.has_failed writer.new ≡ true → result ≡ Err (Replay Write) }
     ensures device { result ≢ Err (Replay (Read 1 Device)) }
@@ -102,7 +97,7 @@ fn write_listing<R: Threads + Sync, K: Sink, W: Watch + Hears + Sync>(
     writer: &mut K,
 ) -> Result<u64, TriageFault>
     requires { K.has_failed writer.old ≡ false }
-    ensures written { IsWritten indexed.now (option_map (λ v. v.items) listed.now) asked.entry (K.taken writer.old) (K.taken writer.new) result }
+    ensures written { IsReportWritten indexed.now listed.now asked.entry (K.taken writer.old) (K.taken writer.new) result }
     ensures failed { K.has_failed writer.new ≡ true → result ≡ Err (Replay Write) }
     ensures write { result ≡ Err (Replay Write) → K.has_failed writer.new ≡ true }
 {

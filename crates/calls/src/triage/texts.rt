@@ -1,20 +1,21 @@
 //! The text that reports the verdicts on the pairs of locations of a trace.
-ghost use Rattle.std.specs.Prelude.{◌≡◌, ◌++◌, ℕ, List, IfErr, IfOk, OnOk, length, option_map};
-ghost use Rattle.race_triage.specs.Chosen.{known_places, AreChosen};
-ghost use Rattle.race_triage.specs.Places.{AreFirstUses, AreNumbered};
-ghost use Rattle.triage_file.specs.Writing.{IsTriageFile};
-ghost use Rattle.calls.specs.triage.Answers.{hide_of, only_of, AreVerdicts, IsListing, IsTextOf, IsToldIn, IsUntold};
+ghost use Rattle.std.specs.Prelude.{IfErr, IfOk, OnOk};
+ghost use Rattle.race_triage.specs.Located.{IsLocated};
+ghost use Rattle.race_triage.specs.Places.{AreFirstUsesOf, AreSpotsOf};
+ghost use Rattle.calls.specs.triage.Answers.{IsUntold};
+ghost use Rattle.calls.specs.triage.Listings.{AppendsChosen, AppendsEntries, AppendsTold, AreChosenFor, AreVerdictsFor, IsReportOf};
 
 use crate::triage::asked::{Asked, Crew, Form, Hears};
 use crate::triage::fault::TriageFault;
 use crate::triage::known::known_by;
+use crate::triage::tables::tables_of;
 use client_scripts::ReplayFault;
 use event_index::Indexed;
 use must_order::Analysis;
 use race_page::page_text;
 use race_triage::{
-    Chosen, Effort, Known, TriageRefusal, Verdicts, Watch, chosen_of, triage as verdicts_of,
-    triage_text,
+    Chosen, Effort, Known, Located, TriageRefusal, Verdicts, Watch, chosen_of,
+    triage as verdicts_of, triage_text,
 };
 use rapid_text::OutOfMemory;
 use std::alloc::Global;
@@ -32,27 +33,29 @@ pub(crate) fn text_of<R: Threads + Sync, W: Watch + Hears + Sync>(
     listed: &Option<Vec<u8>>,
     asked: Asked<'_>,
 ) -> Result<(Vec<u8>, u64), TriageFault>
-    ensures listing { IfOk result (λ made. IsListing indexed.now (option_map (λ v. v.items) listed.now) asked.entry made.1 made.0.items) }
+    ensures listing { IfOk result (IsReportOf indexed.now listed.now asked.entry) }
     ensures fault { IfErr result (IsUntold indexed.now) }
 {
-    match Analysis::new(alloc, indexed) {
-        Ok(analysis) => text_by(crew, alloc, &analysis, listed, asked),
-        Err(_) => Err(TriageFault::Replay(ReplayFault::OutOfMemory)),
+    match tables_of(crew.threads, alloc, indexed, asked.workers) {
+        Ok((analysis, located)) => text_by(crew, alloc, &analysis, located, listed, asked),
+        Err(refused) => Err(TriageFault::from(refused)),
     }
 }
 
-/// The same, by the orders of the trace.
+/// The same, by the orders and the locations of the trace.
 fn text_by<R: Threads + Sync, W: Watch + Hears + Sync>(
     crew: &Crew<'_, R, W>,
     alloc: Global,
     analysis: &Analysis<'_>,
+    located: Located,
     listed: &Option<Vec<u8>>,
     asked: Asked<'_>,
 ) -> Result<(Vec<u8>, u64), TriageFault>
-    ensures listing { IfOk result (λ made. IsListing analysis.now (option_map (λ v. v.items) listed.now) asked.entry made.1 made.0.items) }
+    requires located { IsLocated analysis.now located }
+    ensures listing { IfOk result (IsReportOf analysis.now listed.now asked.entry) }
     ensures fault { IfErr result (IsUntold analysis.now) }
 {
-    match found_of(crew, alloc, analysis, asked) {
+    match found_of(crew, alloc, analysis, located, asked) {
         Ok(found) => {
             tell_met(crew.watch, analysis.indexed(), &found, asked.triage);
             text_of_found(alloc, analysis, &found, listed, asked)
@@ -82,10 +85,10 @@ fn text_of_found(
     listed: &Option<Vec<u8>>,
     asked: Asked<'_>,
 ) -> Result<(Vec<u8>, u64), TriageFault>
-    requires found { AreVerdicts analysis.now found.now.places.numbers.items asked.tries asked.apart found.now.verdicts.items }
-    requires numbered { AreNumbered analysis.now (length analysis.now.events) found.now.places.locations.keys found.now.places.numbers.items }
-    requires firsts { AreFirstUses analysis.now (length analysis.now.events) found.now.places.locations.keys }
-    ensures listing { IfOk result (λ made. IsListing analysis.now (option_map (λ v. v.items) listed.now) asked.entry made.1 made.0.items) }
+    requires found { AreVerdictsFor analysis.now asked found.now }
+    requires numbered { AreSpotsOf analysis.now found.now.places }
+    requires firsts { AreFirstUsesOf analysis.now found.now.places }
+    ensures listing { IfOk result (IsReportOf analysis.now listed.now asked.entry) }
     ensures fault { IfErr result (IsUntold analysis.now) }
 {
     match told(alloc, analysis, found, listed, asked) {
@@ -102,10 +105,10 @@ fn told(
     listed: &Option<Vec<u8>>,
     asked: Asked<'_>,
 ) -> Result<(Vec<u8>, u64), OutOfMemory>
-    requires found { AreVerdicts analysis.now found.now.places.numbers.items asked.tries asked.apart found.now.verdicts.items }
-    requires numbered { AreNumbered analysis.now (length analysis.now.events) found.now.places.locations.keys found.now.places.numbers.items }
-    requires firsts { AreFirstUses analysis.now (length analysis.now.events) found.now.places.locations.keys }
-    ensures { IfOk result (λ made. IsListing analysis.now (option_map (λ v. v.items) listed.now) asked.entry made.1 made.0.items) }
+    requires found { AreVerdictsFor analysis.now asked found.now }
+    requires numbered { AreSpotsOf analysis.now found.now.places }
+    requires firsts { AreFirstUsesOf analysis.now found.now.places }
+    ensures { IfOk result (IsReportOf analysis.now listed.now asked.entry) }
 {
     let known = known_by(alloc, analysis.indexed(), found, listed, asked.triage)?;
     let mut text = Vec::new(alloc);
@@ -121,8 +124,7 @@ fn append_told(
     asked: Asked<'_>,
     out: &mut Vec<u8>,
 ) -> Result<u64, OutOfMemory>
-    ensures { IfOk result (λ races. (text : List ℕ) × (out.new.items ≡ out.old.items ++ text)
-        × IsToldIn analysis.now found.now.places.numbers.items (known_places known.now) asked.entry found.now.verdicts.items races text) }
+    ensures { IfOk result (AppendsTold analysis.now found.now known.now asked.entry out.old out.new) }
 {
     let chosen = chosen(analysis.indexed(), found, known, asked, out)?;
     append_chosen(analysis, found, &chosen, asked, out)?;
@@ -137,9 +139,7 @@ fn append_chosen(
     asked: Asked<'_>,
     out: &mut Vec<u8>,
 ) -> Result<(), OutOfMemory>
-    ensures { OnOk result ((text : List ℕ)
-        × IsTextOf asked.entry.form analysis.now found.now.places.numbers.items asked.entry.apart found.now.verdicts.items chosen.now text
-        × (out.new.items ≡ out.old.items ++ text)) }
+    ensures { OnOk result (AppendsChosen analysis.now found.now chosen.now asked.entry out.old out.new) }
 {
     match asked.form {
         Form::Text => triage_text(analysis.indexed(), analysis.must(), found, chosen, out),
@@ -158,8 +158,7 @@ fn append_entries(
     chosen: &Chosen,
     out: &mut Vec<u8>,
 ) -> Result<(), OutOfMemory>
-    ensures { OnOk result ((text : List ℕ) × IsTriageFile indexed.now found.now.places.numbers.items chosen.now text
-        × (out.new.items ≡ out.old.items ++ text)) }
+    ensures { OnOk result (AppendsEntries indexed.now found.now chosen.now out.old out.new) }
 {
     triage_entries(indexed, found.places.numbers.as_slice(), chosen, out)
 }
@@ -172,8 +171,7 @@ fn chosen(
     asked: Asked<'_>,
     out: &Vec<u8>,
 ) -> Result<Chosen, OutOfMemory>
-    ensures { IfOk result (AreChosen indexed.now (known_places known.now) (only_of asked.entry) (hide_of asked.entry) asked.entry.apart
-        found.now.verdicts.items) }
+    ensures { IfOk result (AreChosenFor indexed.now found.now known.now asked.entry) }
 {
     chosen_of(
         *out.allocator(),
@@ -190,11 +188,13 @@ fn found_of<R: Threads + Sync, W: Watch + Hears + Sync>(
     crew: &Crew<'_, R, W>,
     alloc: Global,
     analysis: &Analysis<'_>,
+    located: Located,
     asked: Asked<'_>,
 ) -> Result<Verdicts, TriageFault>
-    ensures found { IfOk result (λ found. AreVerdicts analysis.now found.places.numbers.items asked.entry.tries asked.entry.apart found.verdicts.items) }
-    ensures numbered { IfOk result (λ found. AreNumbered analysis.now (length analysis.now.events) found.places.locations.keys found.places.numbers.items) }
-    ensures firsts { IfOk result (λ found. AreFirstUses analysis.now (length analysis.now.events) found.places.locations.keys) }
+    requires located { IsLocated analysis.now located }
+    ensures found { IfOk result (AreVerdictsFor analysis.now asked.entry) }
+    ensures numbered { IfOk result (λ found. AreSpotsOf analysis.now found.places) }
+    ensures firsts { IfOk result (λ found. AreFirstUsesOf analysis.now found.places) }
     ensures fault { IfErr result (IsUntold analysis.now) }
 {
     let effort = Effort {
@@ -202,7 +202,7 @@ fn found_of<R: Threads + Sync, W: Watch + Hears + Sync>(
         apart: asked.apart,
         workers: asked.workers,
     };
-    match verdicts_of(crew.threads, alloc, analysis, effort, crew.watch) {
+    match verdicts_of(crew.threads, alloc, analysis, located, effort, crew.watch) {
         Ok(found) => Ok(found),
         Err(TriageRefusal::TooMany) => Err(TriageFault::TooMany),
         Err(TriageRefusal::OutOfMemory) => Err(TriageFault::Replay(ReplayFault::OutOfMemory)),

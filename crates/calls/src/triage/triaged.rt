@@ -1,13 +1,12 @@
 //! Reads a triage file, and makes the text of the fault if it is refused.
-ghost use Rattle.std.specs.Prelude.{◌≡◌, ◌++◌, ◌∷◌, [], codes, decimal, Err, IfErr, IfOk, IfSome, OnErr, false, true};
-ghost use Rattle.std.specs.List.{concat};
+ghost use Rattle.std.specs.Prelude.{◌≡◌, Err, IfErr, IfOk, OnErr, false, true};
 ghost use Rattle.rapid_text.specs.Appended.{Appended};
 ghost use Rattle.toml.specs.View.{table_view};
 ghost use Rattle.client_scripts.specs.declared.fault.ReadCause.TheVariants.{Device};
 ghost use Rattle.client_scripts.specs.declared.fault.ReplayFault.TheVariants.{Read};
 ghost use Rattle.triage_file.specs.Files.{IsTaken};
 ghost use Rattle.calls.specs.declared.triage.triaged.TriagedFault.TheVariants.{Replay};
-ghost use Rattle.calls.specs.triage.Triaged.{fault_by, mistake_words, refusal_words, spot_words, triaged_fault_words, IsTriagedFault, IsTriagedTextFault};
+ghost use Rattle.calls.specs.triage.Triaged.{fault_by, mistake_words, refusal_words, spot_words, triaged_fault_words, wrong_entry_words, IsTableOf, IsTriagedFault, IsTriagedTextFault};
 
 use client_scripts::{ReplayFault, Source, fault_text, read_input};
 use rapid_text::OutOfMemory;
@@ -35,7 +34,7 @@ pub fn read_triaged<S: Source>(
     today: u32,
 ) -> Result<Table, TriagedFault>
     requires { S.has_failed reader.old ≡ false }
-    ensures ok { IfOk result (λ table. IfSome (S.rest reader.old) (λ told. IsTaken told today (table_view table))) }
+    ensures ok { IfOk result (IsTableOf (S.rest reader.old) today) }
     ensures err { IfErr result (IsTriagedFault (S.rest reader.old) today) }
     ensures device { result ≡ Err (Replay (Read 4 Device)) → S.has_failed reader.new ≡ true }
     ensures failed { S.has_failed reader.new ≡ true → result ≡ Err (Replay (Read 4 Device)) }
@@ -103,7 +102,7 @@ fn append_spot(spot: Spot, out: &mut Vec<u8>) -> Result<(), OutOfMemory>
 
 /// Appends the spot and the number of a refused entry, and what is wrong with it.
 fn append_entry(spot: Spot, number: u64, words: &[u8], out: &mut Vec<u8>) -> Result<(), OutOfMemory>
-    ensures { Appended result out.old out.new (spot_words spot ++ concat (codes "entry " ∷ decimal number ∷ codes " " ∷ words.now ∷ [])) }
+    ensures { Appended result out.old out.new (wrong_entry_words spot number words.now) }
 {
     append_spot(spot, out)?;
     append_pieces(

@@ -4,7 +4,7 @@ ghost use Rattle.race_triage.specs.declared.verdicts.TriageRefusal.TheVariants.{
 ghost use Rattle.outside.specs.triage.Decided.{AreDecided, IsNeverShownIfApart, IsShownIfRace};
 
 use must_order::Analysis;
-use race_triage::{Effort, MAX_TRIES, Silent, TriageRefusal, Verdicts, triage};
+use race_triage::{Effort, Located, MAX_TRIES, Silent, TriageRefusal, Verdicts, triage};
 use std::alloc::Global;
 use std::thread::Threads;
 
@@ -27,5 +27,6 @@ pub fn decide<R: Threads + Sync>(
         apart: true,
         workers: 0,
     };
-    triage(rt, alloc, analysis, effort, &Silent)
+    let located = Located::of(alloc, analysis.indexed())?;
+    triage(rt, alloc, analysis, located, effort, &Silent)
 }

@@ -1,7 +1,7 @@
 //! Splits cells into those that stay and the pairs of locations that are left out.
-ghost use Rattle.std.specs.Prelude.{◌≡◌, ◌<◌, ◌&&◌, cond, false, true, length, None, [], ◌∷◌, IfOk};
+ghost use Rattle.std.specs.Prelude.{◌≡◌, ◌<◌, ◌&&◌, cond, true, length, [], ◌∷◌, IfOk};
 ghost use Rattle.calls.specs.triage.LeavingListed.{is_listed_by};
-ghost use Rattle.calls.specs.triage.LeavingSplitting.{drops_race, drops_first, is_out, leaving, staying};
+ghost use Rattle.calls.specs.triage.LeavingSplitting.{drops_known, drops_first, is_out, HasGone, HasStaying};
 ghost use Rattle.rapid_text.specs.Appended.{Appended};
 
 use crate::triage::leaving::entries::is_decided;
@@ -49,7 +49,7 @@ fn drops_race(
     cell: &Cell<'_>,
     cells: &[Cell<'_>],
 ) -> Result<bool, OutOfMemory>
-    ensures { IfOk result (λ out. out ≡ drops_race (is_listed_by listed.entry) rows.now entries.now cell.now cells.now) }
+    ensures { IfOk result (λ is. is ≡ drops_known rows.now listed.entry entries.now cell.now cells.now) }
 {
     if cell.rank != 0 {
         return Ok(false);
@@ -100,8 +100,8 @@ pub(crate) fn split<'a>(
     cells: &[Cell<'a>],
     test: Test<'_>,
 ) -> Result<Parted<'a>, OutOfMemory>
-    ensures stay { IfOk result (λ made. made.stay.items ≡ staying (drops_first rows.now test.entry) None false cells.now) }
-    ensures gone { IfOk result (λ made. made.gone.items ≡ leaving (drops_first rows.now test.entry) None cells.now) }
+    ensures stay { IfOk result (HasStaying rows.now test.entry cells.now) }
+    ensures gone { IfOk result (HasGone rows.now test.entry cells.now) }
 {
     let mut stay = Vec::new(alloc);
     let mut gone = Vec::new(alloc);

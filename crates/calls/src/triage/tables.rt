@@ -1,0 +1,53 @@
+//! The orders of a trace, and its locations with the classes of its accesses.
+ghost use Rattle.std.specs.Prelude.{IfOk};
+ghost use Rattle.calls.specs.triage.Listings.{AreTablesOf};
+
+use event_index::Indexed;
+use must_order::Analysis;
+use race_triage::Located;
+use rapid_text::OutOfMemory;
+use std::alloc::Global;
+use std::thread;
+use std::thread::Threads;
+
+/// Computes the orders and the locations of the trace. If there are two workers or more, two threads do it.
+pub(crate) fn tables_of<'a, R: Threads>(
+    rt: &R,
+    alloc: Global,
+    indexed: &'a Indexed,
+    workers: u32,
+) -> Result<(Analysis<'a>, Located), OutOfMemory>
+    ensures { IfOk result (AreTablesOf indexed.now) }
+{
+    if workers < 2 {
+        tables_in_turn(alloc, indexed)
+    } else {
+        tables_at_once(rt, alloc, indexed)
+    }
+}
+
+/// Computes the orders, and then the locations.
+fn tables_in_turn(alloc: Global, indexed: &Indexed) -> Result<(Analysis<'_>, Located), OutOfMemory>
+    ensures { IfOk result (AreTablesOf indexed.now) }
+{
+    match Analysis::new(alloc, indexed) {
+        Ok(analysis) => Ok((analysis, Located::of(alloc, indexed)?)),
+        Err(refused) => Err(refused),
+    }
+}
+
+/// Computes the locations in another thread, and the orders in this one.
+fn tables_at_once<'a, R: Threads>(
+    rt: &R,
+    alloc: Global,
+    indexed: &'a Indexed,
+) -> Result<(Analysis<'a>, Located), OutOfMemory>
+    ensures { IfOk result (AreTablesOf indexed.now) }
+{
+    let (located, analysis) = thread::join(
+        rt,
+        || Located::of(alloc, indexed),
+        || Analysis::new(alloc, indexed),
+    );
+    Ok((analysis?, located?))
+}
