@@ -36,16 +36,20 @@ opening_text rank = concat (codes "<section>\n<h2>" ∷ heading_of rank ∷ code
 unfoldable pub section_text : ℕ → ℕ → List Pair → List ℕ
 section_text rank parts kept = opening_text rank ++ kept_text parts kept ++ codes "</section>\n"
 
+-- the section of the pairs that are of this rank
+abbrev pub rank_section : ℕ → ℕ → List Pair → List ℕ
+rank_section rank parts ps = section_text rank parts (filter (has_rank rank) ps)
+
 -- the beginning of the page, and these races
 unfoldable pub lead_text : ℕ → List Pair → LeftOut → List ℕ
 lead_text parts races left = merged_begin (length races) parts left ++ section_text 0 parts races
 
 -- what is apart, if that is asked for
 abbrev pub apart_section : Bool → ℕ → List Pair → List ℕ
-apart_section true parts ps = section_text 2 parts (filter (has_rank 2) ps)
+apart_section true parts ps = rank_section 2 parts ps
 apart_section false parts ps = []
 
 -- The page of so many parts with these pairs. Its first line says what was left out.
 abbrev pub merged_text : ℕ → List Pair → Bool → LeftOut → List ℕ
 merged_text parts ps apart left =
-    lead_text parts (filter (has_rank 0) ps) left ++ section_text 1 parts (filter (has_rank 1) ps) ++ apart_section apart parts ps ++ END.now
+    lead_text parts (filter (has_rank 0) ps) left ++ rank_section 1 parts ps ++ apart_section apart parts ps ++ END.now

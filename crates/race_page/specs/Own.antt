@@ -80,6 +80,11 @@ seen_text Matters = codes "<span class=\"seen matters\">order matters</span> "
 seen_text Same = codes "<span class=\"seen\">same in both orders</span> "
 seen_text Unknown = codes "<span class=\"seen\">order not known</span> "
 
+-- how a row begins, up to the word beside it
+abbrev pub row_head : Shown → List ℕ
+row_head shown =
+    row_begin shown.sort ++ decimal shown.first ++ codes "-" ++ decimal shown.second ++ codes "\">\n<summary>" ++ seen_text shown.seen
+
 -- the row in which a text stands
 abbrev pub row_text : Shown → List ℕ → List ℕ
 row_text shown text =

@@ -1,5 +1,6 @@
 -- What a page is made of. `r` is the recording of its trace.
-use Rattle.std.specs.Prelude.{◌≡◌, ℕ, List, [], ◌∷◌, ◌++◌, decimal}
+use Rattle.std.specs.Prelude.{◌≡◌, ℕ, Bool, List, [], ◌∷◌, ◌++◌, decimal, Result, OnOk, Vec}
+use Rattle.std.specs.declared.alloc.Global.{Global}
 use Rattle.markup.specs.Escaped.{escaped}
 use Rattle.rapid_text.specs.Recording.{Recording}
 use Rattle.schedule.specs.Reordering.{IsCorrectReordering}
@@ -9,9 +10,12 @@ use Rattle.race_triage.specs.Texts.{AreTotals}
 use Rattle.race_triage.specs.declared.chosen.Chosen.{Chosen}
 use Rattle.race_triage.specs.declared.totals.Totals.{Totals}
 use Rattle.race_triage.specs.declared.verdicts.Verdict.{Verdict}
+use Rattle.race_triage.specs.declared.verdicts.Verdicts.{Verdicts}
 use Rattle.race_page.specs.Counts.{counts_text}
 use Rattle.race_page.specs.Heads.{IsFileOf, page_begin}
 use Rattle.race_page.specs.Own.{begin_text, end_text, part_text, row_text}
+use Rattle.race_page.specs.Rows.{all_rows, followed_in}
+use Rattle.race_page.specs.declared.about.About.{About}
 use Rattle.race_page.specs.declared.merged_head.LeftOut.{LeftOut}
 use Rattle.race_page.specs.declared.own.Part.{Part}
 use Rattle.race_page.specs.declared.own.Tag.{Tag}
@@ -78,3 +82,26 @@ left_of chosen = record {
   known = chosen.known;
   hidden = chosen.hidden;
 }
+
+-- The text is a page of the trace, of which these are the verdicts, with a row for each chosen verdict. The page is
+-- about what `about` says.
+abbrev pub IsChosenPage : Recording → Verdicts → Chosen → Bool → About → List ℕ → Type 0
+IsChosenPage r found chosen apart about text =
+    IsPage r found.verdicts.items chosen.races (left_of chosen) about.name.now text
+    (all_rows r (followed_in about) apart chosen.verdicts.items)
+
+-- Unless the answer is an error, this holds: if `end` is the end of a page with this trace and these rows, such a page
+-- was appended.
+abbrev pub AppendedPage :
+    {T E : Type 0} → Result T E → Vec ℕ Global → Vec ℕ Global → Made → List ℕ → ℕ → LeftOut → List ℕ → Type 0
+AppendedPage answer old new page end races left path =
+    OnOk answer ((vs : List Verdict) → IsEnd page.trace vs end
+    → (text : List ℕ) × (new.items ≡ old.items ++ text) × IsPage page.trace vs races left path text page.rows)
+
+-- unless the answer is an error, the page has these rows more; they depend on its trace
+abbrev pub AddedRows : {T E : Type 0} → Result T E → Made → Made → (Recording → List Shown) → Type 0
+AddedRows answer old new rows = OnOk answer (new.rows ≡ old.rows ++ rows old.trace)
+
+-- the same for one row
+abbrev pub AddedRow : {T E : Type 0} → Result T E → Made → Made → (Recording → Shown) → Type 0
+AddedRow answer old new row = AddedRows answer old new (λ r. row r ∷ [])

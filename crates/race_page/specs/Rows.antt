@@ -59,10 +59,22 @@ sort_seen Race seen = seen
 sort_seen Undecided seen = Unasked
 sort_seen Apart seen = Unasked
 
+-- the entry on events a and b, by their locations
+abbrev pub entry_at : Recording → Option (List Followed) → ℕ → ℕ → Option Followed
+entry_at r told a b = entry_on told (location_at r a) (location_at r b)
+
+-- what stands beside a race of events a and b
+abbrev pub seen_at : Recording → Option (List Followed) → ℕ → ℕ → Seen
+seen_at r told a b = seen_on told (location_at r a) (location_at r b)
+
+-- what stands beside the row of a verdict
+abbrev pub seen_beside : Recording → Option (List Followed) → Verdict → Seen
+seen_beside r told v = sort_seen (outcome_sort v.outcome) (seen_at r told v.first v.second)
+
 -- the row of a verdict
 abbrev pub row_of : Recording → Option (List Followed) → Verdict → Shown
 row_of r told v =
-    record { sort = outcome_sort v.outcome; first = v.first; second = v.second; seen = sort_seen (outcome_sort v.outcome) (seen_on told (location_at r v.first) (location_at r v.second)) }
+    record { sort = outcome_sort v.outcome; first = v.first; second = v.second; seen = seen_beside r told v }
 
 -- whether two sorts are one
 abbrev pub is_sort : Sort → Sort → Bool
@@ -86,3 +98,16 @@ sort_rows r told sort vs = rows_of r told (filter (is_of sort) vs)
 -- the rows of all verdicts, with or without those that are apart
 abbrev pub all_rows : Recording → Option (List Followed) → Bool → List Verdict → List Shown
 all_rows r told apart vs = sort_rows r told Race vs ++ sort_rows r told Undecided vs ++ cond apart (sort_rows r told Apart vs) []
+
+-- the same for what a page is about
+abbrev pub row_about : About → Verdict → Recording → Shown
+row_about about v r = row_of r (followed_in about) v
+
+abbrev pub rows_about : About → List Verdict → Recording → List Shown
+rows_about about vs r = rows_of r (followed_in about) vs
+
+abbrev pub sort_rows_about : About → Sort → List Verdict → Recording → List Shown
+sort_rows_about about sort vs r = sort_rows r (followed_in about) sort vs
+
+abbrev pub all_rows_about : About → Bool → List Verdict → Recording → List Shown
+all_rows_about about apart vs r = all_rows r (followed_in about) apart vs

@@ -23,7 +23,7 @@ pub(crate) fn file_of(path: &[u8]) -> &[u8]
 
 /// What comes before the last slash and what comes after it; None if there is no slash.
 fn cut_last_slash(path: &[u8]) -> Option<(&[u8], &[u8])>
-    ensures some { IfSome result (λ parts. (path.now ≡ parts.0.now ++ 47 ∷ parts.1.now) × HasNoSlash parts.1.now) }
+    ensures some { IfSome result (λ cut. (path.now ≡ cut.0.now ++ 47 ∷ cut.1.now) × HasNoSlash cut.1.now) }
     ensures none { result ≡ None → HasNoSlash path.now }
 {
     let at = memrchr(b'/', path)?;
@@ -87,10 +87,9 @@ pub(crate) fn append_races(out: &mut Vec<u8>, races: u64) -> Result<(), OutOfMem
     ensures { Appended result out.old out.new (races_words races) }
 {
     if races == 0 {
-        append_bytes(out, b"No races")
-    } else {
-        append_some(out, races)
+        return append_bytes(out, b"No races");
     }
+    append_some(out, races)
 }
 
 /// Appends the number of races, if it is not 0.

@@ -1,7 +1,7 @@
 //! The page of a merged report: a row for each pair of locations, with what the parts say of it.
 ghost use Rattle.std.specs.Prelude.{◌≡◌, IfOk, OnErr, take};
 ghost use Rattle.std.specs.List.{filter};
-ghost use Rattle.race_page.specs.Merged.{apart_section, has_rank, heading_of, kept_text, lead_text, left_text, merged_text, none_text, opening_text, section_text};
+ghost use Rattle.race_page.specs.Merged.{apart_section, has_rank, heading_of, kept_text, lead_text, left_text, merged_text, none_text, opening_text, rank_section, section_text};
 ghost use Rattle.rapid_text.specs.Appended.{Appended};
 
 use crate::marks::{Mark, append_marks};
@@ -102,11 +102,10 @@ fn append_apart(
 ) -> Result<(), OutOfMemory>
     ensures { Appended result out.old out.new (apart_section apart parts pairs.now) }
 {
-    if apart {
-        append_rank(out, parts, pairs, 2)
-    } else {
-        Ok(())
+    if !apart {
+        return Ok(());
     }
+    append_rank(out, parts, pairs, 2)
 }
 
 /// Appends the section of the pairs with this rank.
@@ -116,7 +115,7 @@ fn append_rank(
     pairs: &[Pair<'_>],
     rank: u8,
 ) -> Result<(), OutOfMemory>
-    ensures { Appended result out.old out.new (section_text rank parts (filter (has_rank rank) pairs.now)) }
+    ensures { Appended result out.old out.new (rank_section rank parts pairs.now) }
 {
     let kept = of_rank(*out.allocator(), pairs, rank)?;
     append_section(out, parts, kept.as_slice(), rank)
@@ -189,11 +188,10 @@ fn append_kept(out: &mut Vec<u8>, parts: usize, kept: &[Pair<'_>]) -> Result<(),
 fn append_none(out: &mut Vec<u8>, kept: &[Pair<'_>]) -> Result<(), OutOfMemory>
     ensures { Appended result out.old out.new (none_text kept.now) }
 {
-    if kept.is_empty() {
-        append_marks(out, &[Mark::Own(b"<p>None.</p>\n")])
-    } else {
-        Ok(())
+    if !kept.is_empty() {
+        return Ok(());
     }
+    append_marks(out, &[Mark::Own(b"<p>None.</p>\n")])
 }
 
 /// The pairs that have a row: the first 2,000.

@@ -168,10 +168,9 @@ fn verb_of(word: &[u8]) -> &'static [u8]
     ensures { result.now ≡ verb_text word.now }
 {
     if word == b"r".as_slice() {
-        b"read"
-    } else {
-        b"write"
+        return b"read";
     }
+    b"write"
 }
 
 /// The place of a location, without the calls that led there.

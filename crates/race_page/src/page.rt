@@ -1,9 +1,9 @@
 //! What follows the first line of a page: pieces, and rows.
-ghost use Rattle.std.specs.Prelude.{◌≡◌, ◌++◌, ◌∷◌, [], OnOk, List, ℕ, codes, decimal};
+ghost use Rattle.std.specs.Prelude.{◌≡◌, ◌++◌, ◌∷◌, [], OnOk, decimal};
 ghost use Rattle.rapid_text.specs.Appended.{Appended};
 ghost use Rattle.schedule.specs.Reordering.{IsCorrectReordering};
 ghost use Rattle.schedule.specs.Shows.{Shows};
-ghost use Rattle.race_page.specs.Own.{row_begin, row_text, seen_text};
+ghost use Rattle.race_page.specs.Own.{row_head, row_text};
 ghost use Rattle.race_page.specs.Pages.{IsDrawn, AreParts, IsPiece};
 
 use crate::piece::Piece;
@@ -183,7 +183,7 @@ fn append_row(out: &mut Vec<u8>, shown: Shown, bytes: &[u8]) -> Result<(), OutOf
 
 /// Appends the beginning of a row, up to the word beside it.
 fn append_head(out: &mut Vec<u8>, shown: Shown) -> Result<(), OutOfMemory>
-    ensures { Appended result out.old out.new (row_begin shown.sort ++ decimal shown.first ++ codes "-" ++ decimal shown.second ++ codes "\">\n<summary>" ++ seen_text shown.seen) }
+    ensures { Appended result out.old out.new (row_head shown) }
 {
     out.extend_from_slice(row_begin_of(shown.sort))?;
     append_number(out, shown.first)?;

@@ -1,6 +1,7 @@
 //! The rows of a page, section by section.
-ghost use Rattle.std.specs.Prelude.{◌≡◌, ◌++◌, ◌∷◌, [], OnOk};
-ghost use Rattle.race_page.specs.Rows.{followed_in, row_of, rows_of};
+ghost use Rattle.std.specs.Prelude.{◌≡◌};
+ghost use Rattle.race_page.specs.Pages.{AddedRow, AddedRows};
+ghost use Rattle.race_page.specs.Rows.{row_about, rows_about};
 
 use crate::about::About;
 use crate::accesses::write_accesses;
@@ -32,11 +33,10 @@ pub(crate) fn write_rows(
     kept: &[Verdict],
 ) -> Result<(), OutOfMemory>
     ensures trace { page.new.trace ≡ page.old.trace }
-    ensures rows { OnOk result (page.new.rows ≡ page.old.rows ++ rows_of page.old.trace (followed_in about.entry) kept.now) }
+    ensures rows { AddedRows result page.old page.new (rows_about about.entry kept.now) }
 {
     for at in 0..MOST_ROWS.min(kept.len()) {
-        let is_drawn = at < MOST_PICTURES;
-        write_row(page, piece, about, kept[at], is_drawn)?;
+        write_row(page, piece, about, kept[at], at < MOST_PICTURES)?;
     }
     Ok(())
 }
@@ -50,7 +50,7 @@ fn write_row(
     is_drawn: bool,
 ) -> Result<(), OutOfMemory>
     ensures trace { page.new.trace ≡ page.old.trace }
-    ensures rows { OnOk result (page.new.rows ≡ page.old.rows ++ row_of page.old.trace (followed_in about.entry) verdict ∷ []) }
+    ensures rows { AddedRow result page.old page.new (row_about about.entry verdict) }
 {
     let indexed = page.indexed();
     let shown = shown_of(about, indexed, verdict);

@@ -1,8 +1,7 @@
 //! Which sort and which row a verdict has.
 ghost use Rattle.std.specs.Prelude.{◌≡◌, [], Some, IfOk, OnOk, option_map};
 ghost use Rattle.std.specs.List.{filter};
-ghost use Rattle.explain_report.specs.places.Located.{location_at};
-ghost use Rattle.race_page.specs.Rows.{entry_on, entry_seen, followed_in, is_of, is_sort, order_seen, outcome_sort, row_of, seen_on, sort_seen};
+ghost use Rattle.race_page.specs.Rows.{entry_at, entry_seen, followed_in, is_of, is_sort, order_seen, outcome_sort, row_of, seen_at, seen_beside};
 
 use crate::about::About;
 use crate::shown::{Seen, Shown, Sort};
@@ -47,7 +46,7 @@ pub(crate) fn entry_of<'a>(
     first: u32,
     second: u32,
 ) -> Option<&'a Followed>
-    ensures { option_map (λ f. f.now) result ≡ entry_on (followed_in about.entry) (location_at indexed.now first) (location_at indexed.now second) }
+    ensures { option_map (λ f. f.now) result ≡ entry_at indexed.now (followed_in about.entry) first second }
 {
     let all = about.followed?;
     match told_of(
@@ -79,8 +78,7 @@ fn seen_in(followed: &Followed) -> Seen
     }
     match followed.same_memory {
         Some(false) => Seen::OtherMemory,
-        Some(true) => order_of(followed.matters),
-        None => order_of(followed.matters),
+        Some(true) | None => order_of(followed.matters),
     }
 }
 
@@ -97,7 +95,7 @@ fn order_of(matters: Option<bool>) -> Seen
 
 /// The word beside a race of these two events.
 fn race_seen(about: About<'_>, indexed: &Indexed, first: u32, second: u32) -> Seen
-    ensures { result ≡ seen_on (followed_in about.entry) (location_at indexed.now first) (location_at indexed.now second) }
+    ensures { result ≡ seen_at indexed.now (followed_in about.entry) first second }
 {
     if about.followed.is_none() {
         return Seen::Unasked;
@@ -107,13 +105,11 @@ fn race_seen(about: About<'_>, indexed: &Indexed, first: u32, second: u32) -> Se
 
 /// The word beside the row of a verdict. Only races have one.
 fn seen_of(about: About<'_>, indexed: &Indexed, verdict: Verdict) -> Seen
-    ensures { result ≡ sort_seen (outcome_sort verdict.outcome)
-        (seen_on (followed_in about.entry) (location_at indexed.now verdict.first) (location_at indexed.now verdict.second)) }
+    ensures { result ≡ seen_beside indexed.now (followed_in about.entry) verdict }
 {
     match sort_of(verdict) {
         Sort::Race => race_seen(about, indexed, verdict.first, verdict.second),
-        Sort::Undecided => Seen::Unasked,
-        Sort::Apart => Seen::Unasked,
+        Sort::Undecided | Sort::Apart => Seen::Unasked,
     }
 }
 
@@ -138,10 +134,8 @@ pub(crate) fn of_sort(
     ensures { IfOk result (λ kept. kept.items ≡ filter (is_of sort) told.now) }
 {
     let mut kept = Vec::new(alloc);
-    match keep_sort(&mut kept, told, sort) {
-        Ok(()) => Ok(kept),
-        Err(refused) => Err(refused),
-    }
+    keep_sort(&mut kept, told, sort)?;
+    Ok(kept)
 }
 
 /// Adds the verdicts of a sort to `kept`, which is empty.

@@ -1,10 +1,9 @@
 //! The whole page.
-ghost use Rattle.std.specs.Prelude.{◌≡◌, ◌++◌, [], List, ℕ, OnErr, OnOk};
-ghost use Rattle.race_triage.specs.declared.verdicts.Verdict.{Verdict as Told};
-ghost use Rattle.race_page.specs.Pages.{IsEnd, IsPage, left_of};
-ghost use Rattle.race_page.specs.declared.merged_head.LeftOut.{LeftOut};
-ghost use Rattle.race_page.specs.Rows.{all_rows, followed_in, rows_of, sort_rows};
+ghost use Rattle.std.specs.Prelude.{◌≡◌, ◌++◌, [], OnErr};
 ghost use Rattle.rapid_text.specs.Appended.{Appended, AppendedOne};
+ghost use Rattle.race_page.specs.Pages.{AddedRows, AppendedPage, IsChosenPage, left_of};
+ghost use Rattle.race_page.specs.Rows.{all_rows_about, rows_about, sort_rows_about};
+ghost use Rattle.race_page.specs.declared.merged_head.LeftOut.{LeftOut};
 
 use crate::about::About;
 use crate::ending::append_end;
@@ -44,7 +43,7 @@ pub fn page_text(
     // What is appended is a page with a row for each chosen verdict, of each sort the first 2,000, and no others. The
     // first line has the number of all chosen races, also of those without a row. It also has the file's name, and what
     // was left out.
-    ensures ok { AppendedOne result out.old out.new (λ text. IsPage analysis.now verdicts.now.verdicts.items chosen.now.races (left_of chosen.now) about.entry.name.now text (all_rows analysis.now (followed_in about.entry) apart chosen.now.verdicts.items)) }
+    ensures ok { AppendedOne result out.old out.new (IsChosenPage analysis.now verdicts.now chosen.now apart about.entry) }
     ensures err { OnErr result (out.new.items ≡ out.old.items) }
 {
     let mut page = Page::new(*out.allocator(), analysis);
@@ -61,7 +60,7 @@ fn append_page(
     out: &mut Vec<u8>,
 ) -> Result<(), OutOfMemory>
     requires { page.old.rows ≡ [] }
-    ensures ok { AppendedOne result out.old out.new (λ text. IsPage page.old.trace verdicts.now.verdicts.items chosen.now.races (left_of chosen.now) about.entry.name.now text (all_rows page.old.trace (followed_in about.entry) apart chosen.now.verdicts.items)) }
+    ensures ok { AppendedOne result out.old out.new (IsChosenPage page.old.trace verdicts.now chosen.now apart about.entry) }
     ensures err { OnErr result (out.new.items ≡ out.old.items) }
 {
     write_page(page, chosen.verdicts.as_slice(), apart, about)?;
@@ -95,8 +94,7 @@ fn append_written(
     name: &[u8],
     out: &mut Vec<u8>,
 ) -> Result<(), OutOfMemory>
-    ensures ok { OnOk result ((vs : List Told) → IsEnd page.now.trace vs end.now
-        → (text : List ℕ) × (out.new.items ≡ out.old.items ++ text) × IsPage page.now.trace vs races left name.now text page.now.rows) }
+    ensures ok { AppendedPage result out.old out.new page.now end.now races left name.now }
     ensures err { OnErr result (out.new.items ≡ out.old.items) }
 {
     let mut begin = Vec::new(*out.allocator());
@@ -140,7 +138,7 @@ fn write_page(
     about: About<'_>,
 ) -> Result<(), OutOfMemory>
     ensures trace { page.new.trace ≡ page.old.trace }
-    ensures rows { OnOk result (page.new.rows ≡ page.old.rows ++ all_rows page.old.trace (followed_in about.entry) apart told.now) }
+    ensures rows { AddedRows result page.old page.new (all_rows_about about.entry apart told.now) }
 {
     let mut piece = Piece::new(page.allocator());
     write_told(page, &mut piece, told, apart, about)
@@ -155,7 +153,7 @@ fn write_told(
     about: About<'_>,
 ) -> Result<(), OutOfMemory>
     ensures trace { page.new.trace ≡ page.old.trace }
-    ensures rows { OnOk result (page.new.rows ≡ page.old.rows ++ all_rows page.old.trace (followed_in about.entry) apart told.now) }
+    ensures rows { AddedRows result page.old page.new (all_rows_about about.entry apart told.now) }
 {
     match word_of(page.allocator(), about.name) {
         Ok(word) => write_sections(
@@ -181,7 +179,7 @@ fn write_sections(
     about: About<'_>,
 ) -> Result<(), OutOfMemory>
     ensures trace { page.new.trace ≡ page.old.trace }
-    ensures rows { OnOk result (page.new.rows ≡ page.old.rows ++ all_rows page.old.trace (followed_in about.entry) apart told.now) }
+    ensures rows { AddedRows result page.old page.new (all_rows_about about.entry apart told.now) }
 {
     write_sort(page, piece, about, Sort::Race, told)?;
     write_sort(page, piece, about, Sort::Undecided, told)?;
@@ -200,7 +198,7 @@ fn write_sort(
     told: &[Verdict],
 ) -> Result<(), OutOfMemory>
     ensures trace { page.new.trace ≡ page.old.trace }
-    ensures rows { OnOk result (page.new.rows ≡ page.old.rows ++ sort_rows page.old.trace (followed_in about.entry) sort told.now) }
+    ensures rows { AddedRows result page.old page.new (sort_rows_about about.entry sort told.now) }
 {
     match of_sort(page.allocator(), told, sort) {
         Ok(kept) => write_section(page, piece, about, sort, kept.as_slice()),
@@ -217,7 +215,7 @@ fn write_section(
     kept: &[Verdict],
 ) -> Result<(), OutOfMemory>
     ensures trace { page.new.trace ≡ page.old.trace }
-    ensures rows { OnOk result (page.new.rows ≡ page.old.rows ++ rows_of page.old.trace (followed_in about.entry) kept.now) }
+    ensures rows { AddedRows result page.old page.new (rows_about about.entry kept.now) }
 {
     begin_section(page, piece, about, sort, kept.is_empty())?;
     write_rows(page, piece, about, kept)?;
