@@ -1,6 +1,6 @@
 -- Which entry of a triage file is about a race. `r` is the trace's recording, and `numbers` has the number of each
 -- event's location. All notions here are this project's own.
-use Rattle.std.specs.Prelude.{ℕ, ℤ, pos, ◌==◌, ◌&&◌, ◌||◌, nat_lt, not, Bool, true, false, cond, List, [], length, slice_get, slice_index, codes, decimal, bytes_eq, unsigned_abs, int_le, Option, Some, None, unwrap_or}
+use Rattle.std.specs.Prelude.{◌≡◌, ℕ, ℤ, pos, ◌==◌, ◌&&◌, ◌||◌, nat_lt, not, Bool, true, false, cond, List, [], length, slice_get, slice_index, codes, decimal, bytes_eq, unsigned_abs, int_le, Option, Some, None, unwrap_or}
 use Rattle.std.specs.List.{after_last, before_last, list_all, list_any}
 use Rattle.rapid_text.specs.Canonical.{name_at}
 use Rattle.rapid_text.specs.Recording.{Recording}
@@ -9,6 +9,7 @@ use Rattle.rapid_text.specs.declared.event.Op.{Op}
 use Rattle.rapid_text.specs.declared.event.Op.TheVariants.{Read, Write}
 use Rattle.event_index.specs.Lookups.{before}
 use Rattle.race_groups.specs.Rows.{same_places}
+use Rattle.race_triage.specs.Chosen.{is_known}
 use Rattle.race_triage.specs.declared.verdicts.Outcome.{Outcome}
 use Rattle.race_triage.specs.declared.verdicts.Outcome.TheVariants.{Race, Undecided, Apart}
 use Rattle.race_triage.specs.declared.verdicts.Verdict.{Verdict}
@@ -128,14 +129,26 @@ is_race v = is_race_by v.outcome
 abbrev pub leaves_out : Recording → List ℕ → Verdict → Data → Bool
 leaves_out r numbers v d = hides d && is_match r numbers d v
 
+-- an entry leaves out the race of the verdict
+abbrev pub leaves_out_any : Recording → List ℕ → List Value → Verdict → Bool
+leaves_out_any r numbers es v = list_any (λ e. leaves_out r numbers v (view e)) es
+
 -- the verdict is a race that an entry leaves out
 abbrev pub is_triaged : Recording → List ℕ → List Value → Verdict → Bool
-is_triaged r numbers es v = is_race v && list_any (λ e. leaves_out r numbers v (view e)) es
+is_triaged r numbers es v = is_race v && leaves_out_any r numbers es v
 
 -- an entry leaves out a race on the locations of the verdict
 abbrev pub is_left_out : Recording → List ℕ → List Value → List Verdict → Verdict → Bool
 is_left_out r numbers es vs v = list_any (λ w. is_triaged r numbers es w && same_places v.row.places w.row.places) vs
 
+-- the verdict is a race, and the entry is about it
+abbrev pub is_race_match : Recording → List ℕ → Data → Verdict → Bool
+is_race_match r numbers d v = is_race v && is_match r numbers d v
+
 -- the entry is about one of the races
 abbrev pub is_met : Recording → List ℕ → List Verdict → Data → Bool
-is_met r numbers vs d = list_any (λ v. is_race v && is_match r numbers d v) vs
+is_met r numbers vs d = list_any (is_race_match r numbers d) vs
+
+-- a verdict is known now if it was known before, or if it passes this test
+abbrev pub AreKnownToo : List (ℕ × ℕ) → List (ℕ × ℕ) → (Verdict → Bool) → Type 0
+AreKnownToo old new test = (v : Verdict) → is_known (Some new) v ≡ (is_known (Some old) v || test v)

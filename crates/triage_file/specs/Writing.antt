@@ -1,6 +1,7 @@
 -- A triage file that has an entry for each race. `r` is the trace's recording, and `numbers` has the number of each
 -- event's location. All notions here are this project's own.
-use Rattle.std.specs.Prelude.{◌≡◌, ℕ, ◌==◌, ◌&&◌, ◌||◌, nat_lt, cond, not, Bool, true, false, List, [], ◌∷◌, ◌++◌, flat_map, length, slice_index, codes, Option, Some, None, bytes_eq}
+use Rattle.std.specs.Prelude.{◌≡◌, ℕ, ◌==◌, ◌&&◌, ◌||◌, nat_lt, cond, not, Bool, true, false, List, [], ◌∷◌, ◌++◌, flat_map, length, slice_index, codes, Option, Some, None, bytes_eq, Result, OnOk, Vec}
+use Rattle.std.specs.declared.alloc.Global.{Global}
 use Rattle.std.specs.List.{concat, list_all}
 use Rattle.std.specs.Str.Lossy.{utf8_lossy}
 use Rattle.rapid_text.specs.Recording.{Recording}
@@ -64,13 +65,20 @@ variable_by r numbers v (Some name) = alone_line r numbers name v.row.places
 abbrev pub variable_line : Recording → List ℕ → Verdict → List ℕ
 variable_line r numbers v = variable_by r numbers v (use_at r v.first)
 
+-- the paths, the functions and the lines of a race
+abbrev pub paths_line : Recording → Verdict → List ℕ
+paths_line r v = two_of (codes "paths") (path_text r v.first) (path_text r v.second)
+
+abbrev pub functions_line : Recording → Verdict → List ℕ
+functions_line r v = two_of (codes "functions") (function_text r v.first) (function_text r v.second)
+
+abbrev pub lines_line : Recording → Verdict → List ℕ
+lines_line r v = two_of (codes "lines") (line_text r v.first) (line_text r v.second)
+
 -- the entry of a race
 abbrev pub entry_text : Recording → List ℕ → Verdict → List ℕ
 entry_text r numbers v =
-    codes "[[race]]\n" ++ two_of (codes "paths") (path_text r v.first) (path_text r v.second)
-    ++ two_of (codes "functions") (function_text r v.first) (function_text r v.second)
-    ++ variable_line r numbers v
-    ++ two_of (codes "lines") (line_text r v.first) (line_text r v.second)
+    codes "[[race]]\n" ++ paths_line r v ++ functions_line r v ++ variable_line r numbers v ++ lines_line r v
     ++ codes "verdict = \"known\"\nreason = \"\"\nauthor = \"\"\n\n"
 
 abbrev pub entry_by : Recording → List ℕ → Verdict → List ℕ
@@ -79,3 +87,9 @@ entry_by r numbers v = cond (is_race v) (entry_text r numbers v) []
 -- the entries of the races among the chosen verdicts
 abbrev pub IsTriageFile : Recording → List ℕ → Chosen → List ℕ → Type 0
 IsTriageFile r numbers c text = text ≡ flat_map (entry_by r numbers) c.verdicts.items
+
+-- unless the answer is an error, these entries were appended
+abbrev pub AppendedEntries :
+    {T E : Type 0} → Result T E → Vec ℕ Global → Vec ℕ Global → Recording → List ℕ → Chosen → Type 0
+AppendedEntries answer old new r numbers c =
+    OnOk answer ((text : List ℕ) × IsTriageFile r numbers c text × (new.items ≡ old.items ++ text))

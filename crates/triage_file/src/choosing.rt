@@ -1,10 +1,7 @@
 //! Which races a triage file leaves out, and which of its entries are about a race.
-ghost use Rattle.std.specs.Prelude.{◌≡◌, ◌&&◌, ◌||◌, OnOk, Some};
-ghost use Rattle.race_triage.specs.Chosen.{is_known};
-ghost use Rattle.race_triage.specs.declared.verdicts.Verdict.{Verdict as Told};
-ghost use Rattle.std.specs.List.{list_any};
+ghost use Rattle.std.specs.Prelude.{◌≡◌, OnOk};
 ghost use Rattle.toml.specs.View.{view};
-ghost use Rattle.triage_file.specs.Matching.{is_left_out, is_match, is_met, is_race, is_triaged, leaves_out};
+ghost use Rattle.triage_file.specs.Matching.{is_left_out, is_met, is_race, is_race_match, is_triaged, leaves_out, leaves_out_any, AreKnownToo};
 
 use crate::fields::hides;
 use crate::matching::is_match;
@@ -44,7 +41,7 @@ fn is_triaged(indexed: &Indexed, numbers: &[u32], entries: &[Value], verdict: &V
 
 /// Whether an entry leaves out the race of the verdict.
 fn is_decided(indexed: &Indexed, numbers: &[u32], entries: &[Value], verdict: &Verdict) -> bool
-    ensures { result ≡ list_any (λ e. leaves_out indexed.now numbers.now verdict.now (view e)) entries.now }
+    ensures { result ≡ leaves_out_any indexed.now numbers.now entries.now verdict.now }
 {
     entries
         .iter()
@@ -53,7 +50,7 @@ fn is_decided(indexed: &Indexed, numbers: &[u32], entries: &[Value], verdict: &V
 
 /// Whether the verdict is a race, and the entry is about it.
 fn is_about(indexed: &Indexed, numbers: &[u32], entry: &Value, verdict: &Verdict) -> bool
-    ensures { result ≡ (is_race verdict.now && is_match indexed.now numbers.now (view entry.now) verdict.now) }
+    ensures { result ≡ is_race_match indexed.now numbers.now (view entry.now) verdict.now }
 {
     is_race(verdict) && is_match(indexed, numbers, entry, verdict)
 }
@@ -77,8 +74,8 @@ pub fn add_triaged(
     entries: &[Value],
 ) -> Result<(), OutOfMemory>
     // A verdict is known if it was known before, or if an entry leaves out a race on its locations.
-    ensures { OnOk result ((v : Told) → is_known (Some known.new.keys) v
-        ≡ (is_known (Some known.old.keys) v || is_left_out indexed.now numbers.now entries.now verdicts.now v)) }
+    ensures { OnOk result (AreKnownToo known.old.keys known.new.keys
+        (is_left_out indexed.now numbers.now entries.now verdicts.now)) }
 {
     for verdict in verdicts {
         if is_triaged(indexed, numbers, entries, verdict) {

@@ -1,8 +1,8 @@
 //! A triage file that has an entry for each race.
-ghost use Rattle.std.specs.Prelude.{◌≡◌, ◌++◌, ◌∷◌, [], List, ℕ, codes, IfOk, OnErr, OnOk, flat_map, option_map, string_bytes};
+ghost use Rattle.std.specs.Prelude.{◌≡◌, ◌∷◌, [], IfOk, OnErr, flat_map, option_map, string_bytes};
 ghost use Rattle.std.specs.List.{concat};
 ghost use Rattle.rapid_text.specs.Appended.{Appended};
-ghost use Rattle.triage_file.specs.Writing.{alone_line, entry_by, entry_text, function_text, is_alone, is_only, is_plain, is_same_by, line_text, name_line, path_text, place_at, text_of, two_of, variable_line, IsTriageFile};
+ghost use Rattle.triage_file.specs.Writing.{alone_line, entry_by, entry_text, functions_line, is_alone, is_only, is_plain, is_same_by, line_text, lines_line, name_line, paths_line, place_at, text_of, two_of, variable_line, AppendedEntries};
 
 use crate::choosing::is_race;
 use crate::matching::{function_of, is_at, line_of, path_of, use_of};
@@ -22,7 +22,7 @@ pub fn triage_entries(
     chosen: &Chosen,
     out: &mut Vec<u8>,
 ) -> Result<(), OutOfMemory>
-    ensures ok { OnOk result ((text : List ℕ) × IsTriageFile indexed.now numbers.now chosen.now text × (out.new.items ≡ out.old.items ++ text)) }
+    ensures ok { AppendedEntries result out.old out.new indexed.now numbers.now chosen.now }
     ensures err { OnErr result (out.new.items ≡ out.old.items) }
 {
     let mut text = Vec::new(*out.allocator());
@@ -55,11 +55,10 @@ fn append_verdict(
 ) -> Result<(), OutOfMemory>
     ensures { Appended result out.old out.new (entry_by indexed.now numbers.now verdict.now) }
 {
-    if is_race(verdict) {
-        append_entry(out, indexed, numbers, verdict)
-    } else {
-        Ok(())
+    if !is_race(verdict) {
+        return Ok(());
     }
+    append_entry(out, indexed, numbers, verdict)
 }
 
 /// Appends the entry of a race.
@@ -115,7 +114,7 @@ fn place_of(indexed: &Indexed, event: u32) -> &[u8]
 
 /// Appends the paths of a race.
 fn append_paths(out: &mut Vec<u8>, indexed: &Indexed, verdict: &Verdict) -> Result<(), OutOfMemory>
-    ensures { Appended result out.old out.new (two_of (codes "paths") (path_text indexed.now verdict.now.first) (path_text indexed.now verdict.now.second)) }
+    ensures { Appended result out.old out.new (paths_line indexed.now verdict.now) }
 {
     let alloc = *out.allocator();
     let one = text_of(alloc, path_of(place_of(indexed, verdict.first)))?;
@@ -129,7 +128,7 @@ fn append_functions(
     indexed: &Indexed,
     verdict: &Verdict,
 ) -> Result<(), OutOfMemory>
-    ensures { Appended result out.old out.new (two_of (codes "functions") (function_text indexed.now verdict.now.first) (function_text indexed.now verdict.now.second)) }
+    ensures { Appended result out.old out.new (functions_line indexed.now verdict.now) }
 {
     let alloc = *out.allocator();
     let one = text_of(alloc, function_of(location_of(indexed, verdict.first)))?;
@@ -139,7 +138,7 @@ fn append_functions(
 
 /// Appends the lines of a race.
 fn append_lines(out: &mut Vec<u8>, indexed: &Indexed, verdict: &Verdict) -> Result<(), OutOfMemory>
-    ensures { Appended result out.old out.new (two_of (codes "lines") (line_text indexed.now verdict.now.first) (line_text indexed.now verdict.now.second)) }
+    ensures { Appended result out.old out.new (lines_line indexed.now verdict.now) }
 {
     append_two(
         out,
@@ -190,10 +189,9 @@ fn append_alone(
     ensures { Appended result out.old out.new (alone_line indexed.now numbers.now name.now places) }
 {
     if is_alone(indexed, numbers, name, places.0) || is_alone(indexed, numbers, name, places.1) {
-        append_name(out, name)
-    } else {
-        Ok(())
+        return append_name(out, name);
     }
+    Ok(())
 }
 
 /// Appends a variable.
