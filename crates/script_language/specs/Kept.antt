@@ -36,6 +36,14 @@ call_in ListForm name to number own = ListNames
 call_in RacesForm name to number own = Races name
 call_in Owned name to number own = own
 
+-- the call that is kept, or this one if it owns memory
+abbrev pub kept_call : List ℕ → Kept → Call → Call
+kept_call names k own = call_in k.form (name_in names k) (to_in names k) k.number own
+
+-- what is kept is this call
+abbrev pub KeepsCall : List ℕ → Kept → (Call → Call) → Type 0
+KeepsCall names k call = (own : Call) → kept_call names k own ≡ call own
+
 -- the call that is kept in this form
 abbrev pub call_of : List ℕ → List Call → Kept → Call
 call_of names owned k = call_in k.form (name_in names k) (to_in names k) k.number (get_or owned k.at Undo)
@@ -57,6 +65,10 @@ HasNames UndoAtForm name to = ⊤
 HasNames ListForm name to = ⊤
 HasNames Owned name to = ⊤
 HasNames form name to = is_name name ≡ true
+
+-- the kept call has the names of its form
+abbrev pub IsNamedIn : List ℕ → Kept → Type 0
+IsNamedIn names k = HasNames k.form (name_in names k) (to_in names k)
 
 -- What holds for each kept call.
 pub record IsKept (names : List ℕ) (owned : List Call) (k : Kept) : Type 0 where

@@ -1,5 +1,5 @@
 -- What a script says: its calls, or its first refused line and its first cause. The language is this project's own.
-use Rattle.std.specs.Prelude.{◌≡◌, ℕ, ◌+◌, ◌==◌, nat_lt, nat_le, Bool, true, false, ◌&&◌, if◌then◌else◌, List, [], ◌∷◌, ◌++◌, length, map, filter_map, find, All, Option, Some, None, is_some, ok_or, Result, Ok, Err, IsOk, codes, bytes_eq}
+use Rattle.std.specs.Prelude.{◌≡◌, ℕ, ◌+◌, ◌==◌, nat_lt, nat_le, Bool, true, false, ◌&&◌, if◌then◌else◌, List, [], ◌∷◌, ◌++◌, length, map, filter_map, find, not, All, Option, Some, None, is_some, ok_or, option_map, Result, Ok, Err, IsOk, codes, bytes_eq}
 use Rattle.std.specs.List.{list_all, list_any, slice_split}
 use Rattle.rapid_text.specs.Reading.{is_line_feed, trimmed}
 use Rattle.moves.specs.Names.{is_name}
@@ -111,6 +111,10 @@ abbrev pub all_read : List (Result Command ScriptCause) → Result (List Command
 all_read [] = Ok []
 all_read (reading ∷ readings) = then_read reading (λ command. then_read (all_read readings) (λ commands. Ok (command ∷ commands)))
 
+-- the commands between separators, or the first fault
+abbrev pub parts_reading : List (List ℕ) → Result (List Command) ScriptCause
+parts_reading words = all_read (map command_reading (slice_split is_separator words))
+
 -- the commands with these words; the word and the number of arguments of each are checked before any arguments
 abbrev pub commands_reading : List (List (List ℕ)) → Result (List Command) ScriptCause
 commands_reading parts = if list_any is_bad_word (map command_reading parts) then Err BadWord else all_read (map command_reading parts)
@@ -181,6 +185,14 @@ pub record Asked : Type 0 where
   pub line : ℕ
   pub client : ℕ
   pub call : Call
+
+-- the call with its line and its client
+abbrev pub asked : ℕ → ℕ → Call → Asked
+asked line client call = record { line = line; client = client; call = call }
+
+-- the line of the first call of another client, if there is one
+abbrev pub stranger_line : ℕ → List Asked → Option ℕ
+stranger_line client calls = option_map (λ asked. asked.line) (find (λ asked. not (asked.client == client)) calls)
 
 abbrev pub asked_by : ℕ → Result (Option (ℕ × Call)) ScriptCause → List Asked
 asked_by line (Ok (Some (client, call))) = record { line = line; client = client; call = call } ∷ []

@@ -1,17 +1,33 @@
 -- The calls that own no memory, as their lines have them. No public clause cites this module.
-use Rattle.std.specs.Prelude.{◌≡◌, ◌≢◌, ℕ, ◌≤◌, length, Option, Some, Result, Ok}
+use Rattle.std.specs.Prelude.{◌≡◌, ◌≢◌, ℕ, ◌≤◌, List, [], ◌∷◌, ◌++◌, length, get_or, Option, Some, Result, Ok}
 use Rattle.inverse_log.specs.declared.call.Call.{Call}
-use Rattle.script_language.specs.Kept.{call_in, HasNames}
+use Rattle.inverse_log.specs.declared.call.Call.TheVariants.{Undo}
+use Rattle.script_language.specs.Kept.{asked_of, call_in, HasNames}
 use Rattle.script_language.specs.declared.kept.Form.TheVariants.{Owned}
+use Rattle.script_language.specs.declared.kept.Kept.{Kept}
 use Rattle.script_language.specs.declared.simple.Simple.{Simple}
 use Rattle.script_language.specs.declared.simple.Found.{Found}
 use Rattle.script_language.specs.declared.simple.Found.TheVariants.{Simple as FoundSimple, Batch as FoundBatch}
 use Rattle.script_language.specs.declared.refusal.ScriptCause.{ScriptCause}
-use Rattle.script_language.specs.Scripts.{then_read, batch_reading}
+use Rattle.script_language.specs.declared.verb.Verb.{Verb}
+use Rattle.script_language.specs.Scripts.{Asked, arguments_reading, asked, then_read, batch_reading}
 
 -- the call
 abbrev pub simple_call : Simple → Call → Call
 simple_call s own = call_in s.form s.name.now s.to.now s.number own
+
+-- the words of a call of this kind read as the call
+abbrev pub ReadsAs : Option Verb → List (List ℕ) → Simple → Type 0
+ReadsAs verb words s = (own : Call) → arguments_reading verb words ≡ Ok (simple_call s own)
+
+-- what is kept is the call with its line and its client, whatever calls own memory
+abbrev pub KeepsSimple : List ℕ → Kept → ℕ → ℕ → Simple → Type 0
+KeepsSimple names k line client s =
+    (owned : List Call) → asked_of names owned k ≡ asked line client (simple_call s (get_or owned k.at Undo))
+
+-- the call was appended with its line and its client
+abbrev pub AddsSimple : List Asked → ℕ → ℕ → Simple → List Asked → Type 0
+AddsSimple old line client s new = (own : Call) × (new ≡ old ++ asked line client (simple_call s own) ∷ [])
 
 -- The call has the names of its form, and can be kept.
 pub record IsSimple (s : Simple) : Type 0 where

@@ -3,7 +3,7 @@ ghost use Rattle.std.specs.Prelude.{◌≡◌, ◌⊎◌, Err, map};
 ghost use Rattle.std.specs.List.{list_any, slice_split};
 ghost use Rattle.script_language.specs.Arguments.{is_one, are_two, are_three, are_arguments};
 ghost use Rattle.script_language.specs.LineWords.{is_separator};
-ghost use Rattle.script_language.specs.Scripts.{command_reading, is_bad_word, all_read, batch_reading};
+ghost use Rattle.script_language.specs.Scripts.{command_reading, is_bad_word, parts_reading, batch_reading};
 ghost use Rattle.script_language.specs.declared.refusal.ScriptCause.TheVariants.{OutOfMemory};
 
 use crate::calls::read_command;
@@ -76,7 +76,7 @@ fn has_bad_word(words: Words<'_>) -> bool
 
 /// The commands between separators.
 fn read_commands(alloc: Global, words: Words<'_>) -> Result<Commands, ScriptCause>
-    ensures { (result ≡ Err OutOfMemory) ⊎ (result ≡ all_read (map command_reading (slice_split is_separator words.entry))) }
+    ensures { (result ≡ Err OutOfMemory) ⊎ (result ≡ parts_reading words.entry) }
 {
     let mut commands = Commands::new(alloc);
     let mut left = Some(words);

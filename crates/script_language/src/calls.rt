@@ -67,9 +67,7 @@ pub(crate) fn read_nothing(words: &mut Words<'_>) -> Result<(), ScriptCause>
 pub(crate) fn read_one_name(words: &mut Words<'_>) -> Result<Name, ScriptCause>
     ensures { result ≡ one_name_reading words.old }
 {
-    let Some(name) = words.next() else {
-        return Err(ScriptCause::BadWord);
-    };
+    let name = words.next().ok_or(ScriptCause::BadWord)?;
     read_nothing(words)?;
     read_name(name)
 }
@@ -212,13 +210,9 @@ fn read_arguments(alloc: Global, verb: Verb, words: &mut Words<'_>) -> Result<Ca
 fn read_call(alloc: Global, words: &mut Words<'_>) -> Result<Call, ScriptCause>
     ensures { (result ≡ Err OutOfMemory) ⊎ (result ≡ call_reading words.old) }
 {
-    let Some(word) = words.next() else {
-        return Err(ScriptCause::BadWord);
-    };
-    match verb_with(word) {
-        Some(verb) => read_arguments(alloc, verb, words),
-        None => Err(ScriptCause::BadWord),
-    }
+    let word = words.next().ok_or(ScriptCause::BadWord)?;
+    let verb = verb_with(word).ok_or(ScriptCause::BadWord)?;
+    read_arguments(alloc, verb, words)
 }
 
 /// The word as a client's number.
@@ -237,9 +231,7 @@ fn read_words(alloc: Global, words: &mut Words<'_>) -> Result<(u32, Call), Scrip
     ensures reading { (result ≡ Err OutOfMemory) ⊎ (result ≡ words_reading words.old) }
     ensures client { IfOk result (λ pair. (1 ≤ pair.0) × (pair.0 ≤ client_limit)) }
 {
-    let Some(word) = words.next() else {
-        return Err(ScriptCause::BadClient);
-    };
+    let word = words.next().ok_or(ScriptCause::BadClient)?;
     let client = read_client(word)?;
     let call = read_call(alloc, words)?;
     Ok((client, call))

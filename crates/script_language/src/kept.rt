@@ -5,8 +5,9 @@ ghost use Rattle.inverse_log.specs.declared.call.Call.{Call};
 ghost use Rattle.inverse_log.specs.declared.call.Call.TheVariants.{Do, Undo as UndoCall};
 ghost use Rattle.moves.specs.Names.{is_name};
 ghost use Rattle.dependence.specs.Limits.{client_limit};
-ghost use Rattle.script_language.specs.Kept.{name_in, to_in, call_in, call_of, asked_of, HasNames, IsWithin, IsKept, Begins};
-ghost use Rattle.script_language.specs.Simple.{simple_call, IsSimple};
+ghost use Rattle.script_language.specs.Kept.{name_in, to_in, call_in, call_of, asked_of, kept_call, HasNames, IsNamedIn, IsWithin, IsKept, KeepsCall, Begins};
+ghost use Rattle.script_language.specs.Scripts.{asked};
+ghost use Rattle.script_language.specs.Simple.{IsSimple, KeepsSimple};
 ghost use Rattle.script_language.specs.declared.kept.Form.TheVariants.{Owned};
 
 use crate::simple::Simple;
@@ -79,9 +80,8 @@ pub(crate) fn keep_names(
     ensures grown { Begins names.old.items names.new.items }
     ensures form { IfOk result (λ kept. kept.form ≡ form) }
     ensures within { IfOk result (λ kept. kept.at + kept.name + kept.to ≤ length names.new.items) }
-    ensures named { IfOk result (λ kept. HasNames kept.form (name_in names.new.items kept) (to_in names.new.items kept)) }
-    ensures call { IfOk result (λ kept. (own : Call) → call_in kept.form (name_in names.new.items kept) (to_in names.new.items kept) kept.number own
-        ≡ call_in form name.now to.now number own) }
+    ensures named { IfOk result (λ kept. IsNamedIn names.new.items kept) }
+    ensures call { IfOk result (λ kept. KeepsCall names.new.items kept (call_in form name.now to.now number)) }
 {
     let at = names.len();
     if !name.is_empty() {
@@ -106,9 +106,8 @@ fn keep_command(names: &mut Vec<u8>, command: &Command) -> Result<Kept, OutOfMem
     ensures grown { Begins names.old.items names.new.items }
     ensures form { IfOk result (λ kept. kept.form ≢ Owned) }
     ensures within { IfOk result (λ kept. kept.at + kept.name + kept.to ≤ length names.new.items) }
-    ensures named { IfOk result (λ kept. HasNames kept.form (name_in names.new.items kept) (to_in names.new.items kept)) }
-    ensures call { IfOk result (λ kept. (own : Call) → call_in kept.form (name_in names.new.items kept) (to_in names.new.items kept) kept.number own
-        ≡ Do command.now) }
+    ensures named { IfOk result (λ kept. IsNamedIn names.new.items kept) }
+    ensures call { IfOk result (λ kept. KeepsCall names.new.items kept (λ _. Do command.now)) }
 {
     match command {
         Command::Fresh { name } => keep_names(names, Form::Fresh, 0, name.bytes(), &[]),
@@ -150,7 +149,7 @@ fn keep_call(names: &mut Vec<u8>, owned: &mut Vec<Call>, call: Call) -> Result<K
     ensures names { Begins names.old.items names.new.items }
     ensures owned { Begins owned.old.items owned.new.items }
     ensures within { IfOk result (λ kept. IsWithin kept.form names.new.items owned.new.items kept) }
-    ensures named { IfOk result (λ kept. HasNames kept.form (name_in names.new.items kept) (to_in names.new.items kept)) }
+    ensures named { IfOk result (λ kept. IsNamedIn names.new.items kept) }
     ensures call { IfOk result (λ kept. call_of names.new.items owned.new.items kept ≡ call) }
 {
     match call {
@@ -178,8 +177,7 @@ pub(crate) fn keep_simple(
     requires simple { IsSimple simple.now }
     ensures names { Begins names.old.items names.new.items }
     ensures kept { IfOk result (λ kept. (owned : List Call) → IsKept names.new.items owned kept) }
-    ensures asked { IfOk result (λ kept. (owned : List Call) → asked_of names.new.items owned kept
-        ≡ record { line = line; client = client; call = simple_call simple.now (get_or owned kept.at UndoCall) }) }
+    ensures asked { IfOk result (λ kept. KeepsSimple names.new.items kept line client simple.now) }
 {
     let kept = keep_names(names, simple.form, simple.number, simple.name, simple.to)?;
     Ok(Kept {
@@ -201,8 +199,7 @@ pub(crate) fn keep(
     ensures names { Begins names.old.items names.new.items }
     ensures owned { Begins owned.old.items owned.new.items }
     ensures kept { IfOk result (λ kept. IsKept names.new.items owned.new.items kept) }
-    ensures asked { IfOk result (λ kept. asked_of names.new.items owned.new.items kept
-        ≡ record { line = line; client = client; call = call }) }
+    ensures asked { IfOk result (λ k. asked_of names.new.items owned.new.items k ≡ asked line client call) }
 {
     let kept = keep_call(names, owned, call)?;
     Ok(Kept {
@@ -247,8 +244,8 @@ fn second_name(names: &[u8], kept: &Kept) -> Name
 pub(crate) fn made(names: &[u8], kept: &Kept) -> Call
     requires form { kept.now.form ≢ Owned }
     requires within { kept.now.at + kept.now.name + kept.now.to ≤ length names.now }
-    requires named { HasNames kept.now.form (name_in names.now kept.now) (to_in names.now kept.now) }
-    ensures { (own : Call) → result ≡ call_in kept.now.form (name_in names.now kept.now) (to_in names.now kept.now) kept.now.number own }
+    requires named { IsNamedIn names.now kept.now }
+    ensures { (own : Call) → result ≡ kept_call names.now kept.now own }
 {
     match kept.form {
         Form::Fresh => Call::Do(Command::Fresh {

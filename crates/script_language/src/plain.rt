@@ -1,7 +1,7 @@
 //! Calls that own no memory, in the form in which a script gives them.
 ghost use Rattle.std.specs.Prelude.{◌≡◌, ◌≢◌, ◌+◌, ◌≤◌, ℕ, List, length, IfSome, IfNone};
 ghost use Rattle.inverse_log.specs.declared.call.Call.{Call as CallValue};
-ghost use Rattle.script_language.specs.Kept.{name_in, to_in, call_in, HasNames};
+ghost use Rattle.script_language.specs.Kept.{IsNamedIn, kept_call};
 ghost use Rattle.script_language.specs.declared.kept.Form.TheVariants.{Owned};
 
 use crate::kept::{Form, Kept, first_name, made};
@@ -35,8 +35,8 @@ impl<'a> PlainCall<'a> {
     pub(crate) fn of(names: &'a [u8], kept: &'a Kept) -> PlainCall<'a>
         requires form { kept.now.form ≢ Owned }
         requires within { kept.now.at + kept.now.name + kept.now.to ≤ length names.now }
-        requires named { HasNames kept.now.form (name_in names.now kept.now) (to_in names.now kept.now) }
-        ensures { (own : CallValue) → result ≡ call_in kept.now.form (name_in names.now kept.now) (to_in names.now kept.now) kept.now.number own }
+        requires named { IsNamedIn names.now kept.now }
+        ensures { (own : CallValue) → result ≡ kept_call names.now kept.now own }
     {
         PlainCall { names, kept }
     }

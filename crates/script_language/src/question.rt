@@ -90,9 +90,7 @@ fn question_word_with(word: &[u8]) -> Option<QuestionWord>
 fn read_one_number(words: &mut Words<'_>) -> Result<u32, ScriptCause>
     ensures { result ≡ one_number_reading words.old }
 {
-    let Some(number) = words.next() else {
-        return Err(ScriptCause::BadWord);
-    };
+    let number = words.next().ok_or(ScriptCause::BadWord)?;
     read_nothing(words)?;
     read_number(number)
 }
@@ -166,24 +164,19 @@ fn read_arguments(kind: QuestionWord, words: &mut Words<'_>) -> Result<Question,
 fn read_asked(words: &mut Words<'_>) -> Result<Question, ScriptCause>
     ensures { result ≡ question_by words.old }
 {
-    let Some(word) = words.next() else {
-        return Err(ScriptCause::BadWord);
-    };
-    match question_word_with(word) {
-        Some(kind) => read_arguments(kind, words),
-        None => Err(ScriptCause::BadWord),
-    }
+    let word = words.next().ok_or(ScriptCause::BadWord)?;
+    let kind = question_word_with(word).ok_or(ScriptCause::BadWord)?;
+    read_arguments(kind, words)
 }
 
 /// The question in these words of a line. Returns None if the first word is not `?`.
 fn read_words(words: &mut Words<'_>) -> Option<Result<Question, ScriptCause>>
     ensures { result ≡ question_in words.old }
 {
-    let word = words.next()?;
-    if word != b"?".as_slice() {
-        return None;
+    match words.next() {
+        Some(word) if word == b"?".as_slice() => Some(read_asked(words)),
+        _ => None,
     }
-    Some(read_asked(words))
 }
 
 /// Returns the question in a line, or what is wrong with it. Returns None if the first word of the line is not `?`,

@@ -1,9 +1,9 @@
 //! Reads a batch without faults: it splits each of its words off only once.
-ghost use Rattle.std.specs.Prelude.{◌≡◌, ◌∷◌, [], IfSome, Ok, map};
+ghost use Rattle.std.specs.Prelude.{◌≡◌, ◌∷◌, [], IfSome, Ok};
 ghost use Rattle.std.specs.List.{slice_split};
 ghost use Rattle.script_language.specs.LineWords.{is_separator};
 ghost use Rattle.script_language.specs.QuickBatch.{parts_behind, Parts, Pushes};
-ghost use Rattle.script_language.specs.Scripts.{one_name_reading, name_and_number_reading, branch_reading, command_reading, command_arguments_reading, all_read};
+ghost use Rattle.script_language.specs.Scripts.{one_name_reading, name_and_number_reading, branch_reading, command_arguments_reading, parts_reading};
 
 use crate::calls::{read_name, read_number};
 use crate::lines::{Words, is_separator};
@@ -19,8 +19,7 @@ fn has_more(words: &mut Words<'_>) -> Option<bool>
 {
     match words.next() {
         None => Some(false),
-        Some(word) if is_separator(word) => Some(true),
-        Some(_) => None,
+        Some(word) => is_separator(word).then_some(true),
     }
 }
 
@@ -119,7 +118,7 @@ fn push_next(commands: &mut Commands, words: &mut Words<'_>) -> Option<bool>
 /// The commands between separators. Returns None if one has a fault, or if memory runs out.
 #[tactic(auto, using(crate::proofs::QuickBatchLemmas::pushed_on, crate::proofs::QuickBatchLemmas::pushed_fewer, crate::proofs::QuickBatchLemmas::pushed_all))]
 pub(crate) fn quick_commands(alloc: Global, words: Words<'_>) -> Option<Commands>
-    ensures { IfSome result (λ commands. all_read (map command_reading (slice_split is_separator words.entry)) ≡ Ok commands) }
+    ensures { IfSome result (λ commands. parts_reading words.entry ≡ Ok commands) }
 {
     let mut left = words;
     let mut commands = Commands::new(alloc);

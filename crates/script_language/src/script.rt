@@ -1,9 +1,9 @@
 //! A script: its calls, each with its line and its client.
-ghost use Rattle.std.specs.Prelude.{◌≡◌, ◌<◌, ◌≤◌, ◌==◌, [], ◌∷◌, ◌++◌, not, find, option_map, slice_get, length, OnOk, Some};
+ghost use Rattle.std.specs.Prelude.{◌≡◌, ◌<◌, ◌≤◌, [], ◌∷◌, ◌++◌, option_map, slice_get, length, OnOk, Some};
 ghost use Rattle.dependence.specs.Limits.{client_limit};
-ghost use Rattle.inverse_log.specs.declared.call.Call.{Call as CallValue};
 ghost use Rattle.script_language.specs.ScriptCalls.{call_given, call_there};
-ghost use Rattle.script_language.specs.Simple.{simple_call, IsSimple};
+ghost use Rattle.script_language.specs.Scripts.{asked, stranger_line};
+ghost use Rattle.script_language.specs.Simple.{AddsSimple, IsSimple};
 
 use crate::kept::{Form, Kept, keep, keep_simple, made};
 use crate::plain::{GivenCall, PlainCall};
@@ -73,7 +73,7 @@ impl Script {
     /// Appends a call.
     pub(crate) fn push(&mut self, line: u64, client: u32, call: Call) -> Result<(), OutOfMemory>
         requires client { (1 ≤ client) × (client ≤ client_limit) }
-        ensures { OnOk result (self.new ≡ self.old ++ record { line = line; client = client; call = call } ∷ []) }
+        ensures { OnOk result (self.new ≡ self.old ++ asked line client call ∷ []) }
     {
         let kept = keep(&mut self.names, &mut self.owned, line, client, call)?;
         self.kept.push(kept)?;
@@ -89,8 +89,7 @@ impl Script {
     ) -> Result<(), OutOfMemory>
         requires client { (1 ≤ client) × (client ≤ client_limit) }
         requires simple { IsSimple simple.now }
-        ensures { OnOk result ((own : CallValue) × (self.new
-            ≡ self.old ++ record { line = line; client = client; call = simple_call simple.now own } ∷ [])) }
+        ensures { OnOk result (AddsSimple self.old line client simple.now self.new) }
     {
         let kept = keep_simple(&mut self.names, line, client, simple)?;
         self.kept.push(kept)?;
@@ -147,7 +146,7 @@ impl Script {
 
     /// Returns the line of the first call of another client, if there is one.
     pub fn stranger(&self, client: u32) -> Option<u64>
-        ensures { result ≡ option_map (λ asked. asked.line) (find (λ asked. not (asked.client == client)) self.now) }
+        ensures { result ≡ stranger_line client self.now }
     {
         for at in 0..self.len() {
             if self.client(at) != client {

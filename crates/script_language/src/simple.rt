@@ -1,10 +1,9 @@
 //! Reads calls that own no memory from their lines, without making them: it borrows their names.
 ghost use Rattle.std.specs.Prelude.{◌≡◌, ◌≤◌, true, length, IfSome, Ok, Some};
 ghost use Rattle.dependence.specs.Limits.{client_limit};
-ghost use Rattle.inverse_log.specs.declared.call.Call.{Call};
 ghost use Rattle.moves.specs.Names.{is_name};
-ghost use Rattle.script_language.specs.Scripts.{one_name_reading, name_and_number_reading, arguments_reading, call_reading, words_reading, script_line_reading};
-ghost use Rattle.script_language.specs.Simple.{simple_call, AsksCall, AsksLine, AsksWords, IsSimple};
+ghost use Rattle.script_language.specs.Scripts.{one_name_reading, name_and_number_reading, call_reading, words_reading, script_line_reading};
+ghost use Rattle.script_language.specs.Simple.{AsksCall, AsksLine, AsksWords, IsSimple, ReadsAs};
 
 use crate::calls::{MAX_SCRIPT_LINE, read_client, read_number};
 use crate::kept::Form;
@@ -99,8 +98,7 @@ fn with_number<'a>(form: Form, pair: (&'a [u8], u32)) -> Simple<'a>
 
 /// The arguments of `branch`.
 fn branch<'a>(words: &mut Words<'a>) -> Option<Simple<'a>>
-    ensures read { IfSome result (λ s. (own : Call) →
-        arguments_reading (Some (Verb.Do CommandVerb.Branch)) words.old ≡ Ok (simple_call s own)) }
+    ensures read { IfSome result (ReadsAs (Some (Verb.Do CommandVerb.Branch)) words.old) }
     ensures simple { IfSome result (λ s. IsSimple s) }
 {
     let name = words.next()?;
@@ -125,8 +123,7 @@ fn branch<'a>(words: &mut Words<'a>) -> Option<Simple<'a>>
 
 /// The arguments of a command of this kind.
 fn command<'a>(verb: CommandVerb, words: &mut Words<'a>) -> Option<Simple<'a>>
-    ensures read { IfSome result (λ s. (own : Call) →
-        arguments_reading (Some (Verb.Do verb)) words.old ≡ Ok (simple_call s own)) }
+    ensures read { IfSome result (ReadsAs (Some (Verb.Do verb)) words.old) }
     ensures simple { IfSome result (λ s. IsSimple s) }
 {
     match verb {
@@ -157,8 +154,7 @@ fn nameless<'a>(form: Form, number: u32) -> Simple<'a>
 
 /// The argument of `undo`, if it has one.
 fn undo<'a>(words: &mut Words<'a>) -> Option<Simple<'a>>
-    ensures read { IfSome result (λ s. (own : Call) →
-        arguments_reading (Some Verb.Undo) words.old ≡ Ok (simple_call s own)) }
+    ensures read { IfSome result (ReadsAs (Some Verb.Undo) words.old) }
     ensures simple { IfSome result (λ s. IsSimple s) }
 {
     let Some(entry) = words.next() else {
@@ -175,8 +171,7 @@ fn undo<'a>(words: &mut Words<'a>) -> Option<Simple<'a>>
 
 /// The arguments of a call of this kind.
 fn arguments<'a>(verb: Verb, words: &mut Words<'a>) -> Option<Simple<'a>>
-    ensures read { IfSome result (λ s. (own : Call) →
-        arguments_reading (Some verb) words.old ≡ Ok (simple_call s own)) }
+    ensures read { IfSome result (ReadsAs (Some verb) words.old) }
     ensures simple { IfSome result (λ s. IsSimple s) }
 {
     match verb {
@@ -206,10 +201,7 @@ fn words_of<'a>(words: &mut Words<'a>) -> Option<(u32, Found<'a>)>
     ensures asks { IfSome result (λ pair. AsksWords pair.0 pair.1 (words_reading words.old)) }
     ensures client { IfSome result (λ pair. (1 ≤ pair.0) × (pair.0 ≤ client_limit)) }
 {
-    let word = words.next()?;
-    let Ok(client) = read_client(word) else {
-        return None;
-    };
+    let client = read_client(words.next()?).ok()?;
     let call = call(words)?;
     Some((client, call))
 }
