@@ -1,6 +1,6 @@
 -- What a replay returns and writes: the answers to a script's calls, made one after another, or the fault that comes
 -- before them. All notions here are this project's own.
-use Rattle.std.specs.Prelude.{◌≡◌, ◌⊎◌, ℕ, ◌<◌, ◌≤◌, List, [], ◌∷◌, length, take, filter, flat_map, Option, Result, Ok, Err, is_ok, is_err, ⊤}
+use Rattle.std.specs.Prelude.{◌≡◌, ◌⊎◌, ℕ, ◌<◌, ◌≤◌, List, [], ◌∷◌, length, take, filter, flat_map, Option, Result, Ok, Err, IfSome, is_ok, is_err, ⊤}
 use Rattle.std.specs.Io.KnownBytes.{Appends}
 use Rattle.rapid_text.specs.Recording.{Recording}
 use Rattle.inverse_log.specs.Answer.{answer_of, log_after}
@@ -102,6 +102,10 @@ IsFault t fault = ⊥
 abbrev pub AppendsPart : Option (List ℕ) → Option (List ℕ) → List ℕ → Type 0
 AppendsPart old new bytes = (n : ℕ) × Appends old new (take n bytes)
 
+-- the known bytes grow by a beginning of these, but not by all
+abbrev pub AppendsFewer : Option (List ℕ) → Option (List ℕ) → List ℕ → Type 0
+AppendsFewer old new bytes = (n : ℕ) × (n < length bytes) × Appends old new (take n bytes)
+
 -- a beginning of the text was written, or nothing
 abbrev pub IsBegun : Texts → Option (List ℕ) → Option (List ℕ) → Type 0
 IsBegun t old new = (new ≡ old) ⊎ ((said : Said t) × AppendsPart old new (script_text said.trace said.asked))
@@ -114,3 +118,16 @@ IsReplay t old new (Ok tally) =
 IsReplay t old new (Err Write) = IsBegun t old new
 IsReplay t old new (Err OutOfMemory) = IsBegun t old new
 IsReplay t old new (Err fault) = IsFault t fault × (new ≡ old)
+
+-- A trace and a script were replayed. `trace` and `script` are the bytes of their readers, if the readers show them.
+abbrev pub IsReplayOfTwo : (trace script old new : Option (List ℕ)) → Result Tally ReplayFault → Type 0
+IsReplayOfTwo trace script old new result =
+    (first : List ℕ) × (second : List ℕ)
+    × IfSome trace (λ told. first ≡ told)
+    × IfSome script (λ told. second ≡ told)
+    × IsReplay (of_two first second) old new result
+
+-- the same of one input
+abbrev pub IsJointReplay : (input old new : Option (List ℕ)) → Result Tally ReplayFault → Type 0
+IsJointReplay input old new result =
+    (bytes : List ℕ) × IfSome input (λ told. bytes ≡ told) × IsReplay (of_joint bytes) old new result

@@ -12,7 +12,11 @@ use Rattle.trace_rules.specs.declared.refusal.RuleRefusal.{RuleRefusal}
 use Rattle.inverse_log.specs.Answer.{answer_of, log_after}
 use Rattle.inverse_log.specs.declared.call.Call.{Call}
 use Rattle.inverse_log.specs.declared.entry.Entry.{Entry}
-use Rattle.client_scripts.specs.Replay.{AppendsPart, IsShort, answer_text, script_text, tally_of}
+use Rattle.inverse_log.specs.declared.refusal.Refusal.{Refusal}
+use Rattle.inverse_log.specs.declared.reply.Reply.{Reply}
+use Rattle.inverse_log.specs.Log.{Benched}
+use Rattle.client_scripts.specs.Replay.{AppendsPart, IsReplay, IsShort, answer_text, of_two, script_text, tally_of}
+use Rattle.client_scripts.specs.Traces.{trace_of}
 use Rattle.script_language.specs.Scripts.{Asked, IsScript}
 use Rattle.client_scripts.specs.declared.fault.ReadCause.TheVariants.{Device, TooLong}
 use Rattle.client_scripts.specs.declared.fault.ReadFault.{ReadFault}
@@ -61,6 +65,18 @@ pub record MakesCall (trace : Recording) (script : List Asked) (at : ℕ) (log :
   pub reply : accepted ≡ is_ok (answer_of trace log asked.0 asked.1)
   pub logged : after ≡ log_after trace log asked.0 asked.1
 
+-- the answer to the client's call on the bench, and its line
+abbrev pub answer_on : Benched → ℕ → Call → Result Reply Refusal
+answer_on bench client call = answer_of bench.trace bench.log client call
+
+abbrev pub answer_line : Benched → ℕ → Call → List ℕ
+answer_line bench client call = answer_text bench.trace (answer_on bench client call)
+
+-- the script's call with this index was made on the bench, and the line of its answer was appended
+abbrev pub MakesCallOn : List Asked → ℕ → Benched → Benched → List ℕ → List ℕ → Bool → Type 0
+MakesCallOn script at old new out_old out_new accepted =
+    MakesCall old.trace script at old.log accepted out_old new.log out_new
+
 -- The line comes after the bytes that were kept before. The writer has taken a beginning of these bytes, and the rest
 -- is kept.
 abbrev pub HandsOn : Option (List ℕ) → Option (List ℕ) → List ℕ → List ℕ → List ℕ → Type 0
@@ -80,3 +96,13 @@ IsScriptRun trace text old new (Err (Script refusal)) = IsScript text (Err refus
 IsScriptRun trace text old new (Err OutOfMemory) =
     (new ≡ old) ⊎ ((asked : List Asked) × IsScript text (Ok asked) × IsRun trace asked old new (Err OutOfMemory))
 IsScriptRun trace text old new result = (asked : List Asked) × IsScript text (Ok asked) × IsRun trace asked old new result
+
+-- A script was replayed on the trace. `script` is the bytes of its reader, if the reader shows them.
+abbrev pub IsReplayOn : Recording → (script old new : Option (List ℕ)) → Result Tally ReplayFault → Type 0
+IsReplayOn trace script old new result =
+    (first : List ℕ)
+    → IsShort first
+    → trace_of first ≡ Ok trace
+    → (second : List ℕ)
+    × IfSome script (λ told. second ≡ told)
+    × IsReplay (of_two first second) old new result

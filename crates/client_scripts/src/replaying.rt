@@ -1,10 +1,9 @@
 //! Replays a script on a trace: reads both, makes the script's calls, and writes a line for each answer.
-ghost use Rattle.std.specs.Prelude.{◌≡◌, ◌≢◌, ◌⊎◌, ◌<◌, ◌≤◌, ℕ, List, [], length, true, false, is_err, is_ok, IfErr, IfOk, IfSome, OnOk, OnErr, Ok, Err};
+ghost use Rattle.std.specs.Prelude.{◌≡◌, ◌≢◌, ◌<◌, ◌≤◌, ℕ, [], length, true, false, is_err, is_ok, IfErr, IfOk, OnOk, OnErr, Ok, Err};
 ghost use Rattle.std.specs.Io.KnownBytes.{Appends};
-ghost use Rattle.inverse_log.specs.Answer.{answer_of, log_after};
-ghost use Rattle.client_scripts.specs.Replay.{AppendsPart, IsReplay, IsShort, answer_text, of_joint, of_two};
-ghost use Rattle.client_scripts.specs.Steps.{HandsOn, IsRun, IsScriptRun, MakesCall};
-ghost use Rattle.client_scripts.specs.Traces.{trace_of};
+ghost use Rattle.inverse_log.specs.Answer.{log_after};
+ghost use Rattle.client_scripts.specs.Replay.{AppendsPart, IsJointReplay, IsReplay, IsReplayOfTwo, IsShort, of_joint};
+ghost use Rattle.client_scripts.specs.Steps.{HandsOn, IsReplayOn, IsRun, IsScriptRun, MakesCallOn, answer_line, answer_on};
 ghost use Rattle.client_scripts.specs.declared.fault.ReadCause.{ReadCause};
 ghost use Rattle.client_scripts.specs.declared.fault.ReadCause.TheVariants.{Device};
 ghost use Rattle.client_scripts.specs.declared.fault.ReplayFault.TheVariants.{Write, Read};
@@ -38,8 +37,8 @@ fn make_plain(
     requires low { 1 ≤ client }
     requires high { client ≤ client_limit }
     ensures trace { bench.new.trace ≡ bench.old.trace }
-    ensures text { Appended result out.old out.new (answer_text bench.old.trace (answer_of bench.old.trace bench.old.log client call.now)) }
-    ensures accepted { IfOk result (λ accepted. accepted ≡ is_ok (answer_of bench.old.trace bench.old.log client call.now)) }
+    ensures text { Appended result out.old out.new (answer_line bench.old client call.now) }
+    ensures accepted { IfOk result (λ accepted. accepted ≡ is_ok (answer_on bench.old client call.now)) }
     ensures log { OnOk result (bench.new.log ≡ log_after bench.old.trace bench.old.log client call.now) }
 {
     if let Some(name) = call.shown() {
@@ -64,8 +63,8 @@ fn tell_answer(
     requires low { 1 ≤ client }
     requires high { client ≤ client_limit }
     ensures trace { bench.new.trace ≡ bench.old.trace }
-    ensures text { Appended result out.old out.new (answer_text bench.old.trace (answer_of bench.old.trace bench.old.log client call.now)) }
-    ensures accepted { IfOk result (λ accepted. accepted ≡ is_ok (answer_of bench.old.trace bench.old.log client call.now)) }
+    ensures text { Appended result out.old out.new (answer_line bench.old client call.now) }
+    ensures accepted { IfOk result (λ accepted. accepted ≡ is_ok (answer_on bench.old client call.now)) }
     ensures log { OnOk result (bench.new.log ≡ log_after bench.old.trace bench.old.log client call.now) }
 {
     match bench.call(client, call) {
@@ -92,8 +91,7 @@ fn make_call_at(
 ) -> Result<bool, OutOfMemory>
     requires { at < length script.now }
     ensures trace { bench.new.trace ≡ bench.old.trace }
-    ensures made { IfOk result
-        (λ accepted. MakesCall bench.old.trace script.now at bench.old.log accepted out.old.items bench.new.log out.new.items) }
+    ensures made { IfOk result (MakesCallOn script.now at bench.old bench.new out.old.items out.new.items) }
 {
     let client = script.client(at);
     match script.given(at) {
@@ -111,9 +109,7 @@ fn write_out<K: Sink>(writer: &mut K, kept: &mut Vec<u8>) -> Result<(), ReplayFa
     ensures cause { IfErr result (λ fault. fault ≡ Write) }
     ensures failed { K.has_failed writer.new ≡ is_err result }
 {
-    if write_all(writer, kept).is_err() {
-        return Err(ReplayFault::Write);
-    }
+    write_all(writer, kept).ok().ok_or(ReplayFault::Write)?;
     kept.clear();
     Ok(())
 }
@@ -250,9 +246,7 @@ fn replay_on<R: Source, K: Sink>(
 ) -> Result<Tally, ReplayFault>
     requires script { R.has_failed script.old ≡ false }
     requires writer { K.has_failed writer.old ≡ false }
-    ensures replay { (first : List ℕ) → IsShort first → trace_of first ≡ Ok indexed → (second : List ℕ)
-        × IfSome (R.rest script.old) (λ told. second ≡ told)
-        × IsReplay (of_two first second) (K.taken writer.old) (K.taken writer.new) result }
+    ensures replay { IsReplayOn indexed (R.rest script.old) (K.taken writer.old) (K.taken writer.new) result }
     ensures input { (why : ReadCause) → result ≢ Err (Read 1 why) }
     ensures script_device { result ≡ Err (Read 2 Device) → R.has_failed script.new ≡ true }
     ensures script_failed { R.has_failed script.new ≡ true → result ≡ Err (Read 2 Device) }
@@ -283,10 +277,8 @@ pub fn replay<S: Source, R: Source, K: Sink>(
     requires script { R.has_failed script.old ≡ false }
     requires writer { K.has_failed writer.old ≡ false }
     // There are texts that give this result. If the readers' types show their bytes, the texts are those bytes.
-    ensures replay { (first : List ℕ) × (second : List ℕ)
-        × IfSome (S.rest trace.old) (λ told. first ≡ told)
-        × IfSome (R.rest script.old) (λ told. second ≡ told)
-        × IsReplay (of_two first second) (K.taken writer.old) (K.taken writer.new) result }
+    ensures replay { IsReplayOfTwo (S.rest trace.old) (R.rest script.old) (K.taken writer.old) (K.taken writer.new)
+        result }
     // The fault is `Device` exactly if a read failed, and `Write` exactly if a write failed.
     ensures device { result ≡ Err (Read 1 Device) → S.has_failed trace.new ≡ true }
     ensures read_failed { S.has_failed trace.new ≡ true → result ≡ Err (Read 1 Device) }
@@ -326,9 +318,7 @@ pub fn replay_joint<S: Source, K: Sink>(
     requires reader { S.has_failed reader.old ≡ false }
     requires writer { K.has_failed writer.old ≡ false }
     // There is a text that gives this result. If the reader's type shows its bytes, the text is those bytes.
-    ensures replay { (bytes : List ℕ)
-        × IfSome (S.rest reader.old) (λ told. bytes ≡ told)
-        × IsReplay (of_joint bytes) (K.taken writer.old) (K.taken writer.new) result }
+    ensures replay { IsJointReplay (S.rest reader.old) (K.taken writer.old) (K.taken writer.new) result }
     ensures input { (why : ReadCause) → result ≢ Err (Read 2 why) }
     ensures device { result ≡ Err (Read 1 Device) → S.has_failed reader.new ≡ true }
     ensures read_failed { S.has_failed reader.new ≡ true → result ≡ Err (Read 1 Device) }

@@ -1,7 +1,8 @@
 //! Writers whose bytes and failures a contract can name.
-ghost use Rattle.std.specs.Prelude.{◌≡◌, ◌≢◌, ℕ, ◌<◌, ◌≤◌, ◌||◌, length, take, is_err, false, IfOk, IfErr, OnOk, OnErr};
+ghost use Rattle.std.specs.Prelude.{◌≡◌, ◌≢◌, ◌<◌, ◌≤◌, ◌||◌, length, is_err, false, IfOk, IfErr, OnOk, OnErr};
 ghost use Rattle.std.specs.Io.KnownBytes.{Appends, Keeps, WriteAppends};
 ghost use Rattle.std.specs.IoError.{error_kind};
+ghost use Rattle.client_scripts.specs.Replay.{AppendsFewer};
 
 use crate::source::{Failed, MAX_INTERRUPTS};
 use std::io;
@@ -107,8 +108,7 @@ impl<W: io::Write> Sink for FromWrite<W> {
 pub fn write_all<K: Sink>(sink: &mut K, bytes: &[u8]) -> Result<(), Failed>
     requires { K.has_failed sink.old ≡ false }
     ensures ok { OnOk result (Appends (K.taken sink.old) (K.taken sink.new) bytes.now) }
-    ensures err { OnErr result
-        ((n : ℕ) × (n < length bytes.now) × Appends (K.taken sink.old) (K.taken sink.new) (take n bytes.now)) }
+    ensures err { OnErr result (AppendsFewer (K.taken sink.old) (K.taken sink.new) bytes.now) }
     ensures failed { K.has_failed sink.new ≡ is_err result }
 {
     let mut at = 0;
