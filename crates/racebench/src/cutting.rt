@@ -3,8 +3,7 @@ ghost use Rattle.std.specs.Prelude.{◌<◌};
 
 use crate::doing::finish;
 use crate::folders::{Folder, folder_at};
-use crate::input::input_at;
-use crate::pieces::Pieces;
+use crate::pieces::{Pieces, pieces_at};
 use crate::quoted::append_number;
 use crate::telling::{tell_past_end, tell_replay, tell_windows};
 use crate::telling_paths::{tell_full, tell_unlisted, tell_unwritten};
@@ -47,10 +46,9 @@ fn held_note_of(task: &CutTask<'_>) -> &'static [u8] {
 fn cut_by(rt: &HostRuntime, task: &CutTask<'_>) -> Result<ExitCode, BenchFault>
     requires { 0 < task.now.most }
 {
-    let pieces = Pieces::new(rt.alloc(), input_at(rt, task.trace));
     match task.into {
-        Some(folder) => write_windows(rt, pieces, task.most, folder),
-        None => print_window(rt, pieces, task),
+        Some(folder) => write_windows(rt, pieces_at(rt, task.trace), task.most, folder),
+        None => print_window(rt, pieces_at(rt, task.trace), task),
     }
 }
 
@@ -78,12 +76,10 @@ fn print_window(
 
 /// Whether nothing was printed because the trace has too many threads.
 fn is_too_wide(printed: &Result<ExitCode, BenchFault>) -> bool {
-    match printed {
-        Err(BenchFault::Replay(ReplayFault::Text(refusal))) => {
-            refusal.why == TextCause::TooManyNames
-        }
-        _ => false,
-    }
+    let Err(BenchFault::Replay(ReplayFault::Text(refusal))) = printed else {
+        return false;
+    };
+    refusal.why == TextCause::TooManyNames
 }
 
 /// How many events the trace has, if it can be read whole: it has not more events than a trace may have, nor more bytes
@@ -273,25 +269,35 @@ fn fill_file(rt: &HostRuntime, mut file: File, path: &str, text: &[u8]) -> io::R
     }
 }
 
-/// Prints the counts of the windows: see `append_counts`.
+/// Prints the counts of the windows: see `counts_of`.
 fn print_counts(rt: &HostRuntime, windows: &Windows, count: u64) -> ExitCode {
-    let mut text = Vec::new(rt.alloc());
-    match append_counts(&mut text, windows, count) {
-        Ok(()) => print_text(rt, text.as_slice()),
+    match counts_of(rt.alloc(), windows, count) {
+        Ok(text) => print_text(rt, text.as_slice()),
         Err(_) => tell_replay(rt, ReplayFault::OutOfMemory),
     }
 }
 
-/// Appends four lines: how many windows there are, how many of them are shorter, and how many events and threads.
-pub(crate) fn append_counts(
+/// Four lines: how many windows there are, how many of them are shorter, and how many events and threads.
+pub(crate) fn counts_of(
+    alloc: Global,
+    windows: &Windows,
+    count: u64,
+) -> Result<Vec<u8>, OutOfMemory> {
+    let mut text = Vec::new(alloc);
+    append_counts(&mut text, windows, count, windows.threads(alloc)?)?;
+    Ok(text)
+}
+
+/// Appends these lines.
+fn append_counts(
     out: &mut Vec<u8>,
     windows: &Windows,
     count: u64,
+    threads: u64,
 ) -> Result<(), OutOfMemory> {
     append_count(out, b"windows ", count)?;
     append_count(out, b"shorter ", windows.short())?;
     append_count(out, b"events ", windows.events())?;
-    let threads = windows.threads(*out.allocator())?;
     append_count(out, b"threads ", threads)
 }
 

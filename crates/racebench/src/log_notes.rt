@@ -1,7 +1,7 @@
 //! Notes on a file whose first line is not that of a log: it is empty, of another version, or damaged.
 
 use crate::lines::{first_line, first_word};
-use crate::quoted::append_name;
+use crate::notes::append_about;
 use rapid_text::OutOfMemory;
 
 /// How the first line of a log begins in each version. The version comes after this.
@@ -84,10 +84,5 @@ pub(crate) fn append_head_note(
     fault: BadHead,
     words: &[u8],
 ) -> Result<(), OutOfMemory> {
-    out.extend_from_slice(b"note: ")?;
-    append_name(out, name)?;
-    out.extend_from_slice(words_of(fault))?;
-    out.extend_from_slice(words)?;
-    out.extend_from_slice(b"\n")?;
-    Ok(())
+    append_about(out, name, words_of(fault), words)
 }

@@ -72,12 +72,21 @@ pub(crate) fn append_kind(
     likeness: Likeness,
     words: &[u8],
 ) -> Result<(), OutOfMemory> {
+    append_about(out, name, words_of(likeness), words)
+}
+
+/// Appends a note on an input: its name, what it is, and these words.
+pub(crate) fn append_about(
+    out: &mut Vec<u8>,
+    name: &str,
+    what: &[u8],
+    words: &[u8],
+) -> Result<(), OutOfMemory> {
     out.extend_from_slice(b"note: ")?;
     append_name(out, name)?;
-    out.extend_from_slice(words_of(likeness))?;
+    out.extend_from_slice(what)?;
     out.extend_from_slice(words)?;
-    out.extend_from_slice(b"\n")?;
-    Ok(())
+    Ok(out.extend_from_slice(b"\n")?)
 }
 
 /// Why an opened input was not read, in words.

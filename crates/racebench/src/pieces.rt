@@ -1,7 +1,7 @@
 //! Reads a trace of any length in pieces of whole lines.
 ghost use Rattle.std.specs.Prelude.{◌≤◌, length};
 
-use crate::input::Input;
+use crate::input::{Input, input_at};
 use crate::marked::tell_mark;
 use client_scripts::{LIMIT, ReadCause, ReplayFault, Source};
 use memchr::memchr;
@@ -27,6 +27,14 @@ pub(crate) struct Pieces {
 pub(crate) struct Span {
     pub(crate) end: usize,
     pub(crate) events: usize,
+}
+
+/// No lines, at this index.
+fn empty_at(start: usize) -> Span {
+    Span {
+        end: start,
+        events: 0,
+    }
 }
 
 /// Whether the line is an event, or is refused. These are all lines except empty ones and bounds of atomic blocks.
@@ -78,13 +86,8 @@ pub(crate) fn end_of_line(bytes: &[u8], number: u64) -> usize {
 
 /// How many lines end before this index.
 pub(crate) fn lines_before(bytes: &[u8], at: usize) -> u64 {
-    let mut lines = 0u64;
-    for byte in before(bytes, at).iter() {
-        if *byte == b'\n' {
-            lines = lines.saturating_add(1);
-        }
-    }
-    lines
+    let ends = before(bytes, at).iter().filter(|byte| **byte == b'\n');
+    ends.count() as u64
 }
 
 /// Where the line of the event with this number begins. Events are counted from 0.
@@ -178,10 +181,7 @@ impl Pieces {
 
     /// The lines from this index on, up to the last of `events` events, or to the end of the input.
     pub(crate) fn span(&mut self, start: usize, events: usize) -> Result<Span, ReplayFault> {
-        let mut span = Span {
-            end: start,
-            events: 0,
-        };
+        let mut span = empty_at(start);
         for _ in 0..READS {
             if span.events >= events {
                 return Ok(span);
@@ -196,11 +196,7 @@ impl Pieces {
 
     /// The same; fewer lines, if no more can be kept at once.
     pub(crate) fn span_kept(&mut self, start: usize, events: usize) -> Result<Span, ReplayFault> {
-        let none = Span {
-            end: start,
-            events: 0,
-        };
-        self.span_more(none, events)
+        self.span_more(empty_at(start), events)
     }
 
     /// The same, if these first lines were found before.
@@ -248,13 +244,15 @@ impl Pieces {
     }
 }
 
+/// The trace in a file, of which nothing was read yet.
+pub(crate) fn pieces_at(rt: &HostRuntime, path: &str) -> Pieces {
+    Pieces::new(rt.alloc(), input_at(rt, path))
+}
+
 /// Whether the fault is that no more can be kept.
 fn is_full(fault: ReplayFault) -> bool {
     match fault {
-        ReplayFault::Read {
-            input: _,
-            why: ReadCause::TooLong,
-        } => true,
+        ReplayFault::Read { input: _, why } => why == ReadCause::TooLong,
         _ => false,
     }
 }

@@ -1,7 +1,7 @@
 //! How `triage --windows` prints the merged report of its windows.
 ghost use Rattle.std.specs.Prelude.{◌≡◌, false};
 
-use crate::cutting::append_counts;
+use crate::cutting::counts_of;
 use crate::judging_windows::Report;
 use crate::leaving::{Printed, is_any, wanted_in, write_decided};
 use crate::logging::write_log_in;
@@ -50,8 +50,7 @@ fn write_chosen<K: Sink>(
     match report.task.form {
         RacesForm::Json | RacesForm::Page | RacesForm::Sarif => write_rest(rt, report, writer),
         _ => {
-            let mut head = Vec::new(rt.alloc());
-            append_counts(&mut head, windows, report.count)?;
+            let head = counts_of(rt.alloc(), windows, report.count)?;
             match write_all(writer, head.as_slice()) {
                 Ok(()) => write_rest(rt, report, writer),
                 Err(_) => Err(MergeFault::Replay(ReplayFault::Write)),
@@ -86,10 +85,14 @@ fn write_rest<K: Sink>(
 
 /// The outcome, in the type of the calls on merged reports.
 fn told_of(written: Result<u64, TriageFault>) -> Result<u64, MergeFault> {
-    match written {
-        Ok(races) => Ok(races),
-        Err(TriageFault::Replay(fault)) => Err(MergeFault::Replay(fault)),
-        Err(_) => Err(MergeFault::Replay(ReplayFault::OutOfMemory)),
+    written.map_err(|fault| fault_of(fault))
+}
+
+/// The fault, in the type of those calls.
+fn fault_of(fault: TriageFault) -> MergeFault {
+    match fault {
+        TriageFault::Replay(fault) => MergeFault::Replay(fault),
+        _ => MergeFault::Replay(ReplayFault::OutOfMemory),
     }
 }
 
@@ -102,8 +105,7 @@ fn write_lines<K: Sink>(
 ) -> Result<u64, MergeFault>
     requires { K.has_failed writer.old ≡ false }
 {
-    let mut head = Vec::new(alloc);
-    append_counts(&mut head, windows, report.count)?;
+    let head = counts_of(alloc, windows, report.count)?;
     match write_all(writer, head.as_slice()) {
         Ok(()) => write_merged(alloc, &report.parts, report.task.apart, writer),
         Err(_) => Err(MergeFault::Replay(ReplayFault::Write)),

@@ -9,10 +9,15 @@ const MAX_LINE_SHOWN: usize = 60;
 /// Appends the bytes, with a question mark instead of each that is no printable ASCII character.
 pub(crate) fn append_shown(out: &mut Vec<u8>, bytes: &[u8]) -> Result<(), OutOfMemory> {
     for byte in bytes {
-        let is_printed = *byte >= b' ' && *byte <= b'~';
-        out.push(if is_printed { *byte } else { b'?' })?;
+        out.push(shown(*byte))?;
     }
     Ok(())
+}
+
+/// The byte, or a question mark if it is no printable ASCII character.
+fn shown(byte: u8) -> u8 {
+    let is_printed = byte >= b' ' && byte <= b'~';
+    if is_printed { byte } else { b'?' }
 }
 
 /// Appends the name of an input, with a question mark instead of each control character. `-` becomes `standard input`.

@@ -30,6 +30,14 @@ fn unread() -> SessionFault {
     })
 }
 
+/// 94: the place of a closed standard stream was not taken.
+fn unheld() -> SessionFault {
+    SessionFault::Replay(ReplayFault::Read {
+        input: 3,
+        why: ReadCause::Device,
+    })
+}
+
 /// 95: the log's file was not written.
 fn unwritten() -> SessionFault {
     SessionFault::Replay(ReplayFault::Write)
@@ -213,13 +221,9 @@ fn opened_for(
     indexed: &Indexed,
     path: &str,
 ) -> Result<(Vec<u8>, File), SessionFault> {
-    match head_of(rt.alloc(), indexed) {
-        Ok(head) => match log_at(rt, path, &head) {
-            Ok(file) => Ok((head, file)),
-            Err(fault) => Err(fault),
-        },
-        Err(fault) => Err(SessionFault::from(fault)),
-    }
+    let head = head_of(rt.alloc(), indexed)?;
+    let file = log_at(rt, path, &head)?;
+    Ok((head, file))
 }
 
 /// Answers standard input on a trace and the log at this path.
@@ -256,13 +260,7 @@ fn answer_input<K: Sink>(
 
 /// An open folder. If a standard stream is closed, it takes that place, and reads and writes there fail.
 fn held(rt: &HostRuntime) -> Result<File, SessionFault> {
-    match File::open(rt, "/") {
-        Ok(file) => Ok(file),
-        Err(_) => Err(SessionFault::Replay(ReplayFault::Read {
-            input: 3,
-            why: ReadCause::Device,
-        })),
-    }
+    File::open(rt, "/").map_err(|_| unheld())
 }
 
 /// Answers standard input, with the places of closed standard streams taken. Else the log might be opened in such a

@@ -215,11 +215,16 @@ const ORDER: &[u8] = b"note: the trace comes first, and then the two events or l
 
 /// Whether the trace was not read, and the second event is named by what is a file.
 fn is_in_other_order(rt: &HostRuntime, fault: ReplayFault, pair: &PairTask<'_>) -> bool {
+    match pair.other {
+        Named::Place(word) => is_unread(fault) && is_plain(rt, word),
+        Named::Event(_) => false,
+    }
+}
+
+/// Whether the trace was not read.
+fn is_unread(fault: ReplayFault) -> bool {
     match fault {
-        ReplayFault::Read { input: _, why: _ } => match pair.other {
-            Named::Place(word) => is_plain(rt, word),
-            Named::Event(_) => false,
-        },
+        ReplayFault::Read { input: _, why: _ } => true,
         _ => false,
     }
 }
@@ -232,10 +237,20 @@ fn append_in_trace(
     pair: &PairTask<'_>,
 ) -> Result<(), OutOfMemory> {
     append_in_files(rt, out, &BenchFault::from(fault), &[pair.trace])?;
-    if are_wanted(rt) && is_in_other_order(rt, fault, pair) {
-        out.extend_from_slice(ORDER)?;
+    append_order_note(rt, out, fault, pair)
+}
+
+/// Appends the note on the order of the arguments, if the trace was not read and the last argument is a file.
+fn append_order_note(
+    rt: &HostRuntime,
+    out: &mut Vec<u8>,
+    fault: ReplayFault,
+    pair: &PairTask<'_>,
+) -> Result<(), OutOfMemory> {
+    if !are_wanted(rt) || !is_in_other_order(rt, fault, pair) {
+        return Ok(());
     }
-    Ok(())
+    Ok(out.extend_from_slice(ORDER)?)
 }
 
 /// Reports a fault of the trace of this pair of events.

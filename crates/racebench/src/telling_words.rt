@@ -1,15 +1,15 @@
 //! What the program prints instead of doing a task: help, or why the arguments are refused.
 
 use crate::LIMITS;
+use crate::cutting::print_text;
 use crate::file_notes::is_plain;
 use crate::lines::{behind_line, first_line};
 use crate::notes::{append_named, are_wanted};
 use crate::telling::{REFUSED, say, tell_replay};
-use client_scripts::{FromWrite, ReplayFault, write_all};
+use client_scripts::ReplayFault;
 use program_words::{Told, task_of};
 use rapid_text::OutOfMemory;
 use std::alloc::Global;
-use std::io;
 use std::process::ExitCode;
 
 /// The note on refused arguments that name no command.
@@ -26,15 +26,6 @@ pub(crate) const EMPTY_TEXT: &[u8] =
 
 /// How the line of a help text begins that has the usage.
 const USAGE: &[u8] = b"Usage: ";
-
-/// Prints the help that the arguments request.
-fn help(rt: &HostRuntime, text: &[u8]) -> ExitCode {
-    let mut writer = FromWrite::new(io::writer(rt));
-    if write_all(&mut writer, text).is_err() || writer.flush().is_err() {
-        return tell_replay(rt, ReplayFault::Write);
-    }
-    ExitCode::SUCCESS
-}
 
 /// The usage in the help of a command or in a refusal; None if the text has no such line.
 fn usage_in(text: &[u8]) -> Option<&[u8]> {
@@ -131,7 +122,7 @@ pub(crate) fn tell_refusal(rt: &HostRuntime, refusal: &[u8], words: &[String]) -
 /// Prints help, or reports why the arguments are refused, of which the first is the program's name.
 pub(crate) fn tell_words(rt: &HostRuntime, told: &Told, words: &[String]) -> ExitCode {
     match told {
-        Told::Help(text) => help(rt, text.as_bytes()),
+        Told::Help(text) => print_text(rt, text.as_bytes()),
         Told::Refusal(text) => tell_refusal(rt, text.as_bytes(), words),
         Told::OutOfMemory => tell_replay(rt, ReplayFault::OutOfMemory),
     }

@@ -13,13 +13,9 @@ pub(crate) fn today_of(rt: &HostRuntime, given: Option<u32>) -> Option<u32> {
 
 /// The day that the clock shows.
 fn day_now(rt: &HostRuntime) -> Option<u32> {
-    let Ok(now) = SystemTime::now(rt) else {
-        return None;
-    };
-    match now.duration_since(UNIX_EPOCH) {
-        Ok(since) => u32::try_from(day_after(since.as_secs() / 86_400)).ok(),
-        Err(_) => None,
-    }
+    let now = SystemTime::now(rt).ok()?;
+    let since = now.duration_since(UNIX_EPOCH).ok()?;
+    u32::try_from(day_after(since.as_secs() / 86_400)).ok()
 }
 
 /// The number of the day that comes `days` days after 1 January 1970. Years begin in March here, so that a leap day is

@@ -28,12 +28,21 @@ pub(crate) fn append_limit_note(
     out: &mut Vec<u8>,
     refusal: &TextRefusal,
 ) -> Result<(), OutOfMemory> {
+    append_limit(out, refusal, LONG, WIDE)
+}
+
+/// Appends one of these notes: `long` if there are too many events, `wide` if there are too many threads.
+fn append_limit(
+    out: &mut Vec<u8>,
+    refusal: &TextRefusal,
+    long: &[u8],
+    wide: &[u8],
+) -> Result<(), OutOfMemory> {
     match refusal.why {
-        TextCause::TooManyEvents => out.extend_from_slice(LONG)?,
-        TextCause::TooManyNames => out.extend_from_slice(WIDE)?,
-        _ => {}
+        TextCause::TooManyEvents => Ok(out.extend_from_slice(long)?),
+        TextCause::TooManyNames => Ok(out.extend_from_slice(wide)?),
+        _ => Ok(()),
     }
-    Ok(())
 }
 
 /// The note on held locks, if all windows are made: they are too small beside so many locks.
@@ -63,12 +72,7 @@ pub(crate) fn append_window_limit_note(
     refusal: &TextRefusal,
     held: &[u8],
 ) -> Result<(), OutOfMemory> {
-    match refusal.why {
-        TextCause::TooManyEvents => out.extend_from_slice(held)?,
-        TextCause::TooManyNames => out.extend_from_slice(CROWDED)?,
-        _ => {}
-    }
-    Ok(())
+    append_limit(out, refusal, held, CROWDED)
 }
 
 /// The note on a text that does not begin like a trace, nor like another known kind of file.

@@ -131,10 +131,9 @@ fn list_about<R: Threads + Wait + Sync>(
     listing: Listing<'_>,
 ) -> ExitCode {
     if listing.task.progress || rt.stderr().is_terminal() {
-        list_shown(rt, starts, listing)
-    } else {
-        list_races(rt, starts, listing, &Silent)
+        return list_shown(rt, starts, listing);
     }
+    list_races(rt, starts, listing, &Silent)
 }
 
 /// Prints the report, with these followed races and these entries of a triage file, if there are any.

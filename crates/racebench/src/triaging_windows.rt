@@ -5,10 +5,9 @@ ghost use Rattle.std.specs.Process.{exit_status};
 
 use crate::coding::is_folder;
 use crate::failing::{NO_TRACE_EVENTS, status_of};
-use crate::input::input_at;
 use crate::judging_windows::{Report, Stop, judge_all};
 use crate::leaving::{Decided, read_decided, tell_decided, wanted_in};
-use crate::pieces::Pieces;
+use crate::pieces::pieces_at;
 use crate::printing_windows::print_report;
 use crate::telling::{say, tell_replay, tell_windows};
 use crate::telling_paths::tell_folder;
@@ -85,8 +84,7 @@ fn list_windows<R: Threads + Sync>(
     most: u32,
     decided: &Decided,
 ) -> ExitCode {
-    let pieces = Pieces::new(rt.alloc(), input_at(rt, task.trace));
-    let mut windows = Windows::new(rt.alloc(), pieces, most);
+    let mut windows = Windows::new(rt.alloc(), pieces_at(rt, task.trace), most);
     let mut report = Report {
         task,
         decided,
@@ -106,9 +104,16 @@ fn list_report<R: Threads + Sync>(
 ) -> ExitCode {
     match judge_all(rt, starts, windows, report) {
         Ok(()) => print_judged(rt, windows, report),
-        Err(stop) if is_of_trace(stop) => print_stopped(rt, windows, report, stop),
-        Err(stop) => tell_stop(rt, stop, report),
+        Err(stop) => end_stopped(rt, windows, report, stop),
     }
+}
+
+/// Reports why judging stopped. If the trace is at fault, prints the report up to there first.
+fn end_stopped(rt: &HostRuntime, windows: &Windows, report: &Report<'_>, stop: Stop) -> ExitCode {
+    if is_of_trace(stop) {
+        return print_stopped(rt, windows, report, stop);
+    }
+    tell_stop(rt, stop, report)
 }
 
 /// Prints the report after all windows were judged.

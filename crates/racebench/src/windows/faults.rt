@@ -15,6 +15,11 @@ const FREE_HOLDS: u64 = 4_096;
 /// How many acquires may be held where a window begins, for each event that the window before it has.
 const HOLDS_AN_EVENT: u64 = 4;
 
+/// How many acquires may be held where a window begins, if the window before it has so many events.
+fn most_held(events: usize) -> u64 {
+    FREE_HOLDS.max(HOLDS_AN_EVENT.saturating_mul(events as u64))
+}
+
 /// The fault of a refused line.
 fn refused_line(line: u64, why: TextCause) -> BenchFault {
     BenchFault::Replay(ReplayFault::from(TextRefusal { line, why }))
@@ -81,8 +86,7 @@ impl Windows {
     // The fault of too many events, if more acquires are held than windows of so many events may begin with. Each window begins with all
     // of them, so many small windows would cost far more than the trace is long.
     pub(super) fn check_holds(&self, events: usize) -> Result<(), BenchFault> {
-        let held = held_of(&self.front);
-        if held <= FREE_HOLDS || held <= HOLDS_AN_EVENT.saturating_mul(events as u64) {
+        if held_of(&self.front) <= most_held(events) {
             return Ok(());
         }
         Err(self.told_of(FrontFault::TooLong))
