@@ -47,10 +47,8 @@ pub fn followed_in(alloc: Global, text: &[u8]) -> Result<Vec<Followed>, Followed
     ensures err { IfErr result (IsRefusal text.now) }
 {
     let mut found = Vec::new(alloc);
-    match read_lines(alloc, &mut found, text) {
-        Ok(()) => Ok(found),
-        Err(refusal) => Err(refusal),
-    }
+    read_lines(alloc, &mut found, text)?;
+    Ok(found)
 }
 
 /// Reads the lines, one after another.

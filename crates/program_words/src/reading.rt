@@ -313,8 +313,15 @@ fn task_or_told<'a>(alloc: Global, given: &ArgMatches<'a>, limits: Limits) -> Re
 {
     match task_in(alloc, given, limits) {
         Ok(task) => Ok(task),
-        Err(Unread::Refused(reason)) => { Err(refused(alloc, limits, command_in(given), reason)) }
-        Err(Unread::OutOfMemory) => Err(Told::OutOfMemory),
+        Err(unread) => Err(told(alloc, given, limits, unread)),
+    }
+}
+
+/// What is said in the place of a task that was not read.
+fn told(alloc: Global, given: &ArgMatches<'_>, limits: Limits, unread: Unread) -> Told {
+    match unread {
+        Unread::Refused(reason) => refused(alloc, limits, command_in(given), reason),
+        Unread::OutOfMemory => Told::OutOfMemory,
     }
 }
 

@@ -40,11 +40,10 @@ pub(crate) fn number(word: &str, least: u32, most: u32, reason: &'static str) ->
 /// What the argument names: digits are an event, anything else is a place. A number that does not fit in 32 bits
 /// becomes an event that no trace has.
 pub(crate) fn named(word: &str) -> Named<'_> {
-    if is_number(word) {
-        Named::Event(word.parse::<u32>().unwrap_or(u32::MAX))
-    } else {
-        Named::Place(word)
+    if !is_number(word) {
+        return Named::Place(word);
     }
+    Named::Event(word.parse::<u32>().unwrap_or(u32::MAX))
 }
 
 /// The path that means standard input.
