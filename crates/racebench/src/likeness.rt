@@ -19,6 +19,8 @@ pub(crate) enum Likeness {
     Elf,
     /// A text that begins with a UTF-8 byte order mark.
     Mark,
+    /// A text that begins with a UTF-16 byte order mark.
+    Wide,
     /// A report of ThreadSanitizer.
     Sanitizer,
     /// Races as JSON: a part of a report.
@@ -128,6 +130,8 @@ pub(crate) fn likeness_of(text: &[u8]) -> Likeness {
         Likeness::Elf
     } else if text.starts_with(b"\xef\xbb\xbf") {
         Likeness::Mark
+    } else if text.starts_with(b"\xff\xfe") || text.starts_with(b"\xfe\xff") {
+        Likeness::Wide
     } else if has_near_start(text, REPORT) {
         Likeness::Sanitizer
     } else {
@@ -147,6 +151,7 @@ pub(crate) fn words_of(likeness: Likeness) -> &'static [u8] {
         Likeness::Xz => b" is packed by xz",
         Likeness::Elf => b" is a program or a library",
         Likeness::Mark => b" begins with a UTF-8 byte order mark",
+        Likeness::Wide => b" is a text in UTF-16",
         Likeness::Sanitizer => b" is a report of ThreadSanitizer",
         Likeness::Part | Likeness::Printed => b" is a report of races",
         Likeness::Log => b" is the log of a session",
@@ -164,6 +169,9 @@ pub(crate) fn words_for_trace(likeness: Likeness) -> &'static [u8] {
         Likeness::Xz => b": unpack it on the way, as in `xzcat FILE | racebench triage -`",
         Likeness::Elf => b": `record/run` records a trace of a program",
         Likeness::Mark => b", which a trace must not have",
+        Likeness::Wide => {
+            b": convert it on the way, as in `iconv -f UTF-16 -t UTF-8 FILE | racebench triage -`"
+        }
         Likeness::Log => b": `racebench log` prints it",
         Likeness::Script => b": `racebench replay TRACE SCRIPT` runs it on a trace",
         _ => b": triage needs a recorded trace",
@@ -174,6 +182,7 @@ pub(crate) fn words_for_trace(likeness: Likeness) -> &'static [u8] {
 pub(crate) fn words_for_script(likeness: Likeness) -> &'static [u8] {
     match likeness {
         Likeness::Mark => b", which a script must not have",
+        Likeness::Wide => b", and a script is in UTF-8",
         Likeness::Log => b": `racebench log` prints it as a script",
         _ => b", not a script",
     }
