@@ -1,4 +1,5 @@
 mod BetweenLemmas
+mod BothLemmas
 mod ChosenLemmas
 mod CountLemmas
 mod FilterLemmas

@@ -32,11 +32,7 @@ impl Found<'_> {
     pub(crate) fn first(&self, at: usize) -> Option<Pair>
         ensures { at < length self.now.firsts.items → slice_get self.now.firsts.items at ≡ Some result }
     {
-        if at < self.firsts.len() {
-            self.firsts[at]
-        } else {
-            None
-        }
+        *self.firsts.get(at)?
     }
 }
 

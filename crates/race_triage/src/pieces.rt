@@ -96,6 +96,5 @@ fn append_call(out: &mut Vec<u8>, word: &[u8], name: &[u8]) -> Result<(), OutOfM
     append_words(out, word)?;
     append_words(out, b"(")?;
     append_words(out, name)?;
-    append_words(out, b")")?;
-    Ok(())
+    append_words(out, b")")
 }

@@ -108,10 +108,9 @@ impl Verdict {
 fn shown_of(counts: Counts) -> u64
     ensures { result ≡ cond (nat_lt 0 counts.candidates) counts.candidates counts.open_pairs }
 {
-    if counts.candidates > 0 {
-        counts.candidates
-    } else {
-        counts.open_pairs
+    match counts.candidates {
+        0 => counts.open_pairs,
+        candidates => candidates,
     }
 }
 
@@ -119,9 +118,7 @@ fn shown_of(counts: Counts) -> u64
 fn all_of(counts: Counts) -> u64
     ensures { result ≡ all_in counts }
 {
-    counts
-        .candidates
-        .saturating_add(counts.open_pairs)
-        .saturating_add(counts.guarded)
-        .saturating_add(counts.forced)
+    let shown = counts.candidates.saturating_add(counts.open_pairs);
+    let apart = counts.guarded.saturating_add(counts.forced);
+    shown.saturating_add(apart)
 }

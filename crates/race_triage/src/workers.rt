@@ -23,8 +23,7 @@ pub(crate) fn all_verdicts<R: Threads + Sync, W: Watch + Sync>(
     ensures { IfOk result (λ vs. AreWholeOf found.now vs.items) }
 {
     if found.effort.workers == 0 {
-        let part = part_of(found, 0, 1, watch)?;
-        return Ok(part);
+        return part_of(found, 0, 1, watch);
     }
     by_workers(rt, found, watch)
 }

@@ -20,10 +20,9 @@ pub(crate) fn tables_of<'a, R: Threads>(
     ensures { IfOk result (AreTablesOf indexed.now) }
 {
     if workers < 2 {
-        tables_in_turn(alloc, indexed)
-    } else {
-        tables_at_once(rt, alloc, indexed)
+        return tables_in_turn(alloc, indexed);
     }
+    tables_at_once(rt, alloc, indexed)
 }
 
 /// Computes the orders, and then the locations.

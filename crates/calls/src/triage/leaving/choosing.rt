@@ -38,11 +38,7 @@ pub struct Left<'a> {
 fn count_if(is_printed: bool, number: usize) -> Option<u64>
     ensures { result ≡ count_if is_printed number }
 {
-    if is_printed {
-        Some(number as u64)
-    } else {
-        None
-    }
+    is_printed.then_some(number as u64)
 }
 
 /// The entries; an empty slice if there is no triage file.

@@ -42,10 +42,9 @@ fn is_one_named(
 ) -> Result<bool, OutOfMemory>
     ensures { IfOk result (λ named. named ≡ is_one_named rows.now (view entry.now) cell.now) }
 {
-    if cell.rank == 0 {
-        is_row_named(alloc, rows, entry, cell.number)
-    } else {
-        Ok(true)
+    match cell.rank {
+        0 => is_row_named(alloc, rows, entry, cell.number),
+        _ => Ok(true),
     }
 }
 
@@ -104,11 +103,7 @@ fn leaves_out(
 ) -> Result<bool, OutOfMemory>
     ensures { IfOk result (λ out. out ≡ leaves_out rows.now cell.now cells.now (view entry.now)) }
 {
-    if hides(entry) {
-        is_about(alloc, rows, entry, cell, cells)
-    } else {
-        Ok(false)
-    }
+    Ok(hides(entry) && is_about(alloc, rows, entry, cell, cells)?)
 }
 
 /// The first entry, and the others.
@@ -152,11 +147,10 @@ fn is_first_about(
 ) -> Result<bool, OutOfMemory>
     ensures { IfOk result (λ about. about ≡ is_first_about rows.now (view entry.now) before.entry cell.now cells.now) }
 {
-    if is_new(before, *cell) && cell.rank == 0 {
-        is_about(alloc, rows, entry, cell, cells)
-    } else {
-        Ok(false)
+    if !is_new(before, *cell) || cell.rank != 0 {
+        return Ok(false);
     }
+    is_about(alloc, rows, entry, cell, cells)
 }
 
 /// Whether the entry is about a race among the cells. `rows` are the rows of all parts, and `cells` are these rows in

@@ -12,19 +12,19 @@ returns-clause-found c =
     record {
       tables = c.requires.tables;
       is = record {
-        rows = c.requires.rows;
-        there = c.requires.there;
-        once = c.requires.once;
+        rows = c.requires.groups.rows;
+        there = c.requires.groups.there;
+        once = c.requires.groups.once;
         shared = record {
           rows = c.args.groups.rows.items;
-          are = c.requires.rows;
-          there = c.requires.there;
-          once = c.requires.once;
-          complete = c.requires.complete;
+          are = c.requires.groups.rows;
+          there = c.requires.groups.there;
+          once = c.requires.groups.once;
+          complete = c.requires.groups.complete;
           is = c.budget_of-budget.ensures ∙ ap (λ (rows : List Row). budget_for (count_by has_tries rows)) c.as_slice.ensures.value;
         };
-        leasts_len = c.requires.leasts_len;
-        leasts = c.requires.leasts;
+        leasts_len = c.requires.leasts.len;
+        leasts = c.requires.leasts.leasts;
         firsts_len = λ told. elim c.if-effort.branch [
           | then-effort+in_ok-firsts w ↦ ap (λ (v : Vec (Option (ℕ × ℕ)) Global). length v.items) w.firsts-is ∙ w.in_ok-firsts.ensures.len
           | else-effort w ↦ absurd (true≢false (sym told ∙ w.if-effort.false))

@@ -2,7 +2,11 @@ use Rattle.std.proofs.Common.{ℕ, slice_index, subst}
 use Rattle.race_groups.specs.least_pairs.Pairs.{AreLeasts}
 use Rattle.race_triage.proofs.found.leasts_by.Goals as goal
 
-pub returns-clause-leasts : goal.returns-clause-leasts
-returns-clause-leasts g c = λ at row l here there.
-    subst (λ (n : ℕ). AreLeasts c.args.tables.indexed.now (slice_index c.args.tables.places.now) row.places n l) c.most_of.ensures
-    (c.in_ok-leasts.ensures.leasts at row l here there)
+pub returns : goal.returns
+returns g c =
+    record {
+      len = c.in_ok-leasts.ensures.len;
+      leasts = λ at row l here there.
+          subst (λ (n : ℕ). AreLeasts c.args.tables.indexed.now (slice_index c.args.tables.places.now) row.places n l) c.most_of.ensures
+          (c.in_ok-leasts.ensures.leasts at row l here there);
+    }
