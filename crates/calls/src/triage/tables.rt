@@ -45,8 +45,8 @@ fn tables_at_once<'a, R: Threads>(
 {
     let (located, analysis) = thread::join(
         rt,
-        || Located::of(alloc, indexed),
-        || Analysis::new(alloc, indexed),
+        move || Located::of(alloc, indexed),
+        move || Analysis::new(alloc, indexed),
     );
     Ok((analysis?, located?))
 }

@@ -38,7 +38,7 @@ pub(crate) fn text_of<R: Threads + Sync, W: Watch + Hears + Sync>(
 {
     match tables_of(crew.threads, alloc, indexed, asked.workers) {
         Ok((analysis, located)) => text_by(crew, alloc, &analysis, located, listed, asked),
-        Err(refused) => Err(TriageFault::from(refused)),
+        Err(_) => Err(TriageFault::Replay(ReplayFault::OutOfMemory)),
     }
 }
 
