@@ -1,7 +1,11 @@
 -- What a fault of a session says about the log's file. All notions here are this project's own. `T` is the trace.
 use Rattle.std.specs.Prelude.{◌≡◌, ◌≢◌, ◌⊎◌, ℕ, ◌+◌, List, [], ◌∷◌, ◌++◌, Option, None, length, take, ⊤}
 use Rattle.rapid_text.specs.Recording.{Recording}
+use Rattle.inverse_log.specs.Answer.{log_after}
+use Rattle.inverse_log.specs.Log.{Benched}
+use Rattle.inverse_log.specs.declared.call.Call.{Call}
 use Rattle.inverse_log.specs.declared.entry.Entry.{Entry}
+use Rattle.client_scripts.specs.declared.fault.ReadCause.{ReadCause}
 use Rattle.client_scripts.specs.declared.fault.ReadCause.TheVariants.{Device as DeviceFailed}
 use Rattle.client_scripts.specs.declared.fault.ReplayFault.{ReplayFault}
 use Rattle.client_scripts.specs.declared.fault.ReplayFault.TheVariants.{Read, Write, OutOfMemory as NoMemory}
@@ -12,6 +16,24 @@ use Rattle.kept_log.specs.declared.log.AppendError.TheVariants.{OutOfMemory as N
 use Rattle.kept_session.specs.Sessions.{log_behind, IsLogged, AreLogged}
 use Rattle.kept_session.specs.declared.fault.SessionFault.{SessionFault}
 use Rattle.kept_session.specs.declared.fault.SessionFault.TheVariants.{Replay, LogLine, OtherTrace}
+
+-- the log's file could not be read, because its device failed; the input could not be read for this reason
+abbrev pub log_failed : SessionFault
+log_failed = Replay (Read 2 DeviceFailed)
+
+abbrev pub input_failed : SessionFault
+input_failed = Replay (Read 3 DeviceFailed)
+
+-- P holds if the fault is a failed read of the log's file; if it is a failed write
+abbrev pub IfUnread : Type 0 → SessionFault → Type 0
+IfUnread P fault = fault ≡ log_failed → P
+
+abbrev pub IfUnwritten : Type 0 → SessionFault → Type 0
+IfUnwritten P fault = fault ≡ Replay Write → P
+
+-- if an input could not be read, it is the one with this number
+abbrev pub IsOfInput : ℕ → SessionFault → Type 0
+IsOfInput number fault = (input : ℕ) (why : ReadCause) → fault ≡ Replay (Read input why) → input ≡ number
 
 -- The calls of these lines are made from the log L on. The first line that adds no entry has this number in the file.
 -- The head is line 1, and each entry of L has a line.
@@ -27,6 +49,12 @@ pub record IsFirstRefused (T : Recording) (L : List Entry) (lines : List (List �
 -- the fault of the line after those of L: memory ran out, or the line adds no entry, and the fault has its number
 abbrev pub IsLineFault : Recording → List Entry → List ℕ → SessionFault → Type 0
 IsLineFault T L line fault = (fault ≡ Replay NoMemory) ⊎ ((fault ≡ LogLine (length L + 2)) × ¬ IsLogged T L line)
+
+-- the fault of a line with this call and this number: memory ran out, or the call adds no entry
+abbrev pub IsCallFault : Benched → ℕ → Call → ℕ → SessionFault → Type 0
+IsCallFault bench client call number fault =
+    (fault ≡ Replay NoMemory)
+    ⊎ ((fault ≡ LogLine number) × (length (log_after bench.trace bench.log client call) ≢ length bench.log + 1))
 
 -- the fault of lines whose calls are made from the log L on
 abbrev pub IsLinesFault : Recording → List Entry → List (List ℕ) → SessionFault → Type 0

@@ -6,18 +6,19 @@ use Rattle.rapid_text.specs.Recording.{Recording}
 use Rattle.rapid_text.specs.declared.event.Event.{Event}
 use Rattle.schedule.specs.declared.refusal.Disabled.TheVariants.{NoSuchEvent, NotNext}
 use Rattle.schedule.specs.Refusals.{next_of}
+use Rattle.schedule.specs.Scheduled.{Scheduled}
 use Rattle.moves.specs.Rows.{Rows, row_of}
 use Rattle.moves.specs.declared.refusal.MoveRefusal.TheVariants.{NoSuchSchedule, Disabled as DisabledBy}
 use Rattle.moves.specs.declared.row.Row.{Row}
 use Rattle.inverse_log.specs.declared.entry.Entry.{Entry}
 use Rattle.inverse_log.specs.declared.refusal.Refusal.TheVariants.{Move, NoSuchEntry}
-use Rattle.inverse_log.specs.Log.{client_of, rows_of, undoes}
+use Rattle.inverse_log.specs.Log.{Benched, client_of, rows_of, undoes}
 use Rattle.report.specs.Log.{entry_line, line_at}
 use Rattle.report.specs.Pieces.{spaced}
 use Rattle.report.specs.Refusals.{refusal_text}
 use Rattle.script_language.specs.declared.question.Question.{Question}
 use Rattle.script_language.specs.declared.question.Question.TheVariants.{Next, Witness, Run, Part, Rows as AllRows, Entry as EntryAt}
-use Rattle.kept_session.specs.QuestionItems.{run_of, thread_items}
+use Rattle.kept_session.specs.QuestionItems.{item_of, run_of, thread_items}
 use Rattle.kept_session.specs.QuestionWitnesses.{IsWitnessLine}
 
 -- a look at the schedule in a row, or the refusal if there is no such row
@@ -109,3 +110,37 @@ IsAnswer T L (Run x e) text = text ≡ looked_at T (row_of (rows_of T L) x) (run
 IsAnswer T L (Part x from count) text = text ≡ looked_at T (row_of (rows_of T L) x) (part_line (length L) from count)
 IsAnswer T L AllRows text = text ≡ rows_line L (rows_of T L)
 IsAnswer T L (EntryAt k) text = text ≡ entry_text T L k (slice_get L k)
+
+-- the schedule with this name on a bench
+abbrev pub schedule_in : Benched → List ℕ → Option Scheduled
+schedule_in b x = option_map (λ (r : Row). r.schedule) (row_of (rows_of b.trace b.log) x)
+
+-- the answers to questions on a bench: `next`, `run`, `part`, `rows` and `entry`
+abbrev pub next_answer : Benched → List ℕ → List ℕ
+next_answer b x = looked_up b.trace b.log x (next_line b.trace (length b.log))
+
+abbrev pub run_answer : Benched → List ℕ → ℕ → List ℕ
+run_answer b x e = looked_up b.trace b.log x (run_line b.trace (length b.log) e (slice_get b.trace.events e))
+
+abbrev pub part_answer : Benched → List ℕ → ℕ → ℕ → List ℕ
+part_answer b x from count = looked_up b.trace b.log x (part_line (length b.log) from count)
+
+abbrev pub rows_answer : Benched → List ℕ
+rows_answer b = rows_line b.log (rows_of b.trace b.log)
+
+abbrev pub entry_answer : Benched → ℕ → List ℕ
+entry_answer b k = entry_text b.trace b.log k (slice_get b.log k)
+
+-- how far the thread t of a recording can go on after P, up to the event e, given the events that were added
+abbrev pub stop_line : Recording → ℕ → List ℕ → ℕ × Option ℕ → List ℕ
+stop_line r n P run = run_words n (run.0, item_of r.events P run.1)
+
+-- the same, given the thread alone; if its next event is not after e; of the event e
+abbrev pub run_text : Recording → ℕ → List ℕ → ℕ → ℕ → List ℕ
+run_text r n P t e = run_words n (run_of (length r.events) r.events P t e)
+
+abbrev pub next_run : Recording → ℕ → List ℕ → ℕ → ℕ → List ℕ
+next_run r n P t e = run_next r n P t e (next_of r.events P t)
+
+abbrev pub run_to : Recording → ℕ → ℕ → List ℕ → List ℕ
+run_to r n e P = run_line r n e (slice_get r.events e) P

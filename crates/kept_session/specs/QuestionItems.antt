@@ -1,6 +1,7 @@
 -- What an answer says about a thread's next event. All texts are this project's own.
-use Rattle.std.specs.Prelude.{ℕ, zero, suc, ◌+◌, nat_lt, if◌then◌else◌, List, [], ◌∷◌, ◌++◌, flat_map, Option, Some, None, codes, decimal}
+use Rattle.std.specs.Prelude.{◌≡◌, ℕ, zero, suc, ◌+◌, nat_lt, if◌then◌else◌, List, [], ◌∷◌, ◌++◌, flat_map, length, Option, Some, None, codes, decimal}
 use Rattle.std.specs.List.{range_with_len}
+use Rattle.rapid_text.specs.Recording.{Recording}
 use Rattle.rapid_text.specs.declared.event.Event.{Event}
 use Rattle.schedule.specs.declared.refusal.Disabled.{Disabled}
 use Rattle.schedule.specs.declared.refusal.Disabled.TheVariants.{NoSuchEvent, NotNext, NotForked, WrongWriter, LockHeld, JoinEarly}
@@ -53,3 +54,12 @@ run_from T P last (Some e) more = if nat_lt last e then (0, []) else run_by T P 
 abbrev pub run_of : ℕ → List Event → List ℕ → ℕ → ℕ → ℕ × List ℕ
 run_of zero T P t last = (0, [])
 run_of (suc n) T P t last = run_from T P last (next_of T P t) (λ e. run_of n T (P ++ e ∷ []) t last)
+
+-- the items of all threads of the recording
+abbrev pub all_items : Recording → List ℕ → List ℕ
+all_items r P = thread_items r.events P (length r.threads)
+
+-- A thread of the recording went on after P, up to `last`. Now the events are Q; `run` is the number of those that
+-- were added, and the event that cannot be added.
+abbrev pub RunsOn : Recording → List ℕ → List ℕ → ℕ → ℕ → ℕ × Option ℕ → Type 0
+RunsOn r P Q t last run = run_of (length r.events) r.events P t last ≡ (run.0, item_of r.events Q run.1)

@@ -31,3 +31,11 @@ IsWitnessLine r one other text =
     ⊎ (IsConflicting r.events (min one other) (max one other)
     × (finding : Finding) × IsFinding r (min one other) (max one other) finding
     × IsNeverShown r.events (min one other) (max one other) finding × (text ≡ found_line finding))
+
+-- the answer for what was found of the two events was appended
+abbrev pub AppendsFound : Recording → ℕ → ℕ → List ℕ → List ℕ → Type 0
+AppendsFound r first second old new =
+    (finding : Finding)
+    × IsFinding r first second finding
+    × IsNeverShown r.events first second finding
+    × (new ≡ old ++ found_line finding)

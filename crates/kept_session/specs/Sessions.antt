@@ -7,6 +7,7 @@ use Rattle.inverse_log.specs.declared.entry.Entry.{Entry}
 use Rattle.inverse_log.specs.declared.reply.Reply.{Reply}
 use Rattle.inverse_log.specs.declared.refusal.Refusal.{Refusal}
 use Rattle.inverse_log.specs.Answer.{log_after, Called}
+use Rattle.inverse_log.specs.Log.{Benched}
 use Rattle.script_language.specs.Questions.{question_reading}
 use Rattle.script_language.specs.Scripts.{script_line_reading}
 use Rattle.script_language.specs.declared.question.Question.{Question}
@@ -25,6 +26,10 @@ use Rattle.kept_session.specs.Lines.{line_for}
 abbrev pub log_by : Recording → List Entry → Result (Option (ℕ × Call)) ScriptCause → List Entry
 log_by T L (Ok (Some (client, call))) = log_after T L client call
 log_by T L reading = L
+
+-- the log after the call of this line
+abbrev pub log_with : Recording → List Entry → List ℕ → List Entry
+log_with T L line = log_by T L (script_line_reading line)
 
 -- the log after the calls of these lines, made one after another from L on
 abbrev pub log_behind : Recording → List Entry → List (List ℕ) → List Entry
@@ -73,6 +78,10 @@ question_fault number = codes "line " ++ decimal number ++ codes ": 87 bad quest
 abbrev pub IsAsked : Recording → List Entry → ℕ → Result Question ScriptCause → List ℕ → Type 0
 IsAsked T L number (Ok question) text = IsAnswer T L question text
 IsAsked T L number (Err why) text = text ≡ question_fault number
+
+-- the same on this bench
+abbrev pub IsAskedOf : Benched → ℕ → Result Question ScriptCause → List ℕ → Type 0
+IsAskedOf bench number asked text = IsAsked bench.trace bench.log number asked text
 
 abbrev pub IsAnsweredAs : Recording → ℕ → Option (Result Question ScriptCause) → Result (Option (ℕ × Call)) ScriptCause → List Entry → List ℕ → List Entry → Type 0
 IsAnsweredAs T number None reading L text M = IsAnswered T number reading L text M
@@ -157,6 +166,14 @@ pub record IsTaken {D : Type 0} (disk : Ghosts D)
   pub last : disk.found new ≡ disk.found mid
   pub until : LeavesOnly disk old mid (BeforeLock disk old)
   pub since : LeavesOnly disk mid new (λ c. disk.may_leave mid c ⊎ P (disk.seen mid) c)
+
+-- the lock was not taken, or it was taken once and P holds as above
+abbrev pub MayTake : {D : Type 0} → Ghosts D → (List ℕ → List ℕ → Type 0) → D → D → Type 0
+MayTake disk P old new = IsUntaken disk old new ⊎ IsTaken disk P old new
+
+-- the file is not empty, and is what the lock found when it was taken once
+abbrev pub FindsMore : {D : Type 0} → Ghosts D → D → D → Type 0
+FindsMore disk old new = (disk.seen new ≢ []) × (disk.found new ≡ Some (disk.seen new) ∷ disk.found old)
 
 -- the file begins with the head and the lines that were after it
 abbrev pub KeepsLines : List ℕ → List ℕ → List ℕ → Type 0

@@ -25,6 +25,7 @@ use Rattle.kept_log.specs.declared.device.Device.{Ghosts}
 use Rattle.kept_log.specs.declared.log.KeptLog.{KeptLog}
 use Rattle.kept_session.specs.Runs.{IsHalted, IsLogTurn, IsRun}
 use Rattle.kept_session.specs.Sessions.{log_behind, AreLogged, AreGained, IsAnswered, IsLineAnswered, AreAnswered, number_behind}
+use Rattle.kept_session.specs.Views.{lines_in}
 use Rattle.kept_session.specs.declared.fault.SessionFault.{SessionFault}
 use Rattle.kept_session.specs.declared.fault.SessionFault.TheVariants.{Replay}
 use Rattle.kept_session.specs.declared.running.Pending.{Pending}
@@ -35,6 +36,14 @@ abbrev pub SaysCall : ℕ → Call → Reply → List ℕ → Type 0
 SaysCall client call reply line =
     (script_line_reading line ≡ Ok (Some (client, call)))
     ⊎ ((n : ℕ) × (k : ℕ) × (call ≡ Undo) × (reply ≡ Undone n k) × (script_line_reading line ≡ Ok (Some (client, UndoAt k))))
+
+-- the line reads as this call of the client
+abbrev pub ReadsAsCall : ℕ → Call → List ℕ → Type 0
+ReadsAsCall client call line = script_line_reading line ≡ Ok (Some (client, call))
+
+-- a line that reads as the call was added
+abbrev pub AddsCallLine : ℕ → Call → Reply → List (List ℕ) → List (List ℕ) → Type 0
+AddsCallLine client call reply old new = (line : List ℕ) × (new ≡ old ++ line ∷ []) × SaysCall client call reply line
 
 -- A call was made, and its answer was appended. The block gained the lines of the entries that the log gained.
 pub record CallMade (T : Recording) (client : ℕ) (call : Call) (L M : List Entry) (out_old out_new : List ℕ) (block_old block_new : List (List ℕ)) : Type 0 where
@@ -101,6 +110,10 @@ pub record IsTakenIn {D : Type 0} (disk : Ghosts D) (T : Recording) (client : Op
   pub run : IsRun disk T client number old new bytes (begun ∷ []) text
   pub numbers : next ≡ number_behind number run.asked
   pub written : Appends taken_old taken_new text
+
+-- the number of the line after the lines in `pending`
+abbrev pub number_beyond : Pending → ℕ
+number_beyond pending = number_behind pending.number (lines_in pending.begun.items)
 
 -- the fault of bytes that are kept: memory ran out, or there are too many bytes
 abbrev pub IsKeepFault : List ℕ → SessionFault → Type 0

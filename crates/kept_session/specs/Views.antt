@@ -10,7 +10,7 @@ use Rattle.kept_log.specs.Log.{BeginsWith, IsAtRest, IsTooMuch, head_of, lines_o
 use Rattle.kept_log.specs.declared.device.Device.{Ghosts}
 use Rattle.kept_log.specs.declared.log.KeptLog.{KeptLog}
 use Rattle.kept_session.specs.Faults.{IsTurnFault}
-use Rattle.kept_session.specs.Sessions.{AreGained, IsTurn, log_of}
+use Rattle.kept_session.specs.Sessions.{AreGained, IsAtWork, IsTurn, log_of}
 use Rattle.kept_session.specs.declared.fault.SessionFault.{SessionFault}
 
 -- the trace of a bench, and its log
@@ -57,9 +57,21 @@ module _ {D : Type 0} (disk : Ghosts D) where
       (file : List ℕ) × (disk.found new.device ≡ Some file ∷ disk.found old.device)
       × IsTurn T client first raws (lines_of disk old) (lines_behind new.start file) (lines_of disk new) M out_old out_new
 
+  -- meanwhile a crash at any moment left a file whose lines begin with those of the log; the device alone is left
+  abbrev pub LeavesKnownOn : KeptLog D → D → Type 0
+  LeavesKnownOn log device = LeavesOnly disk log.device device (BeginsWith (head_of disk log) (lines_of disk log))
+
   -- the log has gained these lines
   abbrev pub HasGained : KeptLog D → KeptLog D → List (List ℕ) → Type 0
   HasGained old new gained = lines_of disk new ≡ lines_of disk old ++ gained
+
+  -- the log has gained lines, or none
+  abbrev pub HasMoreLines : KeptLog D → KeptLog D → Type 0
+  HasMoreLines old new = (others : List (List ℕ)) × HasGained old new others
+
+  -- the lock is held, the file is at rest, and its lines give the log of the bench
+  abbrev pub IsAtWorkOn : Benched → KeptLog D → Type 0
+  IsAtWorkOn bench log = IsAtWork disk bench.trace log bench.log
 
   -- the fault of the turn from the one log to the other
   abbrev pub IsFaultBetween : Recording → KeptLog D → KeptLog D → SessionFault → Type 0

@@ -1,5 +1,5 @@
 //! Answers lines: makes their calls, and collects the texts of the answers and the lines that the log gains.
-ghost use Rattle.std.specs.Prelude.{◌≡◌, ◌≢◌, ℕ, ◌≤◌, ◌++◌, ◌∷◌, [], List, IsTrue, OnOk, IfOk, IfSome, Ok, Some};
+ghost use Rattle.std.specs.Prelude.{◌≡◌, ◌≢◌, ℕ, ◌≤◌, IsTrue, OnOk, IfOk, IfSome};
 ghost use Rattle.inverse_log.specs.declared.call.Call.TheVariants.{Undo, UndoAt};
 ghost use Rattle.inverse_log.specs.declared.reply.Reply.TheVariants.{Undone};
 ghost use Rattle.rapid_text.specs.Appended.{Appended, AppendedOne};
@@ -9,8 +9,8 @@ ghost use Rattle.rapid_text.specs.Reading.{is_line_feed};
 ghost use Rattle.std.specs.List.{slice_split};
 ghost use Rattle.kept_log.specs.Lines.{IsLine};
 ghost use Rattle.kept_session.specs.Lines.{line_for};
-ghost use Rattle.kept_session.specs.Sessions.{line_fault, question_fault, number_behind, IsAsked};
-ghost use Rattle.kept_session.specs.Steps.{SaysCall, CallMade, ReadingAnswered, LineAnswered, PieceAnswered};
+ghost use Rattle.kept_session.specs.Sessions.{line_fault, question_fault, number_behind, IsAskedOf};
+ghost use Rattle.kept_session.specs.Steps.{AddsCallLine, CallMade, LineAnswered, PieceAnswered, ReadingAnswered, ReadsAsCall};
 
 use crate::asking::line_for;
 use crate::questions::answer_question;
@@ -50,7 +50,7 @@ fn is_undo(call: &Call, entry: u64) -> bool
 
 /// Whether the line reads as an undo of this entry by this client.
 fn reads_as_undo(alloc: Global, line: &[u8], client: u32, entry: u64) -> Result<bool, OutOfMemory>
-    ensures { IfOk result (λ yes. IsTrue yes → script_line_reading line.now ≡ Ok (Some (client, UndoAt entry))) }
+    ensures { IfOk result (λ yes. IsTrue yes → ReadsAsCall client (UndoAt entry) line.now) }
 {
     match read_line(alloc, line) {
         Ok(Some((reader, call))) => Ok(reader == client && is_undo(&call, entry)),
@@ -84,8 +84,8 @@ fn keep_line(
     block: &mut Block,
 ) -> Result<(), OutOfMemory>
     requires line { IsLine line.now }
-    requires reads { script_line_reading line.now ≡ Ok (Some (client, call.now)) }
-    ensures { OnOk result ((kept : List ℕ) × (block.new ≡ block.old ++ kept ∷ []) × SaysCall client call.now reply.now kept) }
+    requires reads { ReadsAsCall client call.now line.now }
+    ensures { OnOk result (AddsCallLine client call.now reply.now block.old block.new) }
 {
     let Some(entry) = undone_entry(call, reply) else {
         block.push(line)?;
@@ -112,7 +112,7 @@ fn make_call(
     requires low { 1 ≤ client }
     requires high { client ≤ 32 }
     requires line { IsLine line.now }
-    requires reads { script_line_reading line.now ≡ Ok (Some (client, call.now)) }
+    requires reads { ReadsAsCall client call.now line.now }
     ensures trace { bench.new.trace ≡ bench.old.trace }
     ensures made { OnOk result (CallMade bench.old.trace client call.now bench.old.log bench.new.log out.old.items out.new.items block.old block.new) }
 {
@@ -204,7 +204,7 @@ fn answer_asked(
     asked: &Result<Question, ScriptCause>,
     out: &mut Vec<u8>,
 ) -> Result<(), OutOfMemory>
-    ensures { AppendedOne result out.old out.new (λ text. IsAsked bench.now.trace bench.now.log number asked.now text) }
+    ensures { AppendedOne result out.old out.new (IsAskedOf bench.now number asked.now) }
 {
     match asked {
         Ok(question) => answer_question(bench, question, out),

@@ -1,12 +1,9 @@
 //! Makes the calls of the lines in the log's file.
-ghost use Rattle.std.specs.Prelude.{◌≡◌, ◌≢◌, ◌⊎◌, ◌+◌, ◌≤◌, length, OnOk, IfErr};
+ghost use Rattle.std.specs.Prelude.{◌≡◌, ◌+◌, ◌≤◌, length, OnOk, IfErr};
 ghost use Rattle.inverse_log.specs.Answer.{log_after};
-ghost use Rattle.client_scripts.specs.declared.fault.ReplayFault.TheVariants.{OutOfMemory as NoMemory};
-ghost use Rattle.script_language.specs.Scripts.{script_line_reading};
 ghost use Rattle.kept_log.specs.Lines.{kept_lines};
-ghost use Rattle.kept_session.specs.declared.fault.SessionFault.TheVariants.{Replay, LogLine};
-ghost use Rattle.kept_session.specs.Sessions.{log_by, log_behind, IsLogged, AreLogged};
-ghost use Rattle.kept_session.specs.Faults.{IsLineFault, IsLinesFault};
+ghost use Rattle.kept_session.specs.Sessions.{log_behind, log_with, IsLogged, AreLogged};
+ghost use Rattle.kept_session.specs.Faults.{IsCallFault, IsLineFault, IsLinesFault};
 
 use crate::fault::SessionFault;
 use client_scripts::ReplayFault;
@@ -22,8 +19,7 @@ fn make_logged(bench: &mut Bench, client: u32, call: &Call, line: u64) -> Result
     ensures trace { bench.new.trace ≡ bench.old.trace }
     ensures log { OnOk result (bench.new.log ≡ log_after bench.old.trace bench.old.log client call.now) }
     ensures logged { OnOk result (length bench.new.log ≡ length bench.old.log + 1) }
-    ensures refused { IfErr result (λ fault. (fault ≡ Replay NoMemory)
-        ⊎ ((fault ≡ LogLine line) × (length (log_after bench.old.trace bench.old.log client call.now) ≢ length bench.old.log + 1))) }
+    ensures refused { IfErr result (IsCallFault bench.old client call.now line) }
 {
     let before = bench.log_len();
     match bench.call(client, call) {
@@ -47,7 +43,7 @@ pub(crate) fn line_behind(bench: &Bench) -> u64
 /// Reads a line of the file and makes its call. The call must add an entry to the log.
 fn make_kept(alloc: Global, bench: &mut Bench, line: &[u8]) -> Result<(), SessionFault>
     ensures trace { bench.new.trace ≡ bench.old.trace }
-    ensures log { OnOk result (bench.new.log ≡ log_by bench.old.trace bench.old.log (script_line_reading line.now)) }
+    ensures log { OnOk result (bench.new.log ≡ log_with bench.old.trace bench.old.log line.now) }
     ensures logged { OnOk result (IsLogged bench.old.trace bench.old.log line.now) }
     ensures refused { IfErr result (IsLineFault bench.old.trace bench.old.log line.now) }
 {

@@ -1,7 +1,7 @@
 //! The head of a log's file: its first line, which names the format and the trace.
-ghost use Rattle.std.specs.Prelude.{◌≡◌, ℕ, List, IfOk, IfNone, IfSome};
+ghost use Rattle.std.specs.Prelude.{◌≡◌, IfOk, IfNone, IfSome};
 ghost use Rattle.std.specs.List.{list_all};
-ghost use Rattle.kept_session.specs.Heads.{head_text, is_digest_digit, IsHeaded};
+ghost use Rattle.kept_session.specs.Heads.{head_text, is_digest_digit, IsHeaded, IsHeadless};
 
 use event_index::Indexed;
 use memchr::memchr;
@@ -52,7 +52,7 @@ fn are_digits(word: &[u8]) -> bool
 /// The text after the head of a log's file, whatever its trace is. Returns None if the file has no head.
 pub(crate) fn behind_head(bytes: &[u8]) -> Option<&[u8]>
     ensures some { IfSome result (λ text. IsHeaded bytes.now text.now) }
-    ensures none { IfNone result ((text : List ℕ) → ¬ IsHeaded bytes.now text) }
+    ensures none { IfNone result (IsHeadless bytes.now) }
 {
     if !bytes.starts_with(FORMAT) {
         return None;

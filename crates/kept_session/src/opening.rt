@@ -1,16 +1,16 @@
 //! Opens the file of a log or makes it, and makes the calls of its lines.
-ghost use Rattle.std.specs.Prelude.{◌≡◌, ◌≢◌, ◌⊎◌, ◌≤◌, ◌<◌, ◌^◌, ◌∷◌, [], Some, true, length, take, IfOk, IfErr, IsErrOf, OnOk};
+ghost use Rattle.std.specs.Prelude.{◌≡◌, ◌≢◌, ◌≤◌, ◌<◌, ◌^◌, ◌∷◌, [], Some, true, length, take, IfOk, IfErr, IsErrOf, OnOk};
 ghost use Rattle.kept_log.specs.Device.{Only};
 ghost use Rattle.kept_log.specs.Moments.{LeavesOnly};
 ghost use Rattle.kept_log.specs.Lines.{kept_lines};
-ghost use Rattle.kept_log.specs.Log.{StandsFor, at_rest, head_of, lines_of, lines_behind, BeginsWith, IsAtRest};
+ghost use Rattle.kept_log.specs.Log.{StandsAfter, at_rest, head_of, lines_after, lines_of, IsAtRest};
 ghost use Rattle.client_scripts.specs.declared.fault.ReadCause.TheVariants.{Device as DeviceFailed};
 ghost use Rattle.client_scripts.specs.declared.fault.ReplayFault.{ReplayFault};
 ghost use Rattle.client_scripts.specs.declared.fault.ReplayFault.TheVariants.{Read, Write};
 ghost use Rattle.kept_session.specs.declared.fault.SessionFault.TheVariants.{Replay, OtherTrace};
-ghost use Rattle.kept_session.specs.Faults.{IsFileFault, IsHeadFault, IsMakeFault, IsOpenFault};
-ghost use Rattle.kept_session.specs.Sessions.{IsAtWork, IsHandedBack, IsLeftAlone, IsUntaken, IsTaken, BeforeLock, HasNoLines};
-ghost use Rattle.kept_session.specs.Views.{IsFree};
+ghost use Rattle.kept_session.specs.Faults.{IfUnread, IfUnwritten, IsFileFault, IsHeadFault, IsMakeFault, IsOpenFault};
+ghost use Rattle.kept_session.specs.Sessions.{BeforeLock, FindsMore, HasNoLines, IsAtWork, IsHandedBack, IsLeftAlone, IsTaken, MayTake};
+ghost use Rattle.kept_session.specs.Views.{IsFree, LeavesKnown, LeavesKnownOn};
 
 use crate::catching::make_all;
 use crate::fault::SessionFault;
@@ -33,7 +33,7 @@ fn take_first<D: Device>(alloc: Global, device: &mut D) -> Result<Vec<u8>, Sessi
     ensures sound { OnOk result (D.faults device.new ≡ D.faults device.old) }
     ensures any_moment { LeavesOnly D.Device device.old device.new (BeforeLock D.Device device.old) }
     ensures fault { IfErr result (λ fault. (f : ReplayFault) × (fault ≡ Replay f) × IsFileFault f) }
-    ensures unread { IfErr result (λ fault. fault ≡ Replay (Read 2 DeviceFailed) → D.faults device.old < D.faults device.new) }
+    ensures unread { IfErr result (IfUnread (D.faults device.old < D.faults device.new)) }
     ensures not_write { IfErr result (λ fault. fault ≢ Replay Write) }
 {
     match device.take_over(alloc, 0) {
@@ -50,18 +50,17 @@ pub fn make_log<D: Device>(alloc: Global, device: &mut D, head: &[u8]) -> Result
     // A file that is not empty is left as it is, also after a fault.
     ensures sound { OnOk result (D.faults device.new ≡ D.faults device.old) }
     ensures empty { OnOk result (D.found device.new ≡ Some [] ∷ D.found device.old) }
-    ensures refused { IsErrOf result OtherTrace → (D.seen device.new ≢ []) × (D.found device.new ≡ Some (D.seen device.new) ∷ D.found device.old) }
+    ensures refused { IsErrOf result OtherTrace → FindsMore D.Device device.old device.new }
     ensures left_alone { IfErr result (λ fault. IsLeftAlone D.Device device.old device.new) }
 
     // A crash at any moment leaves what a crash might have left when the lock was taken. If the file was empty then,
     // it may also leave a file without lines.
-    ensures any_moment { IsUntaken D.Device device.old device.new
-        ⊎ IsTaken D.Device (HasNoLines head.now) device.old device.new }
+    ensures any_moment { MayTake D.Device (HasNoLines head.now) device.old device.new }
     ensures fault { IfErr result IsMakeFault }
 
     // It reports a failed read or write only if a call of the file failed.
-    ensures unread { IfErr result (λ fault. fault ≡ Replay (Read 2 DeviceFailed) → D.faults device.old < D.faults device.new) }
-    ensures unwritten { IfErr result (λ fault. fault ≡ Replay Write → D.faults device.old < D.faults device.new) }
+    ensures unread { IfErr result (IfUnread (D.faults device.old < D.faults device.new)) }
+    ensures unwritten { IfErr result (IfUnwritten (D.faults device.old < D.faults device.new)) }
 {
     let bytes = take_first(alloc, device)?;
     if !bytes.is_empty() {
@@ -79,10 +78,7 @@ pub(crate) fn new_bench(alloc: Global, indexed: Indexed) -> Result<Bench, OutOfM
     ensures log { IfOk result (λ bench. bench.log ≡ []) }
 {
     let shared = Arc::new(alloc, indexed)?;
-    match Bench::new(alloc, shared) {
-        Ok(bench) => Ok(bench),
-        Err(_) => Err(OutOfMemory),
-    }
+    Bench::new(alloc, shared).ok().ok_or(OutOfMemory)
 }
 
 /// Opens the file of a log. Also returns the file's bytes: the head, and then the lines that count.
@@ -94,7 +90,7 @@ pub(crate) fn open_log<D: Device + Drop>(
     ensures held { IfOk result (λ opened. D.is_held opened.0.device ≡ true) }
     ensures at_rest { IfOk result (λ opened. IsAtRest D.Device opened.0) }
     ensures head { IfOk result (λ opened. head_of D.Device opened.0 ≡ head.now) }
-    ensures lines { IfOk result (λ opened. lines_of D.Device opened.0 ≡ lines_behind (length head.now) opened.1.items) }
+    ensures lines { IfOk result (λ opened. lines_of D.Device opened.0 ≡ lines_after head.now opened.1.items) }
     ensures within { IfOk result (λ opened. length head.now ≤ length opened.1.items) }
     ensures found { IfOk result (λ opened. D.found opened.0.device ≡ Some opened.1.items ∷ D.found device) }
     ensures begins { IfOk result (λ opened. take (length head.now) opened.1.items ≡ head.now) }
@@ -104,10 +100,8 @@ pub(crate) fn open_log<D: Device + Drop>(
     ensures fault { IfErr result (λ e. IsHeadFault head.now (D.seen e.1) e.0) }
     ensures unread { IfErr result (λ e. e.0 ≡ Replay (Read 2 DeviceFailed) → D.faults device < D.faults e.1) }
     ensures unwritten { IfErr result (λ e. e.0 ≡ Replay Write → D.faults device < D.faults e.1) }
-    ensures any_moment { IfOk result (λ opened. IsTaken D.Device
-        (λ file c. StandsFor head.now (lines_behind (length head.now) file) c) device opened.0.device) }
-    ensures any_moment_err { IfErr result (λ e. IsUntaken D.Device device e.1
-        ⊎ IsTaken D.Device (λ file c. StandsFor head.now (lines_behind (length head.now) file) c) device e.1) }
+    ensures any_moment { IfOk result (λ opened. IsTaken D.Device (StandsAfter head.now) device opened.0.device) }
+    ensures any_moment_err { IfErr result (λ e. MayTake D.Device (StandsAfter head.now) device e.1) }
 {
     let bytes = match take_first(alloc, &mut device) {
         Ok(bytes) => bytes,
@@ -146,8 +140,8 @@ pub(crate) fn begin<D: Device + Drop>(
     ensures own_trace { IfErr result (λ e. e.0 ≢ OtherTrace) }
     ensures not_read { IfErr result (λ e. e.0 ≢ Replay (Read 2 DeviceFailed)) }
     ensures unwritten { IfErr result (λ e. e.0 ≡ Replay Write → D.faults log.device < D.faults e.1) }
-    ensures any_moment { IfOk result (λ s. LeavesOnly D.Device log.device s.log.device (BeginsWith (head_of D.Device log) (lines_of D.Device log))) }
-    ensures any_moment_err { IfErr result (λ e. LeavesOnly D.Device log.device e.1 (BeginsWith (head_of D.Device log) (lines_of D.Device log))) }
+    ensures any_moment { IfOk result (λ s. LeavesKnown D.Device log s.log) }
+    ensures any_moment_err { IfErr result (λ e. LeavesKnownOn D.Device log e.1) }
 {
     match make_all(alloc, &mut bench, text) {
         Ok(()) => let_go(bench, log),
@@ -177,8 +171,8 @@ fn let_go<D: Device + Drop>(
     ensures own_trace { IfErr result (λ e. e.0 ≢ OtherTrace) }
     ensures not_read { IfErr result (λ e. e.0 ≢ Replay (Read 2 DeviceFailed)) }
     ensures unwritten { IfErr result (λ e. e.0 ≡ Replay Write → D.faults log.device < D.faults e.1) }
-    ensures any_moment { IfOk result (λ s. LeavesOnly D.Device log.device s.log.device (BeginsWith (head_of D.Device log) (lines_of D.Device log))) }
-    ensures any_moment_err { IfErr result (λ e. LeavesOnly D.Device log.device e.1 (BeginsWith (head_of D.Device log) (lines_of D.Device log))) }
+    ensures any_moment { IfOk result (λ s. LeavesKnown D.Device log s.log) }
+    ensures any_moment_err { IfErr result (λ e. LeavesKnownOn D.Device log e.1) }
 {
     match log.release() {
         Ok(()) => Ok(Session {

@@ -1,13 +1,11 @@
 //! Prints the lines that count in the file of a log.
-ghost use Rattle.std.specs.Io.KnownBytes.{Appends};
-ghost use Rattle.std.specs.Prelude.{◌≡◌, ◌≢◌, true, false, flat_map, ℕ, List, Err, IfErr, IfSome, OnOk};
+ghost use Rattle.std.specs.Prelude.{◌≡◌, ◌≢◌, true, false, flat_map, Err, IfErr, IfSome, OnOk};
 ghost use Rattle.client_scripts.specs.Joint.{ended};
-ghost use Rattle.client_scripts.specs.Replay.{AppendsPart, IsUnreadable};
 ghost use Rattle.client_scripts.specs.declared.fault.ReadCause.TheVariants.{Device as DeviceFailed, TooLong};
 ghost use Rattle.client_scripts.specs.declared.fault.ReplayFault.TheVariants.{Read, Write};
 ghost use Rattle.kept_log.specs.Lines.{kept_lines};
 ghost use Rattle.kept_session.specs.Faults.{IsPrintFault};
-ghost use Rattle.kept_session.specs.Heads.{IsHeaded, script_in};
+ghost use Rattle.kept_session.specs.Heads.{IsHeadless, IsOverlong, PrintsLog, PrintsPart};
 ghost use Rattle.kept_session.specs.declared.fault.SessionFault.TheVariants.{Replay, LogLine};
 ghost use Rattle.rapid_text.specs.Appended.{Appended};
 
@@ -42,14 +40,13 @@ pub fn print_log<S: Source, K: Sink>(
     requires writer { K.has_failed writer.old ≡ false }
 
     // What it writes is the script of the lines that count after the head.
-    ensures printed { OnOk result (IfSome (S.rest reader.old) (λ bytes. (text : List ℕ) × IsHeaded bytes text
-        × Appends (K.taken writer.old) (K.taken writer.new) (script_in text))) }
-    ensures refused { result ≡ Err (LogLine 1) → IfSome (S.rest reader.old) (λ bytes. (text : List ℕ) → ¬ IsHeaded bytes text) }
+    ensures printed { OnOk result (PrintsLog (S.rest reader.old) (K.taken writer.old) (K.taken writer.new)) }
+    ensures refused { result ≡ Err (LogLine 1) → IfSome (S.rest reader.old) IsHeadless }
 
     // It writes nothing before this script is made. If a write fails, it has written a beginning of the script.
     ensures unwritten { IfErr result (λ fault. fault ≢ Replay Write → K.taken writer.new ≡ K.taken writer.old) }
-    ensures begun { result ≡ Err (Replay Write) → IfSome (S.rest reader.old) (λ bytes. (text : List ℕ) × IsHeaded bytes text
-        × AppendsPart (K.taken writer.old) (K.taken writer.new) (script_in text)) }
+    ensures begun { result ≡ Err (Replay Write) → PrintsPart (S.rest reader.old) (K.taken writer.old)
+        (K.taken writer.new) }
 
     // The fault is a failed read exactly if a read failed, and a failed write exactly if a write failed. There are no
     // other faults than those of `IsPrintFault`.
@@ -60,7 +57,7 @@ pub fn print_log<S: Source, K: Sink>(
     ensures fault { IfErr result IsPrintFault }
 
     // It reports an input as too long only if it is.
-    ensures too_long { result ≡ Err (Replay (Read 2 TooLong)) → IfSome (S.rest reader.old) (λ bytes. IsUnreadable bytes TooLong) }
+    ensures too_long { result ≡ Err (Replay (Read 2 TooLong)) → IfSome (S.rest reader.old) IsOverlong }
 {
     let bytes = read_input(alloc, reader, LOG_INPUT)?;
     let Some(text) = behind_head(&bytes) else {

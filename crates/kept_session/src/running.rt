@@ -2,13 +2,12 @@
 ghost use Rattle.std.specs.Io.KnownBytes.{IsAtEnd};
 ghost use Rattle.std.specs.Prelude.{◌≡◌, ◌≢◌, ◌<◌, [], ◌∷◌, ◌++◌, false, true, length, None, Err, IfSome, IfErr, OnOk};
 ghost use Rattle.client_scripts.specs.declared.fault.ReadCause.{ReadCause};
-ghost use Rattle.client_scripts.specs.declared.fault.ReadCause.TheVariants.{Device as DeviceFailed};
 ghost use Rattle.client_scripts.specs.declared.fault.ReplayFault.TheVariants.{Read};
 ghost use Rattle.kept_log.specs.Lines.{IsLine};
+ghost use Rattle.kept_session.specs.Faults.{input_failed};
 ghost use Rattle.kept_session.specs.Runs.{IsHaltedRun, IsWholeRun};
-ghost use Rattle.kept_session.specs.Sessions.{number_behind};
-ghost use Rattle.kept_session.specs.Steps.{IsKeepFault, IsPieceHalted, IsPieceTaken, IsTurnWritten};
-ghost use Rattle.kept_session.specs.Views.{lines_in, trace_of};
+ghost use Rattle.kept_session.specs.Steps.{IsKeepFault, IsPieceHalted, IsPieceTaken, IsTurnWritten, number_beyond};
+ghost use Rattle.kept_session.specs.Views.{trace_of};
 ghost use Rattle.kept_session.specs.declared.fault.SessionFault.TheVariants.{Replay};
 ghost use Rattle.rapid_text.specs.Appended.{Appended};
 
@@ -53,7 +52,7 @@ fn answer_begun<D: Device + Drop, K: Sink>(
     ensures trace { trace_of session.new.bench ≡ trace_of session.old.bench }
     ensures working { OnOk result (K.has_failed writer.new ≡ false) }
     ensures begun { OnOk result (pending.new.begun.items ≡ []) }
-    ensures next { OnOk result (pending.new.number ≡ number_behind pending.old.number (lines_in pending.old.begun.items)) }
+    ensures next { OnOk result (pending.new.number ≡ number_beyond pending.old) }
     ensures answered { OnOk result (IsTurnWritten D.Device K.Sink session.old.bench client pending.old session.old.log session.new.log writer.old writer.new) }
     ensures halted { IfErr result (IsPieceHalted D.Device K.Sink session.old.bench client pending.old.number pending.old.begun.items
         session.old.log session.new.log writer.old writer.new) }
@@ -83,7 +82,7 @@ fn keep_begun(pending: &mut Pending, bytes: &[u8]) -> Result<(), SessionFault>
 
 /// The bytes before the last line feed, and the bytes after it. Returns None if there is no line feed.
 fn cut_last_end(bytes: &[u8]) -> Option<(&[u8], &[u8])>
-    ensures some { IfSome result (λ parts. (bytes.now ≡ parts.0.now ++ 10 ∷ parts.1.now) × IsLine parts.1.now) }
+    ensures some { IfSome result (λ p. (bytes.now ≡ p.0.now ++ 10 ∷ p.1.now) × IsLine p.1.now) }
     ensures none { result ≡ None → IsLine bytes.now }
 {
     let end = memrchr(b'\n', bytes)?;
@@ -110,7 +109,7 @@ fn take_in<D: Device + Drop, K: Sink>(
         session.old.log session.new.log writer.old writer.new) }
     ensures halted { IfErr result (IsPieceHalted D.Device K.Sink session.old.bench client pending.old.number (pending.old.begun.items ++ bytes.now)
         session.old.log session.new.log writer.old writer.new) }
-    ensures reader { IfErr result (λ fault. fault ≢ Replay (Read 3 DeviceFailed)) }
+    ensures reader { IfErr result (λ fault. fault ≢ input_failed) }
 {
     let Some((lines, rest)) = cut_last_end(bytes) else {
         return keep_begun(pending, bytes);
@@ -138,8 +137,8 @@ fn run_pieces<D: Device + Drop, S: Source, K: Sink>(
     // Without a fault it ends only at the end of the input, and the reader has not failed meanwhile.
     ensures end { OnOk result (IsAtEnd (S.rest reader.new)) }
     ensures read { OnOk result (S.has_failed reader.new ≡ S.has_failed reader.old) }
-    ensures device { IfErr result (λ fault. fault ≡ Replay (Read 3 DeviceFailed) → S.has_failed reader.new ≡ true) }
-    ensures read_failed { S.has_failed reader.old ≡ false → S.has_failed reader.new ≡ true → result ≡ Err (Replay (Read 3 DeviceFailed)) }
+    ensures device { IfErr result (λ fault. fault ≡ input_failed → S.has_failed reader.new ≡ true) }
+    ensures read_failed { S.has_failed reader.old ≡ false → S.has_failed reader.new ≡ true → result ≡ Err input_failed }
     ensures answered { OnOk result (IsWholeRun D.Device S.Source K.Sink session.old.bench client session.old.log session.new.log
         reader.old reader.new writer.old writer.new) }
     ensures halted { IfErr result (IsHaltedRun D.Device S.Source K.Sink session.old.bench client session.old.log session.new.log
@@ -192,8 +191,8 @@ pub fn run_session<D: Device + Drop, S: Source, K: Sink>(
     ensures read { OnOk result (S.has_failed reader.new ≡ S.has_failed reader.old) }
 
     // It reports a failed read exactly if a read failed, if none had failed before.
-    ensures device { IfErr result (λ fault. fault ≡ Replay (Read 3 DeviceFailed) → S.has_failed reader.new ≡ true) }
-    ensures read_failed { S.has_failed reader.old ≡ false → S.has_failed reader.new ≡ true → result ≡ Err (Replay (Read 3 DeviceFailed)) }
+    ensures device { IfErr result (λ fault. fault ≡ input_failed → S.has_failed reader.new ≡ true) }
+    ensures read_failed { S.has_failed reader.old ≡ false → S.has_failed reader.new ≡ true → result ≡ Err input_failed }
 
     // It answers each line that it read once and in order, in turns. It writes the answers in order, and nothing
     // else.

@@ -1,17 +1,16 @@
 //! A bench and the file of its log, in step.
-ghost use Rattle.std.specs.Prelude.{◌≡◌, ◌≢◌, ◌⊎◌, ◌<◌, ◌∷◌, ◌++◌, List, [], ℕ, Option, Some, true, false, IsTrue, IfOk, IfErr, IsErr, OnOk};
-ghost use Rattle.kept_log.specs.Log.{head_of, lines_of, HasTurn, IsAsFound, LosesNone};
-ghost use Rattle.client_scripts.specs.declared.fault.ReadCause.{ReadCause};
+ghost use Rattle.std.specs.Prelude.{◌≡◌, ◌≢◌, ◌⊎◌, ◌<◌, ◌∷◌, List, [], ℕ, Some, true, false, IsTrue, IfOk, IfErr, IsErr, OnOk};
+ghost use Rattle.kept_log.specs.Log.{head_of, HasSameLines, HasTurn, IsAsFound, LosesNone};
 ghost use Rattle.client_scripts.specs.declared.fault.ReadCause.TheVariants.{Device as DeviceFailed};
 ghost use Rattle.client_scripts.specs.declared.fault.ReplayFault.{ReplayFault};
 ghost use Rattle.client_scripts.specs.declared.fault.ReplayFault.TheVariants.{Read, Write, OutOfMemory as NoMemory};
 ghost use Rattle.kept_session.specs.declared.fault.SessionFault.TheVariants.{Replay, OtherTrace};
 ghost use Rattle.std.specs.Coded.{→_prop};
 ghost use Rattle.kept_session.specs.InStep.{IsInStep-prop};
-ghost use Rattle.kept_session.specs.Faults.{IsOpenFault};
-ghost use Rattle.kept_session.specs.Sessions.{IsInStep, IsAtWork, IsAllOrNone, IsOpened, IsHandedBack, IsUntaken, IsTaken, KeepsLines, number_behind};
+ghost use Rattle.kept_session.specs.Faults.{IfUnread, IfUnwritten, IsOfInput, IsOpenFault};
+ghost use Rattle.kept_session.specs.Sessions.{IsAllOrNone, IsHandedBack, IsInStep, IsOpened, IsTaken, KeepsLines, MayTake, number_behind};
 ghost use Rattle.kept_session.specs.Steps.{IsPieceMade, IsPutOn};
-ghost use Rattle.kept_session.specs.Views.{HasGained, IsAnsweredOnce, IsFailedBetween, IsFaultBetween, IsFree, IsKept, IsTooLong, IsUnfailed, LeavesKnown, entries_of, lines_in, trace_of};
+ghost use Rattle.kept_session.specs.Views.{HasGained, HasMoreLines, IsAnsweredOnce, IsAtWorkOn, IsFailedBetween, IsFaultBetween, IsFree, IsKept, IsTooLong, IsUnfailed, LeavesKnown, entries_of, lines_in, trace_of};
 
 use crate::answering::answer_lines;
 use crate::catching::{line_behind, make_all};
@@ -92,8 +91,7 @@ impl<D: Device + Drop> Session<D> {
         // A crash at any moment leaves what a crash might have left when the lock was taken, or the lines that the
         // file had then.
         ensures any_moment { IfOk result (λ s. IsTaken D.Device (KeepsLines head.now) device s.log.device) }
-        ensures any_moment_err { IfErr result (λ e. IsUntaken D.Device device e.1
-            ⊎ IsTaken D.Device (KeepsLines head.now) device e.1) }
+        ensures any_moment_err { IfErr result (λ e. MayTake D.Device (KeepsLines head.now) device e.1) }
     {
         match new_bench(alloc, indexed) {
             Ok(bench) => Session::open_on(alloc, bench, head, device),
@@ -121,8 +119,7 @@ impl<D: Device + Drop> Session<D> {
         ensures unread { IfErr result (λ e. e.0 ≡ Replay (Read 2 DeviceFailed) → D.faults device < D.faults e.1) }
         ensures unwritten { IfErr result (λ e. e.0 ≡ Replay Write → D.faults device < D.faults e.1) }
         ensures any_moment { IfOk result (λ s. IsTaken D.Device (KeepsLines head.now) device s.log.device) }
-        ensures any_moment_err { IfErr result (λ e. IsUntaken D.Device device e.1
-            ⊎ IsTaken D.Device (KeepsLines head.now) device e.1) }
+        ensures any_moment_err { IfErr result (λ e. MayTake D.Device (KeepsLines head.now) device e.1) }
     {
         match open_log(alloc, device, head) {
             Ok((log, bytes)) => {
@@ -144,10 +141,10 @@ impl<D: Device + Drop> Session<D> {
         ensures stopped { self.new.is_in_step ≡ false }
 
         ensures held { OnOk result (D.is_held self.new.log.device ≡ true) }
-        ensures at_work { OnOk result (IsAtWork D.Device (trace_of self.new.bench) self.new.log (entries_of self.new.bench)) }
+        ensures at_work { OnOk result (IsAtWorkOn D.Device self.new.bench self.new.log) }
         ensures trace { trace_of self.new.bench ≡ trace_of self.old.bench }
         ensures head { OnOk result (head_of D.Device self.new.log ≡ head_of D.Device self.old.log) }
-        ensures lines { OnOk result ((others : List (List ℕ)) × (lines_of D.Device self.new.log ≡ lines_of D.Device self.old.log ++ others)) }
+        ensures lines { OnOk result (HasMoreLines D.Device self.old.log self.new.log) }
         ensures turn { OnOk result (HasTurn D.Device self.old.log self.new.log []) }
         ensures as_found { IsAsFound D.Device self.old.log self.new.log }
         ensures sound { OnOk result (IsUnfailed D.Device self.old.log self.new.log) }
@@ -155,9 +152,9 @@ impl<D: Device + Drop> Session<D> {
         // A crash at any moment leaves a file whose lines begin with the known ones.
         ensures any_moment { LeavesKnown D.Device self.old.log self.new.log }
         ensures fault { IfErr result (IsFaultBetween D.Device (trace_of self.old.bench) self.old.log self.new.log) }
-        ensures input { IfErr result (λ fault. (input : ℕ) (why : ReadCause) → fault ≡ Replay (Read input why) → input ≡ 2) }
-        ensures unread { IfErr result (λ fault. fault ≡ Replay (Read 2 DeviceFailed) → IsFailedBetween D.Device self.old.log self.new.log) }
-        ensures unwritten { IfErr result (λ fault. fault ≡ Replay Write → IsFailedBetween D.Device self.old.log self.new.log) }
+        ensures input { IfErr result (IsOfInput 2) }
+        ensures unread { IfErr result (IfUnread (IsFailedBetween D.Device self.old.log self.new.log)) }
+        ensures unwritten { IfErr result (IfUnwritten (IsFailedBetween D.Device self.old.log self.new.log)) }
     {
         match self.log.enter(alloc) {
             Ok(text) => {
@@ -181,11 +178,11 @@ impl<D: Device + Drop> Session<D> {
         out: &mut Vec<u8>,
     ) -> Result<u64, SessionFault>
         requires held { D.is_held self.old.log.device ≡ true }
-        requires at_work { IsAtWork D.Device (trace_of self.old.bench) self.old.log (entries_of self.old.bench) }
+        requires at_work { IsAtWorkOn D.Device self.old.bench self.old.log }
         requires stopped { self.old.is_in_step ≡ false }
         ensures stopped { self.new.is_in_step ≡ false }
 
-        ensures at_work { OnOk result (IsAtWork D.Device (trace_of self.new.bench) self.new.log (entries_of self.new.bench)) }
+        ensures at_work { OnOk result (IsAtWorkOn D.Device self.new.bench self.new.log) }
         ensures trace { trace_of self.new.bench ≡ trace_of self.old.bench }
         ensures head { OnOk result (head_of D.Device self.new.log ≡ head_of D.Device self.old.log) }
         ensures next { IfOk result (λ next. next ≡ number_behind first (lines_in piece.now)) }
@@ -199,8 +196,7 @@ impl<D: Device + Drop> Session<D> {
         // does the same, and leaves none if memory ran out.
         ensures put { (gained : List (List ℕ)) × IsPutOn D.Device self.old.bench client first (lines_in piece.now) self.old.log self.new.log gained
             × OnOk result (HasGained D.Device self.old.log self.new.log gained) }
-        ensures unchanged { IfErr result (λ fault. fault ≢ Replay Write
-            → (head_of D.Device self.new.log ≡ head_of D.Device self.old.log) × (lines_of D.Device self.new.log ≡ lines_of D.Device self.old.log)) }
+        ensures unchanged { IfErr result (λ why. why ≢ Replay Write → HasSameLines D.Device self.old.log self.new.log) }
         ensures fault { IfErr result (λ fault. (fault ≡ Replay NoMemory) ⊎ (fault ≡ Replay Write)) }
         ensures not_read { IfErr result (λ fault. fault ≢ Replay (Read 2 DeviceFailed)) }
         ensures unwritten { IfErr result (λ fault. fault ≡ Replay Write → IsFailedBetween D.Device self.old.log self.new.log
@@ -247,7 +243,7 @@ impl<D: Device + Drop> Session<D> {
         // them is there.
         ensures all_or_none { (IsErr result × IsAsFound D.Device self.old.log self.new.log) ⊎ IsAllOrNone D.Device
             (trace_of self.old.bench) client first (lines_in piece.now) self.old.log self.new.log }
-        ensures unchanged { IfErr result (λ fault. fault ≢ Replay Write → IsAsFound D.Device self.old.log self.new.log) }
+        ensures unchanged { IfErr result (λ why. why ≢ Replay Write → IsAsFound D.Device self.old.log self.new.log) }
 
         // A turn is answered only if no operation on the file failed: a sync that failed is not tried again.
         ensures sound { OnOk result (IsUnfailed D.Device self.old.log self.new.log) }
@@ -265,12 +261,12 @@ impl<D: Device + Drop> Session<D> {
 
         // It reports a failed read only if an operation on the file failed. So it does with a failed write, unless the
         // file would have been too long with the lines of the piece. Then the file was not changed.
-        ensures unread { IfErr result (λ fault. fault ≡ Replay (Read 2 DeviceFailed) → IsFailedBetween D.Device self.old.log self.new.log) }
+        ensures unread { IfErr result (IfUnread (IsFailedBetween D.Device self.old.log self.new.log)) }
         ensures unwritten { IfErr result (λ fault. fault ≡ Replay Write → IsFailedBetween D.Device self.old.log self.new.log
             ⊎ IsTooLong D.Device (trace_of self.old.bench) client first (lines_in piece.now) self.new.log) }
 
         // An input that could not be read is the log's file, input 2.
-        ensures input { IfErr result (λ fault. (input : ℕ) (why : ReadCause) → fault ≡ Replay (Read input why) → input ≡ 2) }
+        ensures input { IfErr result (IsOfInput 2) }
     {
         self.is_in_step = false;
         self.catch_up(alloc)?;

@@ -1,13 +1,12 @@
 //! Answers questions.
-ghost use Rattle.std.specs.Prelude.{◌≡◌, ℕ, List, drop, length, option_map, slice_get, take, None, Some, IfNone, IfSome};
+ghost use Rattle.std.specs.Prelude.{◌≡◌, ℕ, List, drop, take, None, Some, IfNone, IfSome};
 ghost use Rattle.inverse_log.specs.Log.{rows_of};
 ghost use Rattle.inverse_log.specs.declared.refusal.Refusal.TheVariants.{Move};
 ghost use Rattle.moves.specs.Rows.{row_of};
 ghost use Rattle.moves.specs.declared.refusal.MoveRefusal.TheVariants.{NoSuchSchedule};
-ghost use Rattle.moves.specs.declared.row.Row.{Row as RowValue};
 ghost use Rattle.rapid_text.specs.Appended.{Appended, AppendedOne};
 ghost use Rattle.report.specs.Refusals.{refusal_text};
-ghost use Rattle.kept_session.specs.QuestionAnswers.{IsAnswer, looked_up, next_line, part_line, rows_line, run_line};
+ghost use Rattle.kept_session.specs.QuestionAnswers.{IsAnswer, next_answer, next_line, part_answer, part_line, rows_answer, run_answer, schedule_in};
 
 use crate::questions::entries::append_entry;
 use crate::questions::items::append_threads;
@@ -90,8 +89,7 @@ fn part_of(events: &[u32], from: u32, count: u32) -> &[u32]
 /// The schedule with this name.
 fn schedule_of<'a>(bench: &'a Bench, name: &Name) -> Option<&'a Schedule>
     ensures none { IfNone result (row_of (rows_of bench.now.trace bench.now.log) name.now ≡ None) }
-    ensures some { IfSome result
-        (λ s. option_map (λ (r : RowValue). r.schedule) (row_of (rows_of bench.now.trace bench.now.log) name.now) ≡ Some s.now) }
+    ensures some { IfSome result (λ s. schedule_in bench.now name.now ≡ Some s.now) }
     ensures trace { IfSome result (λ s. s.now.trace ≡ bench.now.trace) }
 {
     bench.workspace().get(name)
@@ -99,7 +97,7 @@ fn schedule_of<'a>(bench: &'a Bench, name: &Name) -> Option<&'a Schedule>
 
 /// Answers what each thread does next.
 fn answer_next(out: &mut Vec<u8>, bench: &Bench, name: &Name) -> Result<(), OutOfMemory>
-    ensures { Appended result out.old out.new (looked_up bench.now.trace bench.now.log name.now (next_line bench.now.trace (length bench.now.log))) }
+    ensures { Appended result out.old out.new (next_answer bench.now name.now) }
 {
     match schedule_of(bench, name) {
         Some(schedule) => append_next(out, bench.indexed(), bench.log_len(), schedule),
@@ -109,7 +107,7 @@ fn answer_next(out: &mut Vec<u8>, bench: &Bench, name: &Name) -> Result<(), OutO
 
 /// Answers how far the thread of an event can go on.
 fn answer_run(out: &mut Vec<u8>, bench: &Bench, name: &Name, event: u32) -> Result<(), OutOfMemory>
-    ensures { Appended result out.old out.new (looked_up bench.now.trace bench.now.log name.now (run_line bench.now.trace (length bench.now.log) event (slice_get bench.now.trace.events event))) }
+    ensures { Appended result out.old out.new (run_answer bench.now name.now event) }
 {
     match schedule_of(bench, name) {
         Some(schedule) => append_run_to(out, bench.indexed(), bench.log_len(), schedule, event),
@@ -125,7 +123,7 @@ fn answer_part(
     from: u32,
     count: u32,
 ) -> Result<(), OutOfMemory>
-    ensures { Appended result out.old out.new (looked_up bench.now.trace bench.now.log name.now (part_line (length bench.now.log) from count)) }
+    ensures { Appended result out.old out.new (part_answer bench.now name.now from count) }
 {
     match schedule_of(bench, name) {
         Some(schedule) => append_part(out, bench.log_len(), from, count, schedule),
@@ -135,7 +133,7 @@ fn answer_part(
 
 /// Answers with a list of all schedules.
 fn answer_rows(out: &mut Vec<u8>, bench: &Bench) -> Result<(), OutOfMemory>
-    ensures { Appended result out.old out.new (rows_line bench.now.log (rows_of bench.now.trace bench.now.log)) }
+    ensures { Appended result out.old out.new (rows_answer bench.now) }
 {
     append_rows(out, bench, bench.workspace())
 }
@@ -147,7 +145,7 @@ pub fn answer_question(
     question: &Question,
     out: &mut Vec<u8>,
 ) -> Result<(), OutOfMemory>
-    ensures answered { AppendedOne result out.old out.new (λ text. IsAnswer bench.now.trace bench.now.log question.now text) }
+    ensures answered { AppendedOne result out.old out.new (IsAnswer bench.now.trace bench.now.log question.now) }
 {
     match question {
         Question::Next { name } => answer_next(out, bench, name),

@@ -1,7 +1,7 @@
 //! Answers a question about an entry of the log.
-ghost use Rattle.std.specs.Prelude.{◌≡◌, ◌<◌, length, slice_get};
+ghost use Rattle.std.specs.Prelude.{◌≡◌, ◌<◌, length};
 ghost use Rattle.inverse_log.specs.Log.{undoes};
-ghost use Rattle.kept_session.specs.QuestionAnswers.{entry_text, state_words, there_text, undo_of};
+ghost use Rattle.kept_session.specs.QuestionAnswers.{entry_answer, state_words, there_text, undo_of};
 ghost use Rattle.rapid_text.specs.Appended.{Appended};
 
 use inverse_log::{Bench, Entry, Refusal};
@@ -67,11 +67,10 @@ fn append_there(out: &mut Vec<u8>, bench: &Bench, number: u64) -> Result<(), Out
 
 /// Appends the answer about an entry, or that the log has no such entry.
 pub(crate) fn append_entry(out: &mut Vec<u8>, bench: &Bench, number: u64) -> Result<(), OutOfMemory>
-    ensures { Appended result out.old out.new (entry_text bench.now.trace bench.now.log number (slice_get bench.now.log number)) }
+    ensures { Appended result out.old out.new (entry_answer bench.now number) }
 {
     if number < bench.log_len() {
-        append_there(out, bench, number)
-    } else {
-        report::refusal(bench.indexed(), &Refusal::NoSuchEntry, out)
+        return append_there(out, bench, number);
     }
+    report::refusal(bench.indexed(), &Refusal::NoSuchEntry, out)
 }

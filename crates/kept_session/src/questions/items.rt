@@ -3,7 +3,7 @@ ghost use Rattle.std.specs.Prelude.{◌≡◌, ◌<◌, ◌++◌, codes, decimal
 ghost use Rattle.rapid_text.specs.Appended.{Appended};
 ghost use Rattle.report.specs.Causes.{event_words};
 ghost use Rattle.report.specs.Pieces.{piece_bytes};
-ghost use Rattle.kept_session.specs.QuestionItems.{cause_words, item, item_of, thread_item, thread_items};
+ghost use Rattle.kept_session.specs.QuestionItems.{all_items, cause_words, item, item_of, thread_item};
 
 use event_index::Indexed;
 use rapid_text::OutOfMemory;
@@ -93,7 +93,7 @@ pub(crate) fn append_threads(
     schedule: &Schedule,
 ) -> Result<(), OutOfMemory>
     requires { schedule.now.trace ≡ indexed.now }
-    ensures { Appended result out.old out.new (thread_items indexed.now.events schedule.now.events (length indexed.now.threads)) }
+    ensures { Appended result out.old out.new (all_items indexed.now schedule.now.events) }
 {
     for thread in 0..indexed.threads() {
         append_thread(out, indexed, schedule, thread)?;

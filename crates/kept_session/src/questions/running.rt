@@ -1,12 +1,11 @@
 //! Answers how far a thread can go on after a schedule.
-ghost use Rattle.std.specs.Prelude.{◌≡◌, ◌<◌, ◌≤◌, length, slice_get, IfOk, Some};
+ghost use Rattle.std.specs.Prelude.{◌≡◌, ◌<◌, ◌≤◌, length, IfOk, Some};
 ghost use Rattle.inverse_log.specs.declared.refusal.Refusal.TheVariants.{Move};
 ghost use Rattle.moves.specs.declared.refusal.MoveRefusal.TheVariants.{Disabled as DisabledBy};
 ghost use Rattle.rapid_text.specs.Appended.{Appended};
 ghost use Rattle.report.specs.Refusals.{refusal_text};
-ghost use Rattle.schedule.specs.Refusals.{next_of};
-ghost use Rattle.kept_session.specs.QuestionAnswers.{run_line, run_next, run_words};
-ghost use Rattle.kept_session.specs.QuestionItems.{item_of, run_of};
+ghost use Rattle.kept_session.specs.QuestionAnswers.{next_run, run_text, run_to, stop_line};
+ghost use Rattle.kept_session.specs.QuestionItems.{RunsOn};
 
 use crate::questions::items::append_item;
 use event_index::Indexed;
@@ -35,8 +34,7 @@ fn go_on(
     requires trace { schedule.old.trace ≡ indexed.now }
     requires thread { thread < length indexed.now.threads }
     ensures trace { schedule.new.trace ≡ indexed.now }
-    ensures run { IfOk result (λ run. run_of (length indexed.now.events) indexed.now.events schedule.old.events thread last
-        ≡ (run.0, item_of indexed.now.events schedule.new.events run.1)) }
+    ensures run { IfOk result (RunsOn indexed.now schedule.old.events schedule.new.events thread last) }
 {
     for count in 0..indexed.len() {
         let Some(next) = schedule.next_of(indexed, thread) else {
@@ -63,7 +61,7 @@ fn append_stop(
     run: (u64, Option<u32>),
 ) -> Result<(), OutOfMemory>
     requires { schedule.now.trace ≡ indexed.now }
-    ensures { Appended result out.old out.new (run_words entries (run.0, item_of indexed.now.events schedule.now.events run.1)) }
+    ensures { Appended result out.old out.new (stop_line indexed.now entries schedule.now.events run) }
 {
     append_pieces(
         out,
@@ -91,7 +89,7 @@ fn append_run(
 ) -> Result<(), OutOfMemory>
     requires trace { copy.trace ≡ indexed.now }
     requires thread { thread < length indexed.now.threads }
-    ensures { Appended result out.old out.new (run_words entries (run_of (length indexed.now.events) indexed.now.events copy.events thread last)) }
+    ensures { Appended result out.old out.new (run_text indexed.now entries copy.events thread last) }
 {
     match go_on(&mut copy, indexed, thread, last) {
         Ok(run) => append_stop(out, indexed, entries, &copy, run),
@@ -105,10 +103,7 @@ fn copy_of(alloc: Global, indexed: &Indexed, schedule: &Schedule) -> Result<Sche
     ensures { IfOk result (λ copy. copy ≡ schedule.now) }
 {
     let len = schedule.events().len() as u32;
-    match schedule.prefix(alloc, indexed, len) {
-        Ok(copy) => Ok(copy),
-        Err(_) => Err(OutOfMemory),
-    }
+    schedule.prefix(alloc, indexed, len).ok().ok_or(OutOfMemory)
 }
 
 /// Appends how far the thread goes on after the schedule, if its next event is not after `last`.
@@ -122,7 +117,7 @@ fn append_next_run(
 ) -> Result<(), OutOfMemory>
     requires trace { schedule.now.trace ≡ indexed.now }
     requires thread { thread < length indexed.now.threads }
-    ensures { Appended result out.old out.new (run_next indexed.now entries schedule.now.events thread last (next_of indexed.now.events schedule.now.events thread)) }
+    ensures { Appended result out.old out.new (next_run indexed.now entries schedule.now.events thread last) }
 {
     match schedule.next_of(indexed, thread) {
         Some(next) if next <= last => {
@@ -142,7 +137,7 @@ pub(crate) fn append_run_to(
     last: u32,
 ) -> Result<(), OutOfMemory>
     requires { schedule.now.trace ≡ indexed.now }
-    ensures { Appended result out.old out.new (run_line indexed.now entries last (slice_get indexed.now.events last) schedule.now.events) }
+    ensures { Appended result out.old out.new (run_to indexed.now entries last schedule.now.events) }
 {
     if last >= indexed.len() {
         return append_refused(out, indexed, Disabled::NoSuchEvent);

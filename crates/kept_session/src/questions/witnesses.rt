@@ -1,8 +1,7 @@
 //! Answers with a schedule that shows a pair of events.
-ghost use Rattle.std.specs.Prelude.{◌≡◌, ◌<◌, ◌++◌, ℕ, List, codes, length, IfOk, OnOk};
+ghost use Rattle.std.specs.Prelude.{◌≡◌, ◌<◌, length, IfOk, OnOk};
 ghost use Rattle.explain_report.specs.findings.Findings.{IsFinding, IsNeverShown};
-ghost use Rattle.explain_report.specs.declared.findings.finding.Finding.{Finding};
-ghost use Rattle.kept_session.specs.QuestionWitnesses.{found_line, how_words, IsWitnessLine};
+ghost use Rattle.kept_session.specs.QuestionWitnesses.{AppendsFound, found_line, how_words, IsWitnessLine};
 ghost use Rattle.rapid_text.specs.Appended.{Appended, AppendedOne};
 
 use event_index::Indexed;
@@ -79,8 +78,7 @@ fn append_pair(
 ) -> Result<(), OutOfMemory>
     requires first { first < length indexed.now.events }
     requires second { second < length indexed.now.events }
-    ensures { OnOk result ((finding : Finding) × IsFinding indexed.now first second finding × IsNeverShown indexed.now.events first second finding
-        × (out.new.items ≡ out.old.items ++ found_line finding)) }
+    ensures { OnOk result (AppendsFound indexed.now first second out.old.items out.new.items) }
 {
     match found_of(out, indexed, first, second) {
         Ok(finding) => append_found(out, &finding),
@@ -95,7 +93,7 @@ pub(crate) fn append_witness(
     one: u32,
     other: u32,
 ) -> Result<(), OutOfMemory>
-    ensures { AppendedOne result out.old out.new (λ text. IsWitnessLine indexed.now one other text) }
+    ensures { AppendedOne result out.old out.new (IsWitnessLine indexed.now one other) }
 {
     match pair_of(indexed, one, other) {
         Some((first, second)) => append_pair(out, indexed, first, second),
