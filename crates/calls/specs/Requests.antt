@@ -1,6 +1,6 @@
 -- What is asked of workers, what they find, and what is made of that. No public clause cites this module. `T` is the events
 -- of a trace.
-use Rattle.std.specs.Prelude.{◌≡◌, ℕ, zero, suc, List, [], ◌∷◌, All, Contains, Option, Some, Result}
+use Rattle.std.specs.Prelude.{◌≡◌, ℕ, zero, suc, List, [], ◌∷◌, ◌++◌, length, replicate, All, Contains, Option, Some, None, Result}
 use Rattle.rapid_text.specs.Recording.{Recording}
 use Rattle.shb_clocks.specs.Candidates.{AreFirstCandidates}
 use Rattle.inverse_log.specs.declared.call.Call.TheVariants.{Propose}
@@ -11,7 +11,7 @@ use Rattle.search_pool.specs.declared.outcome.Outcome.TheVariants.{Witness}
 use Rattle.search_pool.specs.declared.request.Posed.{Posed}
 use Rattle.search_pool.specs.declared.request.Request.{Request}
 use Rattle.search_pool.specs.declared.request.Way.TheVariants.{Slice}
-use Rattle.workspace_lock.specs.Seating.{Site, SeatView, fresh_seat}
+use Rattle.workspace_lock.specs.Seating.{Site, SeatView, SeatsView, fresh_seat}
 use Rattle.workspace_lock.specs.Runs.{Ran}
 use Rattle.calls.specs.Searches.{slice_limit, ProposesSlices}
 
@@ -36,3 +36,8 @@ SearchesBy trace s n = (pairs : List (ℕ × ℕ)) × AreFirstCandidates trace.e
 abbrev pub AreBehind : ℕ → Recording → Site → ℕ → List (Option SeatView) → Type 0
 AreBehind zero trace site client rows = rows ≡ []
 AreBehind (suc workers) trace site client rows = (last : SeatView) × SearchesBy trace (fresh_seat site client) last × (rows ≡ Some last ∷ [])
+
+-- at the end the seats of these jobs are out, and those behind them are in
+abbrev pub LeavesRows : {J : Type 0} → ℕ → Recording → List J → SeatsView → SeatsView → Type 0
+LeavesRows workers trace jobs old new =
+    (rows : List (Option SeatView)) × AreBehind workers trace old.site (suc (length jobs)) rows × (new.rows ≡ replicate (length jobs) None ++ rows)

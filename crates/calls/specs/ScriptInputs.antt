@@ -1,5 +1,5 @@
 -- The scripts that are to run at once: input i + 1 is the script of client i. All notions here are this project's own.
-use Rattle.std.specs.Prelude.{◌≡◌, ◌⊎◌, ◌==◌, ◌<◌, ℕ, suc, ◌+◌, not, find, option_map, List, [], ◌∷◌, ◌++◌, length, All, Option, Some, Ok, Err, IfSome, ⊤}
+use Rattle.std.specs.Prelude.{◌≡◌, ◌⊎◌, ◌==◌, ◌<◌, ℕ, suc, ◌+◌, not, find, option_map, List, [], ◌∷◌, ◌++◌, length, All, Option, Some, Ok, Err, IfSome, Vec, vec_len, ⊤}
 use Rattle.script_language.specs.Scripts.{Asked, IsScript}
 use Rattle.client_scripts.specs.Loading.{IsTold}
 use Rattle.client_scripts.specs.Replay.{IsShort}
@@ -26,6 +26,11 @@ AreScripts n [] [] = ⊤
 AreScripts n [] (s ∷ scripts) = ⊥
 AreScripts n (r ∷ rests) [] = ⊥
 AreScripts n (r ∷ rests) (s ∷ scripts) = ((text : List ℕ) × IsReadAs r text × IsScriptOf n text s) × AreScripts (suc n) rests scripts
+
+-- the reader has the script of the next client, which is added to these
+abbrev pub AddsScript : {A : Type 0} → Option (List ℕ) → Vec (List Asked) A → Vec (List Asked) A → Type 0
+AddsScript rest old new =
+    (text : List ℕ) × (asked : List Asked) × IsReadAs rest text × IsScriptOf (vec_len old + 1) text asked × (new.items ≡ old.items ++ asked ∷ [])
 
 -- the script is refused, or the first call of another client is
 abbrev pub IsRefused : ℕ → List ℕ → ScriptRefusal → Type 0

@@ -20,6 +20,10 @@ use Rattle.workspace_lock.specs.Runs.{Runs}
 abbrev pub slice_limit : ℕ
 slice_limit = 64
 
+-- these are the candidates that are sliced: the first ones
+abbrev pub AreToSlice : Recording → List (ℕ × ℕ) → Type 0
+AreToSlice trace pairs = AreFirstCandidates trace.events slice_limit pairs
+
 -- how many clients there are beside those of the scripts: one, where there are workers
 abbrev pub further_clients : ℕ → ℕ
 further_clients zero = 0

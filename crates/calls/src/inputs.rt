@@ -1,7 +1,6 @@
 //! Reads the scripts that run at the same time, one for each client.
-ghost use Rattle.std.specs.Prelude.{◌≡◌, ◌≤◌, ◌+◌, ◌++◌, ◌∷◌, [], ℕ, List, All, map, false, vec_len, IfOk, IfErr, OnOk};
-ghost use Rattle.script_language.specs.Scripts.{Asked};
-ghost use Rattle.calls.specs.ScriptInputs.{AreScripts, IsFirstFault, IsScriptFault, IsScriptOf, IsReadAs, IsTextFault};
+ghost use Rattle.std.specs.Prelude.{◌≡◌, ◌≤◌, ◌+◌, [], All, map, false, vec_len, IfOk, IfErr, OnOk};
+ghost use Rattle.calls.specs.ScriptInputs.{AddsScript, AreScripts, IsFirstFault, IsScriptFault, IsScriptOf, IsTextFault};
 
 use crate::fault::BenchFault;
 use client_scripts::{Script, ScriptCause, ScriptRefusal, Source, read_input, read_script};
@@ -58,16 +57,14 @@ impl Scripts {
         requires reader { S.has_failed reader.old ≡ false }
         requires few { vec_len self.old.scripts ≤ 30 }
         ensures count { OnOk result (vec_len self.new.scripts ≡ vec_len self.old.scripts + 1) }
-        ensures read { OnOk result ((text : List ℕ) × (asked : List Asked) × IsReadAs (S.rest reader.old) text × IsScriptOf (vec_len self.old.scripts + 1) text asked
-            × (self.new.scripts.items ≡ self.old.scripts.items ++ asked ∷ [])) }
-        ensures fault { IfErr result (λ fault. IsScriptFault (vec_len self.old.scripts + 1) (S.rest reader.old) fault) }
+        ensures read { OnOk result (AddsScript (S.rest reader.old) self.old.scripts self.new.scripts) }
+        ensures fault { IfErr result (IsScriptFault (vec_len self.old.scripts + 1) (S.rest reader.old)) }
     {
         let client = self.scripts.len() as u32 + 1;
         let text = read_input(alloc, reader, client + 1)?;
         self.texts.write(&text);
         let script = script_of(alloc, &text, client)?;
-        self.scripts.push(script)?;
-        Ok(())
+        Ok(self.scripts.push(script)?)
     }
 
     /// Makes hashers for the names in the scripts. Their key comes from the scripts' texts.

@@ -1,10 +1,9 @@
 //! Workers that slice the first candidates of a trace, and a client that proposes the witnesses that they find.
-ghost use Rattle.std.specs.Prelude.{◌≡◌, ◌⊎◌, ◌<◌, ◌≤◌, [], All, IfOk, IfErr, vec_len};
+ghost use Rattle.std.specs.Prelude.{◌≡◌, ◌⊎◌, ◌<◌, ◌≤◌, [], IfOk, IfErr, vec_len};
 ghost use Rattle.std.specs.Arc.{arc_value};
-ghost use Rattle.shb_clocks.specs.Candidates.{AreFirstCandidates};
 ghost use Rattle.client_scripts.specs.declared.fault.ReplayFault.TheVariants.{OutOfMemory as NoMemory};
 ghost use Rattle.calls.specs.declared.fault.BenchFault.TheVariants.{Replay, NoThread};
-ghost use Rattle.calls.specs.Searches.{slice_limit, ProposesSlices};
+ghost use Rattle.calls.specs.Searches.{AreToSlice, ProposesSlices};
 ghost use Rattle.calls.specs.Requests.{AreSlices, ProposesOutcome};
 
 use crate::fault::BenchFault;
@@ -60,7 +59,7 @@ pub(crate) fn start_workers<R: Threads + Wait + Clone + Send + Drop + 'static>(
     requires { (0 < workers) × (workers ≤ 16) }
     ensures trace { IfOk result (λ search. search.pool.trace ≡ arc_value indexed.now) }
     ensures pending { IfOk result (λ search. search.pool.pending ≡ []) }
-    ensures pairs { IfOk result (λ search. AreFirstCandidates (arc_value indexed.now).events slice_limit search.pairs) }
+    ensures pairs { IfOk result (λ search. AreToSlice (arc_value indexed.now) search.pairs) }
     ensures fault { IfErr result (λ fault. (fault ≡ Replay NoMemory) ⊎ (fault ≡ NoThread)) }
 {
     let clocks = Clocks::new(alloc, indexed)?;

@@ -1,14 +1,11 @@
 //! Runs scripts at the same time, each in a separate thread, through the seats of one bench.
-ghost use Rattle.std.specs.Prelude.{◌≡◌, ◌≤◌, ◌<◌, ◌+◌, ◌-◌, ◌++◌, ℕ, suc, List, [], length, map, replicate, slice_get, slice_set, All, vec_len, IfOk, IfErr, IsOk, OnOk, Option, Some, None};
+ghost use Rattle.std.specs.Prelude.{◌≡◌, ◌≤◌, ◌<◌, ◌+◌, ◌-◌, All, vec_len, IfOk, IfErr, IsOk, OnOk, Some};
 ghost use Rattle.std.specs.Arc.{arc_value};
-ghost use Rattle.inverse_log.specs.Log.{Benched};
 ghost use Rattle.rapid_text.specs.Appended.{Appended};
-ghost use Rattle.workspace_lock.specs.Seating.{Site, SeatView, Closes, Opened, fresh_rows};
+ghost use Rattle.workspace_lock.specs.Seating.{Opened};
 ghost use Rattle.report.specs.Log.{log_text};
-ghost use Rattle.client_scripts.specs.declared.fault.ReplayFault.TheVariants.{OutOfMemory as NoMemory};
-ghost use Rattle.calls.specs.declared.fault.BenchFault.TheVariants.{Replay};
-ghost use Rattle.calls.specs.Told.{client_text, fresh_bench, AreTold};
-ghost use Rattle.calls.specs.Jobs.{AnswersJob, AnswerJobs, AreSeated, Numbered, AllLines, lines_of, told_text};
+ghost use Rattle.calls.specs.Told.{fresh_bench, AreTold};
+ghost use Rattle.calls.specs.Jobs.{AnswersJob, AnswerJobs};
 ghost use Rattle.calls.specs.Threads.{IsRunFault};
 
 use crate::beside::{clients_beside, run_beside};
@@ -57,8 +54,7 @@ pub(crate) fn run_all<R: Threads + Wait + Sync>(
     jobs: Vec<Job>,
 ) -> Result<Vec<Told>, AllocError>
     ensures told { IfOk result (λ told. AnswerJobs indexed.now jobs.items told.items) }
-    ensures site { IfOk result
-        (λ told. (s : Site) → All (λ job. job.0.site ≡ s) jobs.items → All (λ t. t.0.site ≡ s) told.items) }
+    ensures site { IfOk result (λ told. KeepSite jobs.items told.items) }
 {
     let run = |job: Job| -> Told
         ensures site { result.0.site ≡ job.0.site }
@@ -76,10 +72,8 @@ fn seat_all(alloc: Global, seats: &mut Seats, scripts: Vec<Script>) -> Result<Ve
     ensures site { IfOk result (λ jobs. All (λ job. job.0.site ≡ seats.old.site) jobs.items) }
     // If all seats are in, and there are seats for all scripts, each script gets its own seat, in order. Then only the
     // other seats are in.
-    ensures jobs { (more : ℕ) → seats.old.rows ≡ fresh_rows seats.old.site 1 (vec_len scripts + more) → IfOk result
-        (λ jobs. AreSeated seats.old.site scripts.items jobs.items
-        × (seats.new.rows ≡ replicate (length jobs.items) None ++ fresh_rows seats.old.site (suc (length jobs.items)) more)) }
-    ensures fault { (more : ℕ) → seats.old.rows ≡ fresh_rows seats.old.site 1 (vec_len scripts + more) → IfErr result (λ fault. fault ≡ Replay NoMemory) }
+    ensures jobs { SeatsEach seats.old seats.new scripts result }
+    ensures fault { LacksMemory seats.old scripts result }
 {
     let mut jobs = Vec::new(alloc);
     for script in scripts {
@@ -97,7 +91,7 @@ fn append_client(
     client: u32,
     lines: Result<Vec<u8>, OutOfMemory>,
 ) -> Result<(), OutOfMemory>
-    ensures ok { OnOk result (IsOk lines × (out.new.items ≡ out.old.items ++ client_text client (lines_of lines))) }
+    ensures ok { OnOk result (AppendsLines client lines out.old.items out.new.items) }
 {
     let lines = lines?;
     append_pieces(
@@ -119,7 +113,7 @@ fn append_next(
     lines: Result<Vec<u8>, OutOfMemory>,
 ) -> Result<(), OutOfMemory>
     ensures before { OnOk result (IsOk so_far) }
-    ensures ok { OnOk result (IsOk lines × (out.new.items ≡ out.old.items ++ client_text client (lines_of lines))) }
+    ensures ok { OnOk result (AppendsLines client lines out.old.items out.new.items) }
 {
     so_far?;
     append_client(out, client, lines)
@@ -129,7 +123,7 @@ fn append_next(
 pub(crate) fn give_back(seats: &mut Seats, seat: Seat)
     requires { seat.site ≡ seats.old.site }
     ensures site { seats.new.site ≡ seats.old.site }
-    ensures back { slice_get seats.old.rows (seat.number - 1) ≡ Some None → seats.new.rows ≡ slice_set seats.old.rows (seat.number - 1) (Some seat) }
+    ensures back { PutsBack seats.old seats.new seat }
 {
     let _ = seats.give(seat);
 }
@@ -138,11 +132,10 @@ pub(crate) fn give_back(seats: &mut Seats, seat: Seat)
 /// more is appended.
 fn give_all(seats: &mut Seats, told: Vec<Told>, out: &mut Vec<u8>) -> Result<(), OutOfMemory>
     requires { All (λ t. t.0.site ≡ seats.old.site) told.items }
-    ensures text { OnOk result (AllLines told.items × (out.new.items ≡ out.old.items ++ told_text told.items)) }
+    ensures text { OnOk result (AppendsAll told.items out.old.items out.new.items) }
     ensures site { seats.new.site ≡ seats.old.site }
     // If none of these seats was in, and each has its number, all are in afterwards.
-    ensures back { (rest : List (Option SeatView)) → Numbered 1 told.items → seats.old.rows ≡ replicate (length told.items) None ++ rest
-        → seats.new.rows ≡ map (λ t. Some t.0) told.items ++ rest }
+    ensures back { PutsAllBack seats.old seats.new told.items }
 {
     let mut outcome = Ok(());
     for (seat, lines) in told {
@@ -154,7 +147,7 @@ fn give_all(seats: &mut Seats, told: Vec<Told>, out: &mut Vec<u8>) -> Result<(),
 
 /// Appends the log of the bench. All seats must be back.
 fn append_log(seats: Seats, out: &mut Vec<u8>) -> Result<(), OutOfMemory>
-    ensures { OnOk result ((bench : Benched) × Closes seats bench × (out.new.items ≡ out.old.items ++ log_text bench.log)) }
+    ensures { OnOk result (AppendsLog seats out.old.items out.new.items) }
 {
     match seats.close() {
         Ok(bench) => append_log_of(bench, out),

@@ -1,13 +1,9 @@
 //! Runs several scripts on one trace at the same time: reads all texts, runs the scripts, and writes the answers.
-ghost use Rattle.std.specs.Prelude.{◌≡◌, ◌≢◌, ◌⊎◌, ◌<◌, ◌≤◌, ℕ, List, All, false, true, map, vec_len, IfErr, OnErr, OnOk, Err};
+ghost use Rattle.std.specs.Prelude.{◌≡◌, ◌≢◌, ◌<◌, ◌≤◌, All, false, true, map, vec_len, IfErr, OnErr, OnOk, Err};
 ghost use Rattle.std.specs.Io.KnownBytes.{Appends};
-ghost use Rattle.script_language.specs.Scripts.{Asked};
-ghost use Rattle.client_scripts.specs.Loading.{IsTold};
 ghost use Rattle.client_scripts.specs.declared.fault.ReplayFault.TheVariants.{Write, Read};
 ghost use Rattle.client_scripts.specs.declared.fault.ReadCause.TheVariants.{Device};
-ghost use Rattle.calls.specs.ScriptInputs.{AreScripts, IsFirstFault};
-ghost use Rattle.calls.specs.Threads.{IsRunFault, RunsTogether, StopsRun};
-ghost use Rattle.calls.specs.Told.{AreTold};
+ghost use Rattle.calls.specs.Threads.{IsWriteFault, StopsRead, StopsRun, StopsScripts, WritesRun, WritesScripts, WritesTold};
 ghost use Rattle.calls.specs.declared.fault.BenchFault.TheVariants.{Replay, TooManyScripts};
 
 use crate::fault::BenchFault;
@@ -52,13 +48,14 @@ pub fn threads_with_room<
     ensures device { result ≡ Err (Replay (Read 1 Device)) → S.has_failed trace.new ≡ true }
     ensures read_failed { S.has_failed trace.new ≡ true → result ≡ Err (Replay (Read 1 Device)) }
     // What is written comes from a text. If the type of the trace's reader shows its bytes, it is that text.
-    ensures told { OnOk result ((bytes : List ℕ) × IsTold (S.rest trace.old) bytes × (text : List ℕ)
-        × RunsTogether bytes (map (λ q. Q.rest q) scripts.items) running.workers text × Appends (K.taken writer.old) (K.taken writer.new) text) }
+    ensures told { OnOk result
+        (WritesRun (S.rest trace.old) (map (λ q. Q.rest q) scripts.items) running.workers (K.taken writer.old) (K.taken writer.new)) }
     // Too many scripts come before all other faults. Next come the faults of the trace, and then that of the first
     // faulty script.
     ensures most { 31 < vec_len scripts → result ≡ Err TooManyScripts }
     ensures too_many { result ≡ Err TooManyScripts → 31 < vec_len scripts }
-    ensures fault { IfErr result (λ fault. StopsRun (S.rest trace.old) (map (λ q. Q.rest q) scripts.items) running.workers (K.has_failed writer.new) fault) }
+    ensures fault { IfErr result
+        (StopsRun (S.rest trace.old) (map (λ q. Q.rest q) scripts.items) running.workers (K.has_failed writer.new)) }
 {
     if scripts.len() > MAX_SCRIPTS {
         return Err(BenchFault::TooManyScripts);
@@ -85,11 +82,11 @@ fn run_on<R: Threads + Wait + Sync + Clone + Send + Drop + 'static, Q: Source + 
     ensures unwritten { OnErr result (K.has_failed writer.new ≡ false → K.taken writer.new ≡ K.taken writer.old) }
     ensures write_failed { K.has_failed writer.new ≡ true → result ≡ Err (Replay Write) }
     ensures device { result ≢ Err (Replay (Read 1 Device)) }
-    ensures told { OnOk result ((asked : List (List Asked)) × AreScripts 1 (map (λ q. Q.rest q) scripts.items) asked
-        × (text : List ℕ) × AreTold indexed asked running.workers text × Appends (K.taken writer.old) (K.taken writer.new) text) }
+    ensures told { OnOk result
+        (WritesScripts indexed (map (λ q. Q.rest q) scripts.items) running.workers (K.taken writer.old) (K.taken writer.new)) }
     ensures few { result ≢ Err TooManyScripts }
-    ensures fault { IfErr result (λ fault. ((fault ≡ Replay Write) × (K.has_failed writer.new ≡ true))
-        ⊎ IsRunFault running.workers fault ⊎ IsFirstFault (map (λ q. Q.rest q) scripts.items) fault) }
+    ensures fault { IfErr result
+        (StopsScripts (K.has_failed writer.new) running.workers (map (λ q. Q.rest q) scripts.items)) }
 {
     match read_scripts(alloc, scripts) {
         Ok(read) => run_read(rt, alloc, indexed, read, running, writer),
@@ -114,14 +111,13 @@ fn run_read<R: Threads + Wait + Sync + Clone + Send + Drop + 'static, K: Sink>(
     requires writer { K.has_failed writer.old ≡ false }
     ensures unwritten { OnErr result (K.has_failed writer.new ≡ false → K.taken writer.new ≡ K.taken writer.old) }
     ensures write_failed { K.has_failed writer.new ≡ true → result ≡ Err (Replay Write) }
-    ensures told { OnOk result ((text : List ℕ) × AreTold indexed read.scripts.items running.workers text × Appends (K.taken writer.old) (K.taken writer.new) text) }
-    ensures fault { IfErr result (λ fault. ((fault ≡ Replay Write) × (K.has_failed writer.new ≡ true)) ⊎ IsRunFault running.workers fault) }
+    ensures told { OnOk result
+        (WritesTold indexed read.scripts.items running.workers (K.taken writer.old) (K.taken writer.new)) }
+    ensures fault { IfErr result (StopsRead (K.has_failed writer.new) running.workers) }
 {
     let names = read.keyed();
-    match run_scripts(rt, alloc, indexed, names, read.scripts, running) {
-        Ok(told) => write_told(&told, writer),
-        Err(fault) => Err(fault),
-    }
+    let told = run_scripts(rt, alloc, indexed, names, read.scripts, running)?;
+    write_told(&told, writer)
 }
 
 /// Writes the answers and the log.
@@ -129,7 +125,7 @@ fn write_told<K: Sink>(told: &[u8], writer: &mut K) -> Result<(), BenchFault>
     requires { K.has_failed writer.old ≡ false }
     ensures told { OnOk result (Appends (K.taken writer.old) (K.taken writer.new) told.now) }
     ensures write_failed { K.has_failed writer.new ≡ true → result ≡ Err (Replay Write) }
-    ensures fault { IfErr result (λ fault. (fault ≡ Replay Write) × (K.has_failed writer.new ≡ true)) }
+    ensures fault { IfErr result (IsWriteFault (K.has_failed writer.new)) }
 {
     Ok(write_text(writer, told)?)
 }
@@ -157,15 +153,22 @@ pub fn threads<
     ensures write_failed { K.has_failed writer.new ≡ true → result ≡ Err (Replay Write) }
     ensures device { result ≡ Err (Replay (Read 1 Device)) → S.has_failed trace.new ≡ true }
     ensures read_failed { S.has_failed trace.new ≡ true → result ≡ Err (Replay (Read 1 Device)) }
-    ensures told { OnOk result ((bytes : List ℕ) × IsTold (S.rest trace.old) bytes × (text : List ℕ)
-        × RunsTogether bytes (map (λ q. Q.rest q) scripts.items) workers text × Appends (K.taken writer.old) (K.taken writer.new) text) }
+    ensures told { OnOk result
+        (WritesRun (S.rest trace.old) (map (λ q. Q.rest q) scripts.items) workers (K.taken writer.old) (K.taken writer.new)) }
     ensures most { 31 < vec_len scripts → result ≡ Err TooManyScripts }
     ensures too_many { result ≡ Err TooManyScripts → 31 < vec_len scripts }
-    ensures fault { IfErr result (λ fault. StopsRun (S.rest trace.old) (map (λ q. Q.rest q) scripts.items) workers (K.has_failed writer.new) fault) }
+    ensures fault { IfErr result
+        (StopsRun (S.rest trace.old) (map (λ q. Q.rest q) scripts.items) workers (K.has_failed writer.new)) }
 {
-    let running = Running {
+    threads_with_room(rt, alloc, trace, scripts, fastest(workers), writer)
+}
+
+/// So many workers, and the fastest limit on seats that queue for a turn.
+fn fastest(workers: u32) -> Running
+    ensures { result.workers ≡ workers }
+{
+    Running {
         workers,
         room: BEST_ROOM,
-    };
-    threads_with_room(rt, alloc, trace, scripts, running, writer)
+    }
 }

@@ -1,10 +1,5 @@
 -- Pieces that are appended one after another are appended as one.
-use Rattle.std.proofs.Common.{◌≡◌, ℕ, List, [], ◌++◌, Result, Ok, Err, OnOk, append_assoc, sym, ap, ◌∙◌}
-
--- what follows if the last call succeeds
-pub on_ok : {A E : Type 0} (r : Result A E) (P Q : Type 0) → (P → Q) → OnOk r P → OnOk r Q
-on_ok (Ok a) P Q f h = f h
-on_ok (Err e) P Q f h = h
+use Rattle.std.proofs.Common.{◌≡◌, ℕ, List, [], ◌++◌, append_assoc, sym, ap, ◌∙◌}
 
 module _ (old first second : List ℕ) (x y z : List ℕ) (e1 : first ≡ old ++ x) (e2 : second ≡ first ++ y) where
   pub three_pieces : (new : List ℕ) → new ≡ second ++ z → new ≡ old ++ (x ++ y ++ z)

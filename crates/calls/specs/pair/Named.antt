@@ -58,6 +58,13 @@ IsUnplaced r is_event one other =
     HaveSeveral r one ⊎ HaveSeveral r other ⊎ AreMixed is_event one other
     ⊎ ((marks : ℕ × ℕ) × IsMeant is_event one other marks × ¬ HaveConflict r.events (slice_index (marks_of one other)) marks)
 
+-- the same of the accesses that two names mean
+abbrev pub ArePlaced : Recording → Bool → Name → Name → ℕ → ℕ → Type 0
+ArePlaced r is_event one other a b = IsPlaced r is_event (flags_of r one) (flags_of r other) a b
+
+abbrev pub AreUnplaced : Recording → Bool → Name → Name → Type 0
+AreUnplaced r is_event one other = IsUnplaced r is_event (flags_of r one) (flags_of r other)
+
 -- a and b conflict, and are the two events, the earlier first
 pub record IsPairOf (r : Recording) (one other a b : ℕ) : Type 0 where
   pub first : a ≡ min one other
@@ -67,13 +74,13 @@ pub record IsPairOf (r : Recording) (one other a b : ℕ) : Type 0 where
 -- a and b are the pair that the names mean
 abbrev pub IsNamedPair : Recording → Name → Name → ℕ → ℕ → Type 0
 IsNamedPair r (Event one) (Event other) a b = IsPairOf r one other a b
-IsNamedPair r (Event one) (Place other) a b = IsPlaced r true (flags_of r (Event one)) (flags_of r (Place other)) a b
-IsNamedPair r (Place one) (Event other) a b = IsPlaced r true (flags_of r (Event other)) (flags_of r (Place one)) a b
-IsNamedPair r (Place one) (Place other) a b = IsPlaced r false (flags_of r (Place one)) (flags_of r (Place other)) a b
+IsNamedPair r (Event one) (Place other) a b = ArePlaced r true (Event one) (Place other) a b
+IsNamedPair r (Place one) (Event other) a b = ArePlaced r true (Event other) (Place one) a b
+IsNamedPair r (Place one) (Place other) a b = ArePlaced r false (Place one) (Place other) a b
 
 -- the names mean none
 abbrev pub IsNoPair : Recording → Name → Name → Type 0
 IsNoPair r (Event one) (Event other) = ¬ IsConflicting r.events (min one other) (max one other)
-IsNoPair r (Event one) (Place other) = IsUnplaced r true (flags_of r (Event one)) (flags_of r (Place other))
-IsNoPair r (Place one) (Event other) = IsUnplaced r true (flags_of r (Event other)) (flags_of r (Place one))
-IsNoPair r (Place one) (Place other) = IsUnplaced r false (flags_of r (Place one)) (flags_of r (Place other))
+IsNoPair r (Event one) (Place other) = AreUnplaced r true (Event one) (Place other)
+IsNoPair r (Place one) (Event other) = AreUnplaced r true (Event other) (Place one)
+IsNoPair r (Place one) (Place other) = AreUnplaced r false (Place one) (Place other)

@@ -1,11 +1,12 @@
 //! Explains a pair: reads the trace, judges the pair, makes the text, and writes it.
-ghost use Rattle.std.specs.Prelude.{◌≡◌, ◌≢◌, ◌<◌, ◌++◌, ℕ, List, length, false, true, IfSome, IfOk, IfErr, OnOk, Err};
+ghost use Rattle.std.specs.Prelude.{◌≡◌, ◌≢◌, ◌<◌, ℕ, List, length, false, true, IfSome, IfOk, IfErr, Err};
 ghost use Rattle.client_scripts.specs.declared.fault.ReadCause.{ReadCause};
 ghost use Rattle.client_scripts.specs.declared.fault.ReadCause.TheVariants.{Device};
 ghost use Rattle.client_scripts.specs.declared.fault.ReplayFault.TheVariants.{Write, Read};
 ghost use Rattle.explain_report.specs.findings.Findings.{IsFinding, IsNeverShown};
 ghost use Rattle.calls.specs.pair.Answers.{IsExplained, IsExplanation, IsFindingTold, IsPairTold, IsUnexplained, IsWritten};
 ghost use Rattle.calls.specs.declared.pair.fault.PairFault.TheVariants.{Replay};
+ghost use Rattle.rapid_text.specs.Appended.{AppendedOne};
 
 use crate::pair::fault::PairFault;
 use crate::pair::naming::named_pair;
@@ -45,13 +46,13 @@ pub(crate) fn finding_of(
 fn append_finding(
     text: &mut Vec<u8>,
     analysis: &Analysis<'_>,
-    finding: &Finding,
+    found: &Finding,
     pair: (u32, u32),
     all: bool,
 ) -> Result<(), OutOfMemory>
-    ensures { OnOk result ((told : List ℕ) × IsFindingTold analysis.now finding.now pair.0 pair.1 told × (text.new.items ≡ text.old.items ++ told)) }
+    ensures { AppendedOne result text.old text.new (IsFindingTold analysis.now found.now pair.0 pair.1) }
 {
-    match finding {
+    match found {
         Finding::Race { how, events } => {
             let verdict = Verdict::Race {
                 how: *how,
@@ -86,7 +87,7 @@ fn append_found(
 ) -> Result<(), OutOfMemory>
     requires finding { IsFinding analysis.now pair.0 pair.1 finding.now }
     requires never { IsNeverShown analysis.now.events pair.0 pair.1 finding.now }
-    ensures { OnOk result ((told : List ℕ) × IsPairTold analysis.now pair.0 pair.1 told × (text.new.items ≡ text.old.items ++ told)) }
+    ensures { AppendedOne result text.old text.new (IsPairTold analysis.now pair.0 pair.1) }
 {
     append_finding(text, analysis, finding, pair, all)?;
     Ok(())
@@ -101,7 +102,7 @@ fn append_explained(
 ) -> Result<(), OutOfMemory>
     requires first { pair.0 < length analysis.now.events }
     requires second { pair.1 < length analysis.now.events }
-    ensures { OnOk result ((told : List ℕ) × IsPairTold analysis.now pair.0 pair.1 told × (text.new.items ≡ text.old.items ++ told)) }
+    ensures { AppendedOne result text.old text.new (IsPairTold analysis.now pair.0 pair.1) }
 {
     match find(*text.allocator(), analysis, pair.0, pair.1) {
         Ok(finding) => append_found(text, analysis, &finding, pair, all),
@@ -118,7 +119,7 @@ fn append_explanation(
 ) -> Result<(), OutOfMemory>
     requires first { pair.0 < length indexed.now.events }
     requires second { pair.1 < length indexed.now.events }
-    ensures { OnOk result ((told : List ℕ) × IsPairTold indexed.now pair.0 pair.1 told × (text.new.items ≡ text.old.items ++ told)) }
+    ensures { AppendedOne result text.old text.new (IsPairTold indexed.now pair.0 pair.1) }
 {
     match Analysis::new(*text.allocator(), indexed) {
         Ok(analysis) => append_explained(text, &analysis, pair, all),
@@ -162,10 +163,7 @@ fn write_explanation<K: Sink>(
     ensures failed { K.has_failed writer.new ≡ true → result ≡ Err (Replay Write) }
     ensures write { result ≡ Err (Replay Write) → K.has_failed writer.new ≡ true }
 {
-    let text = match explanation_of(alloc, indexed, one, other, all) {
-        Ok(text) => text,
-        Err(fault) => return Err(fault),
-    };
+    let text = explanation_of(alloc, indexed, one, other, all)?;
     write_text(writer, text.as_slice())
 }
 

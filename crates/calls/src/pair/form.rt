@@ -1,5 +1,5 @@
 //! The forms in which a schedule is printed.
-ghost use Rattle.std.specs.Prelude.{◌≡◌, ◌<◌, ℕ, List, length, All};
+ghost use Rattle.std.specs.Prelude.{◌≡◌, ◌<◌, length, All};
 ghost use Rattle.calls.specs.pair.Forms.{IsPrinted, lines_form};
 ghost use Rattle.rapid_text.specs.Appended.{AppendedOne};
 
@@ -45,11 +45,10 @@ pub(crate) fn append_schedule(
     requires events { All (λ e. e < length indexed.now.events) events.now }
     requires first { first < length indexed.now.events }
     requires second { second < length indexed.now.events }
-    ensures { AppendedOne result text.old text.new (λ printed. IsPrinted indexed.now events.now first second form printed) }
+    ensures { AppendedOne result text.old text.new (IsPrinted indexed.now events.now first second form) }
 {
     match lines_form_of(form) {
-        Some(lines) => witness_text(indexed, events, first, second, lines, text)?,
-        None => picture_text(indexed, events, first, second, text)?,
+        Some(lines) => witness_text(indexed, events, first, second, lines, text),
+        None => picture_text(indexed, events, first, second, text),
     }
-    Ok(())
 }

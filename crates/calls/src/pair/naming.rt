@@ -3,7 +3,7 @@ ghost use Rattle.std.specs.Prelude.{◌≡◌, ◌<◌, ℕ, IfOk, IfSome, None,
 ghost use Rattle.event_index.specs.Relations.{IsConflicting};
 ghost use Rattle.race_groups.specs.Found.{HaveConflict};
 ghost use Rattle.explain_report.specs.places.Accesses.{flags_of};
-ghost use Rattle.calls.specs.pair.Named.{AreMixed, AreSame, IsMeant, IsNamedPair, IsNoPair, IsPlaced, IsReported, IsUnplaced, mark, marks_of};
+ghost use Rattle.calls.specs.pair.Named.{AreMixed, ArePlaced, AreSame, AreUnplaced, IsMeant, IsNamedPair, IsNoPair, IsPlaced, IsReported, IsUnplaced, mark, marks_of};
 ghost use Rattle.rapid_text.specs.Appended.{IfFound};
 
 use event_index::Indexed;
@@ -53,8 +53,8 @@ fn pair_of_names(
     other: Name<'_>,
     is_event: bool,
 ) -> Result<Option<(u32, u32)>, OutOfMemory>
-    ensures placed { IfFound result (λ p. IsPlaced indexed.now is_event (flags_of indexed.now one.entry) (flags_of indexed.now other.entry) p.0 p.1) }
-    ensures none { result ≡ Ok None → IsUnplaced indexed.now is_event (flags_of indexed.now one.entry) (flags_of indexed.now other.entry) }
+    ensures placed { IfFound result (λ p. ArePlaced indexed.now is_event one.entry other.entry p.0 p.1) }
+    ensures none { result ≡ Ok None → AreUnplaced indexed.now is_event one.entry other.entry }
     ensures first { IfFound result (λ p. p.0 < length indexed.now.events) }
     ensures second { IfFound result (λ p. p.1 < length indexed.now.events) }
     ensures conflict { IfFound result (λ p. IsConflicting indexed.now.events p.0 p.1) }
@@ -194,9 +194,8 @@ fn reported_in(
     ensures second { IfFound result (λ p. p.1 < length analysis.now.events) }
     ensures conflict { IfFound result (λ p. IsConflicting analysis.now.events p.0 p.1) }
 {
-    match verdict_between(alloc, analysis, marks, between) {
-        Ok(Some(verdict)) => Ok(Some((verdict.first, verdict.second))),
-        Ok(None) => Ok(None),
-        Err(refused) => Err(refused),
+    match verdict_between(alloc, analysis, marks, between)? {
+        Some(verdict) => Ok(Some((verdict.first, verdict.second))),
+        None => Ok(None),
     }
 }

@@ -78,10 +78,9 @@ fn witness_of(
     ensures text { IfOk result (λ text. IsWitness indexed.now one.entry other.entry form text.items) }
     ensures fault { IfErr result (IsUnwitnessed indexed.now one.entry other.entry) }
 {
-    match named_pair(alloc, indexed, one, other) {
-        Ok(Some(pair)) => witness_of_pair(alloc, indexed, one, other, pair, form),
-        Ok(None) => Err(PairFault::NoSuchPair),
-        Err(refused) => Err(PairFault::from(refused)),
+    match named_pair(alloc, indexed, one, other)? {
+        Some(pair) => witness_of_pair(alloc, indexed, one, other, pair, form),
+        None => Err(PairFault::NoSuchPair),
     }
 }
 
@@ -101,10 +100,7 @@ fn write_witness<K: Sink>(
     ensures failed { K.has_failed writer.new ≡ true → result ≡ Err (Replay Write) }
     ensures write { result ≡ Err (Replay Write) → K.has_failed writer.new ≡ true }
 {
-    let text = match witness_of(alloc, indexed, one, other, form) {
-        Ok(text) => text,
-        Err(fault) => return Err(fault),
-    };
+    let text = witness_of(alloc, indexed, one, other, form)?;
     write_text(writer, text.as_slice())
 }
 

@@ -1,11 +1,12 @@
 use Rattle.std.proofs.Common.{refl}
-use Rattle.explain_report.proofs.PieceLemmas.{four_pieces, on_ok}
+use Rattle.std.proofs.lemmas.Result.{on_ok_weaker}
+use Rattle.explain_report.proofs.PieceLemmas.{four_pieces}
 use Rattle.explain_report.proofs.apart.append_guarded.Goals as goal
 
 pub returns : goal.returns
 returns c =
     let one = c.in_ok-append_section.ensures in
-    on_ok c.append_section-2.result _ _
+    on_ok_weaker c.append_section-2.result
     (λ two. (
       _,
       four_pieces c.args.out.now.items _ _ _ _ _ (simp c.indexed.ensures at c.in_ok-append_guarded_head.ensures) c.in_ok-append_pair.ensures _ _ _ one.1 two.1,

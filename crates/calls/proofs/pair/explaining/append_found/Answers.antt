@@ -5,6 +5,6 @@ pub returns : goal.returns
 returns c =
     let told = c.in_ok-append_finding.ensures in (
       told.0,
-      record { finding = c.args.finding.now; found = c.requires.finding; never = c.requires.never; printed = told.1 },
-      told.2,
+      told.1,
+      record { finding = c.args.finding.now; found = c.requires.finding; never = c.requires.never; printed = told.2 },
     )

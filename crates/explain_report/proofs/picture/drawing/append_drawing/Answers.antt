@@ -1,11 +1,11 @@
 use Rattle.std.proofs.Common.{refl}
-use Rattle.explain_report.proofs.PieceLemmas.{on_ok}
+use Rattle.std.proofs.lemmas.Result.{on_ok_weaker}
 use Rattle.explain_report.proofs.picture.PieceLemmas.{four_pieces}
 use Rattle.explain_report.proofs.picture.drawing.append_drawing.Goals as goal
 
 pub returns : goal.returns
 returns c =
-    on_ok c.append_drawn.result _ _
+    on_ok_weaker c.append_drawn.result
     (λ drawn. (
       _,
       four_pieces _ _ _ _ _ _ c.in_ok-append_root.ensures c.in_ok-append_description.ensures _ _ _ c.in_ok-append_words.ensures drawn,
