@@ -4,7 +4,7 @@ ghost use Rattle.rapid_text.specs.Appended.{Appended};
 ghost use Rattle.rapid_text.specs.Canonical.{name_at};
 ghost use Rattle.report.specs.Info.{info_text, counts_text, thread_line, thread_lines};
 
-use crate::pieces::{Piece, append_bytes, append_count, append_pieces};
+use crate::pieces::{Piece, append_count, append_pieces};
 use event_index::Indexed;
 use rapid_text::OutOfMemory;
 
@@ -17,7 +17,8 @@ pub fn info(indexed: &Indexed, out: &mut Vec<u8>) -> Result<(), OutOfMemory>
     let mut text = Vec::new(*out.allocator());
     append_counts(&mut text, indexed)?;
     append_threads(&mut text, indexed)?;
-    append_bytes(out, &text)
+    out.extend_from_slice(&text)?;
+    Ok(())
 }
 
 /// Appends the lines of the four numbers.
