@@ -72,8 +72,8 @@ abbrev pub AppendsLines : ℕ → Result (Vec ℕ Global) OutOfMemory → List �
 AppendsLines client lines old new = IsOk lines × (new ≡ old ++ client_text client (lines_of lines))
 
 -- the seat is in, if its place was empty
-abbrev pub PutsBack : SeatsView → SeatsView → SeatView → Type 0
-PutsBack old new seat = slice_get old.rows (seat.number - 1) ≡ Some None → new.rows ≡ slice_set old.rows (seat.number - 1) (Some seat)
+abbrev pub GivesBack : SeatsView → SeatsView → SeatView → Type 0
+GivesBack old new seat = slice_get old.rows (seat.number - 1) ≡ Some None → new.rows ≡ slice_set old.rows (seat.number - 1) (Some seat)
 
 -- these are of the clients from n on
 abbrev pub Numbered : ℕ → List Told → Type 0

@@ -32,16 +32,16 @@ abbrev pub IsRunFault : ℕ → BenchFault → Type 0
 IsRunFault workers fault = (fault ≡ Replay OutOfMemory) ⊎ ((fault ≡ NoThread) × (0 < workers))
 
 -- a write has failed, and that is the fault
-abbrev pub IsWriteFault : Bool → BenchFault → Type 0
-IsWriteFault failed fault = (fault ≡ Replay Write) × (failed ≡ true)
+abbrev pub FailsToWrite : Bool → BenchFault → Type 0
+FailsToWrite failed fault = (fault ≡ Replay Write) × (failed ≡ true)
 
 -- why scripts that were read were not run to their end, or their answers not written
 abbrev pub StopsRead : Bool → ℕ → BenchFault → Type 0
-StopsRead failed workers fault = IsWriteFault failed fault ⊎ IsRunFault workers fault
+StopsRead failed workers fault = FailsToWrite failed fault ⊎ IsRunFault workers fault
 
 -- the same, or why a script was not read
 abbrev pub StopsScripts : Bool → ℕ → List (Option (List ℕ)) → BenchFault → Type 0
-StopsScripts failed workers rests fault = IsWriteFault failed fault ⊎ IsRunFault workers fault ⊎ IsFirstFault rests fault
+StopsScripts failed workers rests fault = FailsToWrite failed fault ⊎ IsRunFault workers fault ⊎ IsFirstFault rests fault
 
 -- the answers to these calls on the trace, and the log, were written
 abbrev pub WritesTold : Recording → List (List Asked) → ℕ → Option (List ℕ) → Option (List ℕ) → Type 0
@@ -60,6 +60,6 @@ WritesRun rest rests workers old new =
 abbrev pub StopsRun : Option (List ℕ) → List (Option (List ℕ)) → ℕ → Bool → BenchFault → Type 0
 StopsRun rest rests workers failed fault =
     (fault ≡ TooManyScripts)
-    ⊎ IsWriteFault failed fault
+    ⊎ FailsToWrite failed fault
     ⊎ IsRunFault workers fault
     ⊎ ((bytes : List ℕ) × IsTold rest bytes × StopsBehind bytes rests fault)

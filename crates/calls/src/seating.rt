@@ -123,7 +123,7 @@ fn append_next(
 pub(crate) fn give_back(seats: &mut Seats, seat: Seat)
     requires { seat.site ≡ seats.old.site }
     ensures site { seats.new.site ≡ seats.old.site }
-    ensures back { PutsBack seats.old seats.new seat }
+    ensures back { GivesBack seats.old seats.new seat }
 {
     let _ = seats.give(seat);
 }

@@ -3,7 +3,7 @@ ghost use Rattle.std.specs.Prelude.{◌≡◌, ◌≢◌, ◌<◌, ◌≤◌, Al
 ghost use Rattle.std.specs.Io.KnownBytes.{Appends};
 ghost use Rattle.client_scripts.specs.declared.fault.ReplayFault.TheVariants.{Write, Read};
 ghost use Rattle.client_scripts.specs.declared.fault.ReadCause.TheVariants.{Device};
-ghost use Rattle.calls.specs.Threads.{IsWriteFault, StopsRead, StopsRun, StopsScripts, WritesRun, WritesScripts, WritesTold};
+ghost use Rattle.calls.specs.Threads.{FailsToWrite, StopsRead, StopsRun, StopsScripts, WritesRun, WritesScripts, WritesTold};
 ghost use Rattle.calls.specs.declared.fault.BenchFault.TheVariants.{Replay, TooManyScripts};
 
 use crate::fault::BenchFault;
@@ -125,7 +125,7 @@ fn write_told<K: Sink>(told: &[u8], writer: &mut K) -> Result<(), BenchFault>
     requires { K.has_failed writer.old ≡ false }
     ensures told { OnOk result (Appends (K.taken writer.old) (K.taken writer.new) told.now) }
     ensures write_failed { K.has_failed writer.new ≡ true → result ≡ Err (Replay Write) }
-    ensures fault { IfErr result (IsWriteFault (K.has_failed writer.new)) }
+    ensures fault { IfErr result (FailsToWrite (K.has_failed writer.new)) }
 {
     Ok(write_text(writer, told)?)
 }

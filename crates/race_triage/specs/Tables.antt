@@ -42,8 +42,8 @@ abbrev pub AreCompleteIn : Tables → List Row → Type 0
 AreCompleteIn t rows = AreComplete t.indexed.now.events (slice_index t.places.now) rows
 
 -- more than `MAX_PLACES` pairs of locations have a conflicting pair of events
-abbrev pub AreTooManyIn : Tables → Type 0
-AreTooManyIn t = AreTooMany t.indexed.now.events (slice_index t.places.now) MAX_PLACES
+abbrev pub HaveTooManyPlaces : Tables → Type 0
+HaveTooManyPlaces t = AreTooMany t.indexed.now.events (slice_index t.places.now) MAX_PLACES
 
 -- The rows are those of all pairs of locations with conflicting events.
 pub record AreGroupsIn (t : Tables) (groups : Groups) : Type 0 where
@@ -58,12 +58,12 @@ abbrev pub AreLeastsIn : Tables → Effort → ℕ × ℕ → Least → Type 0
 AreLeastsIn t effort places l = AreLeasts t.indexed.now (slice_index t.places.now) places (max effort.tries 1) l
 
 -- the least conflicting pair of these two locations, if the effort asks for it
-abbrev pub IsFirstIn : Tables → Effort → ℕ × ℕ → Option (ℕ × ℕ) → Type 0
-IsFirstIn t effort places first =
+abbrev pub IsFirstPairIn : Tables → Effort → ℕ × ℕ → Option (ℕ × ℕ) → Type 0
+IsFirstPairIn t effort places first =
     effort.apart ≡ true → IsLeastPair t.indexed.now (slice_index t.places.now) places AnyPair first
 
 -- Each row has its least pairs.
-pub record AreLeastsOf (t : Tables) (effort : Effort) (rows : List Row) (leasts : List Least) : Type 0 where
+pub record AreLeastsFound (t : Tables) (effort : Effort) (rows : List Row) (leasts : List Least) : Type 0 where
   pub len : length leasts ≡ length rows
   pub leasts : (at : ℕ) (row : Row) (l : Least) → slice_get rows at ≡ Some row → slice_get leasts at ≡ Some l
       → AreLeastsIn t effort row.places l

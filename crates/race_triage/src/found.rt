@@ -1,6 +1,6 @@
 //! Counts the pairs of events for each pair of locations, and finds the least ones.
 ghost use Rattle.std.specs.Prelude.{◌≡◌, ◌<◌, ◌≤◌, Err, count_by, IfOk, Some, length, max, slice_get};
-ghost use Rattle.race_triage.specs.Tables.{AreCompleteIn, AreGroupsIn, AreLeastsOf, AreTables, AreTooManyIn};
+ghost use Rattle.race_triage.specs.Tables.{AreCompleteIn, AreGroupsIn, AreLeastsFound, AreTables, HaveTooManyPlaces};
 ghost use Rattle.race_triage.specs.Verdicts.{IsFoundIn, budget_for, has_tries};
 
 use crate::tables::Tables;
@@ -44,7 +44,7 @@ pub(crate) fn found_of<'a>(tables: Tables<'a>, effort: Effort) -> Result<Found<'
     ensures effort { IfOk result (λ found. found.effort ≡ effort) }
     ensures complete { IfOk result (λ found. AreCompleteIn tables.entry found.groups.rows.items) }
     ensures few { IfOk result (λ found. length found.groups.rows.items ≤ MAX_PLACES) }
-    ensures too_many { result ≡ Err TriageRefusal.TooMany → AreTooManyIn tables.entry }
+    ensures too_many { result ≡ Err TriageRefusal.TooMany → HaveTooManyPlaces tables.entry }
 {
     let groups = counted(tables)?;
     let leasts = leasts_in(tables, &groups, effort)?;
@@ -64,7 +64,7 @@ pub(crate) fn found_by_workers<'a, R: Threads + Sync>(
     ensures effort { IfOk result (λ found. found.effort ≡ effort) }
     ensures complete { IfOk result (λ found. AreCompleteIn tables.entry found.groups.rows.items) }
     ensures few { IfOk result (λ found. length found.groups.rows.items ≤ MAX_PLACES) }
-    ensures too_many { result ≡ Err TriageRefusal.TooMany → AreTooManyIn tables.entry }
+    ensures too_many { result ≡ Err TriageRefusal.TooMany → HaveTooManyPlaces tables.entry }
 {
     if effort.workers < 2 {
         return found_of(tables, effort);
@@ -78,7 +78,7 @@ pub(crate) fn found_by_workers<'a, R: Threads + Sync>(
 fn leasts_in(tables: Tables<'_>, groups: &Groups, effort: Effort) -> Result<Vec<Least>, OutOfMemory>
     requires tables { AreTables tables }
     requires groups { AreGroupsIn tables groups.now }
-    ensures { IfOk result (λ leasts. AreLeastsOf tables.entry effort groups.now.rows.items leasts.items) }
+    ensures { IfOk result (λ leasts. AreLeastsFound tables.entry effort groups.now.rows.items leasts.items) }
 {
     let leasts = leasts_of(
         tables.alloc,
@@ -102,7 +102,7 @@ fn leasts_by<R: Threads + Sync>(
 ) -> Result<Vec<Least>, OutOfMemory>
     requires tables { AreTables tables }
     requires groups { AreGroupsIn tables groups.now }
-    ensures { IfOk result (λ leasts. AreLeastsOf tables.entry effort groups.now.rows.items leasts.items) }
+    ensures { IfOk result (λ leasts. AreLeastsFound tables.entry effort groups.now.rows.items leasts.items) }
 {
     let counted = Counted {
         indexed: tables.indexed,
@@ -133,7 +133,7 @@ fn found_in<'a>(
 ) -> Result<Found<'a>, OutOfMemory>
     requires tables { AreTables tables }
     requires groups { AreGroupsIn tables groups }
-    requires leasts { AreLeastsOf tables effort groups.rows.items leasts.items }
+    requires leasts { AreLeastsFound tables effort groups.rows.items leasts.items }
     ensures found { IfOk result IsFoundIn }
     ensures tables { IfOk result (λ found. found.tables ≡ tables.entry) }
     ensures effort { IfOk result (λ found. found.effort ≡ effort) }
@@ -194,7 +194,7 @@ fn budget_for(count: u64) -> u32
 fn counted(tables: Tables<'_>) -> Result<Groups, TriageRefusal>
     requires tables { AreTables tables }
     ensures groups { IfOk result (AreGroupsIn tables.entry) }
-    ensures too_many { result ≡ Err TriageRefusal.TooMany → AreTooManyIn tables.entry }
+    ensures too_many { result ≡ Err TriageRefusal.TooMany → HaveTooManyPlaces tables.entry }
 {
     match groups_of(
         tables.alloc,
@@ -220,7 +220,7 @@ fn counted_by_workers<R: Threads + Sync>(
     requires tables { AreTables tables }
     requires workers { 0 < workers }
     ensures groups { IfOk result (AreGroupsIn tables.entry) }
-    ensures too_many { result ≡ Err TriageRefusal.TooMany → AreTooManyIn tables.entry }
+    ensures too_many { result ≡ Err TriageRefusal.TooMany → HaveTooManyPlaces tables.entry }
 {
     let limit = MAX_PLACES;
     match groups_by_workers(

@@ -2,7 +2,7 @@
 ghost use Rattle.std.specs.Prelude.{◌≡◌, ◌<◌, ◌≤◌, IfOk, Some, length, slice_get, slice_index, take};
 ghost use Rattle.race_groups.specs.Kinds.{IsNeverShownBetween};
 ghost use Rattle.explain_report.specs.declared.findings.searching.TheConstants.{BUDGET};
-ghost use Rattle.race_triage.specs.Tables.{AreLeastsIn, AreTables, HasConflictIn, IsFirstIn, IsRowIn};
+ghost use Rattle.race_triage.specs.Tables.{AreLeastsIn, AreTables, HasConflictIn, IsFirstPairIn, IsRowIn};
 ghost use Rattle.race_triage.specs.Verdicts.{AreAllMissed, AreOpenPairs, IfNoneFound, IsBudgetIn, IsFirstShown, IsFoundIn, IsVerdictBy, IsVerdictOf};
 ghost use Rattle.rapid_text.specs.Appended.{IfFound};
 
@@ -47,7 +47,7 @@ impl Tables<'_> {
         requires row { IsRowIn self.now row }
         requires there { HasConflictIn self.now row.places }
         requires least { AreLeastsIn self.now effort row.places least.now }
-        requires first { IsFirstIn self.now effort row.places first }
+        requires first { IsFirstPairIn self.now effort row.places first }
         requires shared { IsBudgetIn self.now budget }
         ensures { IfOk result (IsVerdictBy self.now effort row) }
     {
@@ -140,7 +140,7 @@ impl Tables<'_> {
         requires row { IsRowIn self.now row }
         requires there { HasConflictIn self.now row.places }
         requires least { AreLeastsIn self.now effort row.places least.now }
-        requires first { IsFirstIn self.now effort row.places first }
+        requires first { IsFirstPairIn self.now effort row.places first }
         requires candidates { row.counts.candidates ≡ 0 }
         requires open_pairs { row.counts.open_pairs ≡ 0 }
         requires never { IsNeverShownBetween self.now.indexed.now.events (slice_index self.now.places.now) row.places.0 row.places.1 }

@@ -2,7 +2,7 @@
 ghost use Rattle.std.specs.Prelude.{◌≡◌, ◌≤◌, All, Err, IfOk, length};
 ghost use Rattle.race_triage.specs.Located.{IsLocated};
 ghost use Rattle.race_triage.specs.Places.{AreFirstUsesOf, AreNumbers, AreSpotsOf};
-ghost use Rattle.race_triage.specs.Tables.{AreTables, AreTooManyIn};
+ghost use Rattle.race_triage.specs.Tables.{AreTables, HaveTooManyPlaces};
 ghost use Rattle.race_triage.specs.Triaged.{AreAllToldAt, AreAllToldOf, AreCountedOf, AreTooManyAt, AreVerdictsAt, AreVerdictsOf, IsCrowded};
 ghost use Rattle.race_triage.specs.Verdicts.{AreAllToldIn, AreOnceTold, AreRising, AreVerdictsIn, IsVerdictOf};
 
@@ -209,7 +209,7 @@ fn verdicts_by<R: Threads + Sync, W: Watch + Sync>(
     ensures once { IfOk result (λ vs. AreOnceTold vs.items) }
     ensures few { IfOk result (λ vs. length vs.items ≤ MAX_PLACES) }
     ensures rising { IfOk result (λ vs. AreRising vs.items) }
-    ensures too_many { result ≡ Err TriageRefusal.TooMany → AreTooManyIn tables.entry }
+    ensures too_many { result ≡ Err TriageRefusal.TooMany → HaveTooManyPlaces tables.entry }
 {
     let found = found_by_workers(rt, tables, effort)?;
     match all_verdicts(rt, &found, watch) {
