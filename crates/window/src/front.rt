@@ -245,9 +245,13 @@ impl Front {
         ensures ok { IfOk result (λ next. IsReadAfter self.now.read more.now next.trace next.from) }
         ensures err { IfErr result (IsPieceFault (head.now.text.items ++ more.now) head.now.size) }
     {
-        let from = head.size;
-        let trace = piece(alloc, head.text.as_slice(), more)?;
-        Ok(Next { trace, from })
+        match piece(alloc, head.text.as_slice(), more) {
+            Ok(trace) => Ok(Next {
+                trace,
+                from: head.size,
+            }),
+            Err(fault) => Err(fault),
+        }
     }
 
     // The text of such a head, which may not be readable as a trace.

@@ -41,7 +41,8 @@ fn takes_after(alloc: Global, trace: &Trace) -> Result<Vec<Event>, OutOfMemory>
     ensures takes { IfOk result (λ events. All (λ e. (l : ℕ) × (e.op ≡ Op.Acquire l)) events.items) }
     ensures holds { IfOk result (λ events. HoldTheSame trace.now.events events.items) }
 {
-    let _raw = trace.raw();
+    // the trace is well formed
+    let _ = trace.raw();
     let mut events = Vec::new(alloc);
     add_holds(alloc, trace, &mut events)?;
     Ok(events)
@@ -53,6 +54,7 @@ pub(crate) fn held_text(alloc: Global, trace: &Trace) -> Result<(Vec<u8>, usize)
 {
     let events = takes_after(alloc, trace)?;
     let mut text = Vec::new(alloc);
-    append_prologue(&mut text, trace.raw(), b"seen", events.as_slice())?;
-    Ok((text, events.len()))
+    let all = events.as_slice();
+    append_prologue(&mut text, trace.raw(), b"seen", all)?;
+    Ok((text, all.len()))
 }

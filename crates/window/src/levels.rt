@@ -69,7 +69,8 @@ fn note_if(names: &mut Names, alloc: Global, asked: bool, name: &[u8]) -> Result
     if !asked {
         return Ok(());
     }
-    note(names, alloc, name)
+    note(names, alloc, name)?;
+    Ok(())
 }
 
 // Adds these names.
@@ -177,7 +178,8 @@ pub(crate) fn with_found(
     let keyed = keyed_by(known, raw);
     let mut names = no_names(alloc, keyed);
     note_found(&mut names, alloc, raw, known, found)?;
-    joined(alloc, keyed, known, &names)
+    let grown = joined(alloc, keyed, known, &names)?;
+    Ok(grown)
 }
 
 /// The first of the names; empty if there is none.

@@ -32,7 +32,8 @@ fn note_touch(counts: &mut Vec<u32>, trace: &Trace, from: u32, at: u32)
     ensures { IsTouchTable trace.now from (at + 1) counts.new.items }
 {
     match trace.raw().event(at).op {
-        Op::Acquire(lock) | Op::Release(lock) => counts[lock as usize] += 1,
+        Op::Acquire(lock) => counts[lock as usize] += 1,
+        Op::Release(lock) => counts[lock as usize] += 1,
         Op::Read(_) | Op::Write(_) | Op::Fork(_) | Op::Join(_) => {}
     }
 }
