@@ -157,5 +157,6 @@ pub(crate) fn append_undecided(
     append_undecided_head(out)?;
     append_pair(out, analysis, pair.0, pair.1)?;
     append_words(out, b"in SHB\n")?;
-    append_shb_chain(out, analysis, events)
+    append_shb_chain(out, analysis, events)?;
+    Ok(())
 }

@@ -136,7 +136,10 @@ fn add_own(
     if thread as usize % basis.every != basis.from {
         return Ok(());
     }
-    add_thread(alloc, rows, basis, limit, thread)
+    match add_thread(alloc, rows, basis, limit, thread) {
+        Ok(()) => Ok(()),
+        Err(refusal) => Err(refusal),
+    }
 }
 
 // The same; the pairs of each flagged class are counted together.
@@ -213,8 +216,10 @@ pub(crate) fn count_in_turn(
     ensures { IsPart basis.entry (slice_index _places.now) limit basis.entry.from result }
 {
     let mut rows = GrowingRows::new(alloc, basis.classes)?;
-    add_pairs(alloc, &mut rows, basis, limit)?;
-    Ok(rows.into_rows())
+    match add_pairs(alloc, &mut rows, basis, limit) {
+        Ok(()) => Ok(rows.into_rows()),
+        Err(refusal) => Err(refusal),
+    }
 }
 
 /// The sums of all workers are the counts of the trace.

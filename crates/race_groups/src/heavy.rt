@@ -86,7 +86,8 @@ fn add_flagged(
     if flags[class as usize] != 1 {
         return Ok(());
     }
-    add_class(alloc, rows, basis, thread, class)
+    add_class(alloc, rows, basis, thread, class)?;
+    Ok(())
 }
 
 /// Adds the pairs whose later event is of the thread and of a class that is flagged with 1.

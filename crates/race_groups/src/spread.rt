@@ -74,8 +74,9 @@ fn note_thread(
     ensures within { OnOk result ((c : ℕ) → All (λ e. e.0 < length indexed.now.threads) (entries_at spread.new.items c)) }
     ensures noted { OnOk result (AreNoted numbers.now (events_of indexed.now.events thread) thread spread.old.items spread.new.items) }
 {
-    for event in indexed.thread_events(thread) {
-        note_class(spread, numbers[*event as usize], thread)?;
+    for at in 0..indexed.thread_events(thread).len() {
+        let event = indexed.thread_events(thread)[at];
+        note_class(spread, numbers[event as usize], thread)?;
     }
     Ok(())
 }

@@ -140,7 +140,8 @@ fn add_own(
     if class as usize % basis.every != basis.from {
         return Ok(());
     }
-    add_total(alloc, rows, basis, totals, spread, class)
+    add_total(alloc, rows, basis, totals, spread, class)?;
+    Ok(())
 }
 
 /// Counts all conflicting pairs of the classes whose turn it is, each twice. Fails if there are more than `limit`
