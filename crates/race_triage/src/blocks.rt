@@ -73,7 +73,8 @@ fn append_size(out: &mut Vec<u8>, events: u32, threads: u32) -> Result<(), OutOf
     append_words(out, b" events")?;
     append_small(out, events)?;
     append_words(out, b" threads")?;
-    append_small(out, threads)
+    append_small(out, threads)?;
+    Ok(())
 }
 
 // Appends the number of pairs of events that the block covers.

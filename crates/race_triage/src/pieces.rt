@@ -96,5 +96,6 @@ fn append_call(out: &mut Vec<u8>, word: &[u8], name: &[u8]) -> Result<(), OutOfM
     append_words(out, word)?;
     append_words(out, b"(")?;
     append_words(out, name)?;
-    append_words(out, b")")
+    append_words(out, b")")?;
+    Ok(())
 }

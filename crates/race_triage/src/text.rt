@@ -90,7 +90,8 @@ fn append_kinds(out: &mut Vec<u8>, totals: &Totals) -> Result<(), OutOfMemory>
     append_count(out, b"candidates", totals.candidates)?;
     append_count(out, b"open", totals.open_pairs)?;
     append_count(out, b"guarded", totals.guarded)?;
-    append_count(out, b"forced", totals.forced)
+    append_count(out, b"forced", totals.forced)?;
+    Ok(())
 }
 
 // Appends the number of pairs of locations, and the number with each outcome.
@@ -100,7 +101,8 @@ fn append_places(out: &mut Vec<u8>, totals: &Totals) -> Result<(), OutOfMemory>
     append_count(out, b"places", totals.places)?;
     append_count(out, b"races", totals.races)?;
     append_count(out, b"undecided", totals.undecided)?;
-    append_count(out, b"apart", totals.apart)
+    append_count(out, b"apart", totals.apart)?;
+    Ok(())
 }
 
 // Appends a block for each of the verdicts.

@@ -97,7 +97,8 @@ fn put_names(
     put_text(members, alloc, "thread", names.thread)?;
     put_word(members, alloc, "operation", names.operation)?;
     put_text(members, alloc, "variable", names.variable)?;
-    put_text(members, alloc, "location", names.location)
+    put_text(members, alloc, "location", names.location)?;
+    Ok(())
 }
 
 /// The list of the names of the locks that the thread holds before the event.

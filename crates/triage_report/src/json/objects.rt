@@ -44,7 +44,8 @@ fn put_counts(
     put_number(members, alloc, "places", totals.places)?;
     put_number(members, alloc, "races", totals.races)?;
     put_number(members, alloc, "undecided", totals.undecided)?;
-    put_number(members, alloc, "apart", totals.apart)
+    put_number(members, alloc, "apart", totals.apart)?;
+    Ok(())
 }
 
 /// The object that says how many verdicts were left out. `kind` is `known` or `hidden`.
@@ -124,7 +125,8 @@ fn put_race(
     put_number(members, alloc, "pairs", reach.pairs)?;
     put_number(members, alloc, "variables", u64::from(reach.variables))?;
     put_number(members, alloc, "events", u64::from(events))?;
-    put_number(members, alloc, "threads", u64::from(threads))
+    put_number(members, alloc, "threads", u64::from(threads))?;
+    Ok(())
 }
 
 /// Puts all members of what is undecided, except its accesses.
@@ -140,7 +142,8 @@ fn put_undecided(
     put_word(members, alloc, "kind", "undecided")?;
     put_number(members, alloc, "pairs", reach.pairs)?;
     put_number(members, alloc, "variables", u64::from(reach.variables))?;
-    put_number(members, alloc, "tried", u64::from(tried))
+    put_number(members, alloc, "tried", u64::from(tried))?;
+    Ok(())
 }
 
 /// Puts all members of what is apart, except its accesses.
@@ -149,7 +152,8 @@ fn put_apart(members: &mut Map<String, Value>, alloc: Global, pairs: u64) -> Res
     ensures { FilledBut result members.new (codes "accesses") (apart_object pairs) }
 {
     put_word(members, alloc, "kind", "apart")?;
-    put_number(members, alloc, "pairs", pairs)
+    put_number(members, alloc, "pairs", pairs)?;
+    Ok(())
 }
 
 fn word_of(how: How) -> &'static str

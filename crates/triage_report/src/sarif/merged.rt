@@ -204,7 +204,8 @@ fn append_pair(out: &mut Vec<u8>, rank: u8, row: &Value) -> Result<(), OutOfMemo
     let first = access_of(row, 0);
     let second = access_of(row, 1);
     append_title(out, rank, second)?;
-    append_both(out, first, second)
+    append_both(out, first, second)?;
+    Ok(())
 }
 
 /// Appends the reason for the rank of this row.

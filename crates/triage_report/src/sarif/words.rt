@@ -116,7 +116,8 @@ pub(crate) fn append_both(
     append_access(out, second)?;
     append_pieces(out, &[Piece::Words(b", and ")])?;
     append_access(out, first)?;
-    append_pieces(out, &[Piece::Words(b"; ")])
+    append_pieces(out, &[Piece::Words(b"; ")])?;
+    Ok(())
 }
 
 /// Appends what was found, and on which variable.
