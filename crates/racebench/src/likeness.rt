@@ -87,9 +87,11 @@ fn first_full_line(text: &[u8]) -> &[u8] {
 /// Whether the line begins like one of a script: a number and a command word.
 fn is_call(line: &[u8]) -> bool {
     let client = first_word(line);
-    !client.is_empty()
-        && client.iter().all(|byte| byte.is_ascii_digit())
-        && usage_of(command_of(line)).is_some()
+    let command = command_of(line);
+    if client.is_empty() || command.is_empty() {
+        return false;
+    }
+    client.iter().all(|byte| byte.is_ascii_digit()) && usage_of(command).is_some()
 }
 
 /// The kind of a text whose first line is that of a trace or a script; else `Other`.
