@@ -64,7 +64,8 @@ impl Scripts {
         let text = read_input(alloc, reader, client + 1)?;
         self.texts.write(&text);
         let script = script_of(alloc, &text, client)?;
-        Ok(self.scripts.push(script)?)
+        self.scripts.push(script)?;
+        Ok(())
     }
 
     /// Makes hashers for the names in the scripts. Their key comes from the scripts' texts.

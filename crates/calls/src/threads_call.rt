@@ -116,8 +116,10 @@ fn run_read<R: Threads + Wait + Sync + Clone + Send + Drop + 'static, K: Sink>(
     ensures fault { IfErr result (StopsRead (K.has_failed writer.new) running.workers) }
 {
     let names = read.keyed();
-    let told = run_scripts(rt, alloc, indexed, names, read.scripts, running)?;
-    write_told(&told, writer)
+    match run_scripts(rt, alloc, indexed, names, read.scripts, running) {
+        Ok(told) => write_told(&told, writer),
+        Err(fault) => Err(fault),
+    }
 }
 
 /// Writes the answers and the log.

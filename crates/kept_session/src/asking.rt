@@ -36,8 +36,9 @@ pub(crate) fn line_for(
     ensures form { IfOk result (λ line. line.items ≡ line_for client raw.now) }
     ensures line { IsLine raw.now → IfOk result (λ line. IsLine line.items) }
 {
+    let words = trim(raw);
     match client {
-        Some(client) => behind_client(alloc, client, trim(raw)),
-        None => Ok(trim(raw).to_vec(alloc)?),
+        Some(client) => behind_client(alloc, client, words),
+        None => Ok(words.to_vec(alloc)?),
     }
 }

@@ -78,7 +78,10 @@ pub(crate) fn new_bench(alloc: Global, indexed: Indexed) -> Result<Bench, OutOfM
     ensures log { IfOk result (λ bench. bench.log ≡ []) }
 {
     let shared = Arc::new(alloc, indexed)?;
-    Bench::new(alloc, shared).ok().ok_or(OutOfMemory)
+    match Bench::new(alloc, shared) {
+        Ok(bench) => Ok(bench),
+        Err(_) => Err(OutOfMemory),
+    }
 }
 
 /// Opens the file of a log. Also returns the file's bytes: the head, and then the lines that count.

@@ -87,9 +87,10 @@ pub(crate) fn append_races(out: &mut Vec<u8>, races: u64) -> Result<(), OutOfMem
     ensures { Appended result out.old out.new (races_words races) }
 {
     if races == 0 {
-        return append_bytes(out, b"No races");
+        append_bytes(out, b"No races")
+    } else {
+        append_some(out, races)
     }
-    append_some(out, races)
 }
 
 /// Appends the number of races, if it is not 0.

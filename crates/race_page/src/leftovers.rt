@@ -60,7 +60,8 @@ fn write_more(piece: &mut Piece, word: &[u8], sort: Sort, more: u64) -> Result<(
 /// The option of `triage` that lists this sort; empty if none is needed.
 fn option_of(sort: Sort) -> &'static [u8] {
     match sort {
-        Sort::Race | Sort::Undecided => b"",
+        Sort::Race => b"",
+        Sort::Undecided => b"",
         Sort::Apart => b" --apart",
     }
 }

@@ -102,10 +102,11 @@ fn append_apart(
 ) -> Result<(), OutOfMemory>
     ensures { Appended result out.old out.new (apart_section apart parts pairs.now) }
 {
-    if !apart {
-        return Ok(());
+    if apart {
+        append_rank(out, parts, pairs, 2)
+    } else {
+        Ok(())
     }
-    append_rank(out, parts, pairs, 2)
 }
 
 /// Appends the section of the pairs with this rank.
@@ -188,10 +189,11 @@ fn append_kept(out: &mut Vec<u8>, parts: usize, kept: &[Pair<'_>]) -> Result<(),
 fn append_none(out: &mut Vec<u8>, kept: &[Pair<'_>]) -> Result<(), OutOfMemory>
     ensures { Appended result out.old out.new (none_text kept.now) }
 {
-    if !kept.is_empty() {
-        return Ok(());
+    if kept.is_empty() {
+        append_marks(out, &[Mark::Own(b"<p>None.</p>\n")])
+    } else {
+        Ok(())
     }
-    append_marks(out, &[Mark::Own(b"<p>None.</p>\n")])
 }
 
 /// The pairs that have a row: the first 2,000.

@@ -168,9 +168,10 @@ fn verb_of(word: &[u8]) -> &'static [u8]
     ensures { result.now ≡ verb_text word.now }
 {
     if word == b"r".as_slice() {
-        return b"read";
+        b"read"
+    } else {
+        b"write"
     }
-    b"write"
 }
 
 /// The place of a location, without the calls that led there.

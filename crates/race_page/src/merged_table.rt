@@ -133,9 +133,10 @@ fn append_locks(out: &mut Vec<u8>, locks: &[Value]) -> Result<(), OutOfMemory>
     ensures { Appended result out.old out.new (locks_cell locks.now) }
 {
     if locks.is_empty() {
-        return append_marks(out, &[Mark::Own(b"none")]);
+        append_marks(out, &[Mark::Own(b"none")])
+    } else {
+        append_names(out, locks)
     }
-    append_names(out, locks)
 }
 
 /// Appends the name of each lock.

@@ -36,7 +36,8 @@ pub(crate) fn write_rows(
     ensures rows { AddedRows result page.old page.new (rows_about about.entry kept.now) }
 {
     for at in 0..MOST_ROWS.min(kept.len()) {
-        write_row(page, piece, about, kept[at], at < MOST_PICTURES)?;
+        let is_drawn = at < MOST_PICTURES;
+        write_row(page, piece, about, kept[at], is_drawn)?;
     }
     Ok(())
 }

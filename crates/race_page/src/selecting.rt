@@ -78,7 +78,8 @@ fn seen_in(followed: &Followed) -> Seen
     }
     match followed.same_memory {
         Some(false) => Seen::OtherMemory,
-        Some(true) | None => order_of(followed.matters),
+        Some(true) => order_of(followed.matters),
+        None => order_of(followed.matters),
     }
 }
 
@@ -109,7 +110,8 @@ fn seen_of(about: About<'_>, indexed: &Indexed, verdict: Verdict) -> Seen
 {
     match sort_of(verdict) {
         Sort::Race => race_seen(about, indexed, verdict.first, verdict.second),
-        Sort::Undecided | Sort::Apart => Seen::Unasked,
+        Sort::Undecided => Seen::Unasked,
+        Sort::Apart => Seen::Unasked,
     }
 }
 
@@ -134,8 +136,10 @@ pub(crate) fn of_sort(
     ensures { IfOk result (λ kept. kept.items ≡ filter (is_of sort) told.now) }
 {
     let mut kept = Vec::new(alloc);
-    keep_sort(&mut kept, told, sort)?;
-    Ok(kept)
+    match keep_sort(&mut kept, told, sort) {
+        Ok(()) => Ok(kept),
+        Err(refused) => Err(refused),
+    }
 }
 
 /// Adds the verdicts of a sort to `kept`, which is empty.

@@ -43,9 +43,10 @@ fn append_name(word: &mut Vec<u8>, name: &[u8]) -> Result<(), OutOfMemory>
     ensures { Appended result word.old word.new (bare_or_quoted name.now) }
 {
     if !name.is_empty() && are_plain(name) {
-        return append_bytes(word, name);
+        append_bytes(word, name)
+    } else {
+        append_quoted(word, name)
     }
-    append_quoted(word, name)
 }
 
 /// Appends a name in quotes.
@@ -72,9 +73,10 @@ fn append_byte(word: &mut Vec<u8>, byte: u8) -> Result<(), OutOfMemory>
     ensures { Appended result word.old word.new (quoted_byte byte) }
 {
     if byte == b'\'' {
-        return append_bytes(word, b"'\\''");
+        append_bytes(word, b"'\\''")
+    } else {
+        append_bytes(word, &[byte])
     }
-    append_bytes(word, &[byte])
 }
 
 /// Appends these bytes.

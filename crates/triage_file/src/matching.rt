@@ -18,16 +18,24 @@ use toml::Value;
 pub(crate) fn path_of(place: &[u8]) -> &[u8]
     ensures { result.now ≡ path_of place.now }
 {
-    let (path, _) = cut_at_last(b':', place);
-    if is_line(place) { path } else { place }
+    if is_line(place) {
+        let (path, _) = cut_at_last(b':', place);
+        path
+    } else {
+        place
+    }
 }
 
 /// The line of a place `PATH:LINE`; empty if the place has none.
 pub(crate) fn line_of(place: &[u8]) -> &[u8]
     ensures { result.now ≡ line_of place.now }
 {
-    let (_, line) = cut_at_last(b':', place);
-    if is_line(place) { line } else { b"" }
+    if is_line(place) {
+        let (_, line) = cut_at_last(b':', place);
+        line
+    } else {
+        b""
+    }
 }
 
 /// The function of an access at this location; empty if the location names none.
@@ -114,10 +122,11 @@ pub fn are_sides(entry: &Value, one: &[u8], other: &[u8]) -> bool
 pub(crate) fn use_of(indexed: &Indexed, event: u32) -> Option<&[u8]>
     ensures { option_map (λ name. name.now) result ≡ use_at indexed.now event }
 {
-    if event >= indexed.len() {
-        return None;
+    if event < indexed.len() {
+        name_of(indexed.trace().raw(), indexed.event(event).op)
+    } else {
+        None
     }
-    name_of(indexed.trace().raw(), indexed.event(event).op)
 }
 
 /// The variable that the operation accesses.
@@ -126,7 +135,8 @@ fn name_of(trace: &RawTrace, op: Op) -> Option<&[u8]>
     ensures { option_map (λ name. name.now) result ≡ name_by_op trace.now op }
 {
     match op {
-        Op::Read(variable) | Op::Write(variable) => Some(trace.variable_name(variable)),
+        Op::Read(variable) => Some(trace.variable_name(variable)),
+        Op::Write(variable) => Some(trace.variable_name(variable)),
         Op::Acquire(_) | Op::Release(_) | Op::Fork(_) | Op::Join(_) => None,
     }
 }

@@ -55,10 +55,11 @@ fn append_verdict(
 ) -> Result<(), OutOfMemory>
     ensures { Appended result out.old out.new (entry_by indexed.now numbers.now verdict.now) }
 {
-    if !is_race(verdict) {
-        return Ok(());
+    if is_race(verdict) {
+        append_entry(out, indexed, numbers, verdict)
+    } else {
+        Ok(())
     }
-    append_entry(out, indexed, numbers, verdict)
 }
 
 /// Appends the entry of a race.
@@ -189,9 +190,10 @@ fn append_alone(
     ensures { Appended result out.old out.new (alone_line indexed.now numbers.now name.now places) }
 {
     if is_alone(indexed, numbers, name, places.0) || is_alone(indexed, numbers, name, places.1) {
-        return append_name(out, name);
+        append_name(out, name)
+    } else {
+        Ok(())
     }
-    Ok(())
 }
 
 /// Appends a variable.

@@ -163,7 +163,10 @@ fn write_explanation<K: Sink>(
     ensures failed { K.has_failed writer.new ≡ true → result ≡ Err (Replay Write) }
     ensures write { result ≡ Err (Replay Write) → K.has_failed writer.new ≡ true }
 {
-    let text = explanation_of(alloc, indexed, one, other, all)?;
+    let text = match explanation_of(alloc, indexed, one, other, all) {
+        Ok(text) => text,
+        Err(fault) => return Err(fault),
+    };
     write_text(writer, text.as_slice())
 }
 

@@ -48,7 +48,8 @@ pub(crate) fn append_schedule(
     ensures { AppendedOne result text.old text.new (IsPrinted indexed.now events.now first second form) }
 {
     match lines_form_of(form) {
-        Some(lines) => witness_text(indexed, events, first, second, lines, text),
-        None => picture_text(indexed, events, first, second, text),
+        Some(lines) => witness_text(indexed, events, first, second, lines, text)?,
+        None => picture_text(indexed, events, first, second, text)?,
     }
+    Ok(())
 }

@@ -194,8 +194,9 @@ fn reported_in(
     ensures second { IfFound result (λ p. p.1 < length analysis.now.events) }
     ensures conflict { IfFound result (λ p. IsConflicting analysis.now.events p.0 p.1) }
 {
-    match verdict_between(alloc, analysis, marks, between)? {
-        Some(verdict) => Ok(Some((verdict.first, verdict.second))),
-        None => Ok(None),
+    match verdict_between(alloc, analysis, marks, between) {
+        Ok(Some(verdict)) => Ok(Some((verdict.first, verdict.second))),
+        Ok(None) => Ok(None),
+        Err(refused) => Err(refused),
     }
 }

@@ -78,9 +78,10 @@ fn witness_of(
     ensures text { IfOk result (λ text. IsWitness indexed.now one.entry other.entry form text.items) }
     ensures fault { IfErr result (IsUnwitnessed indexed.now one.entry other.entry) }
 {
-    match named_pair(alloc, indexed, one, other)? {
-        Some(pair) => witness_of_pair(alloc, indexed, one, other, pair, form),
-        None => Err(PairFault::NoSuchPair),
+    match named_pair(alloc, indexed, one, other) {
+        Ok(Some(pair)) => witness_of_pair(alloc, indexed, one, other, pair, form),
+        Ok(None) => Err(PairFault::NoSuchPair),
+        Err(refused) => Err(PairFault::from(refused)),
     }
 }
 
@@ -100,7 +101,10 @@ fn write_witness<K: Sink>(
     ensures failed { K.has_failed writer.new ≡ true → result ≡ Err (Replay Write) }
     ensures write { result ≡ Err (Replay Write) → K.has_failed writer.new ≡ true }
 {
-    let text = witness_of(alloc, indexed, one, other, form)?;
+    let text = match witness_of(alloc, indexed, one, other, form) {
+        Ok(text) => text,
+        Err(fault) => return Err(fault),
+    };
     write_text(writer, text.as_slice())
 }
 

@@ -68,8 +68,10 @@ fn known_plus(
     ensures { IfOk result (AreKnownPlus indexed.now found.now entries.now known) }
 {
     let keyed = *found.places.locations.hasher();
-    let known = or_nothing(alloc, known, keyed);
-    Ok(Some(known_more(indexed, found, known, entries)?))
+    match known_more(indexed, found, or_nothing(alloc, known, keyed), entries) {
+        Ok(more) => Ok(Some(more)),
+        Err(refused) => Err(refused),
+    }
 }
 
 /// These pairs; an empty set with these hashers if there are none.

@@ -70,7 +70,8 @@ pub(crate) fn append_entry(out: &mut Vec<u8>, bench: &Bench, number: u64) -> Res
     ensures { Appended result out.old out.new (entry_answer bench.now number) }
 {
     if number < bench.log_len() {
-        return append_there(out, bench, number);
+        append_there(out, bench, number)
+    } else {
+        report::refusal(bench.indexed(), &Refusal::NoSuchEntry, out)
     }
-    report::refusal(bench.indexed(), &Refusal::NoSuchEntry, out)
 }

@@ -34,9 +34,10 @@ fn client_at(bench: &Bench, entry: u64) -> u32
     ensures { result ≡ client_at bench.now.log entry }
 {
     if entry < bench.log_len() {
-        return client_of(bench.entry(entry));
+        client_of(bench.entry(entry))
+    } else {
+        0
     }
-    0
 }
 
 /// Appends the item of the schedule with this index in the workspace.

@@ -103,7 +103,10 @@ fn copy_of(alloc: Global, indexed: &Indexed, schedule: &Schedule) -> Result<Sche
     ensures { IfOk result (λ copy. copy ≡ schedule.now) }
 {
     let len = schedule.events().len() as u32;
-    schedule.prefix(alloc, indexed, len).ok().ok_or(OutOfMemory)
+    match schedule.prefix(alloc, indexed, len) {
+        Ok(copy) => Ok(copy),
+        Err(_) => Err(OutOfMemory),
+    }
 }
 
 /// Appends how far the thread goes on after the schedule, if its next event is not after `last`.

@@ -26,20 +26,22 @@ pub fn spot_of(indexed: &Indexed, event: u32) -> &[u8]
 pub fn thread_of(indexed: &Indexed, event: u32) -> &[u8]
     ensures { result.now ≡ thread_at indexed.now event }
 {
-    if event >= indexed.len() {
-        return b"";
+    if event < indexed.len() {
+        indexed.thread_name(indexed.event(event).thread)
+    } else {
+        b""
     }
-    indexed.thread_name(indexed.event(event).thread)
 }
 
 /// The verb for the event, such as `reads`; empty if the trace has no such event.
 pub fn verb_of(indexed: &Indexed, event: u32) -> &'static [u8]
     ensures { result.now ≡ verb_at indexed.now event }
 {
-    if event >= indexed.len() {
-        return b"";
+    if event < indexed.len() {
+        verb(indexed.event(event).op)
+    } else {
+        b""
     }
-    verb(indexed.event(event).op)
 }
 
 /// The name of the variable that the event accesses. If it is no access, the name of its lock or thread. Empty if the
@@ -47,10 +49,11 @@ pub fn verb_of(indexed: &Indexed, event: u32) -> &'static [u8]
 pub fn variable_of(indexed: &Indexed, event: u32) -> &[u8]
     ensures { result.now ≡ variable_at indexed.now event }
 {
-    if event >= indexed.len() {
-        return b"";
+    if event < indexed.len() {
+        name_of(indexed.trace().raw(), indexed.event(event).op)
+    } else {
+        b""
     }
-    name_of(indexed.trace().raw(), indexed.event(event).op)
 }
 
 /// The verb for the operation.

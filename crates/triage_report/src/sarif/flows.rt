@@ -182,10 +182,11 @@ fn append_count(out: &mut Vec<u8>, count: u64) -> Result<(), OutOfMemory>
 fn thread_name(indexed: &Indexed, thread: u32) -> &[u8]
     ensures { result.now ≡ thread_name indexed.now thread }
 {
-    if thread >= indexed.threads() {
-        return b"";
+    if thread < indexed.threads() {
+        indexed.thread_name(thread)
+    } else {
+        b""
     }
-    indexed.thread_name(thread)
 }
 
 /// The list of the steps at these places.

@@ -81,7 +81,8 @@ fn append_ordered(out: &mut Vec<u8>, first: &[u8], second: &[u8]) -> Result<(), 
 {
     match first.cmp(second) {
         Ordering::Greater => append_both(out, second, first),
-        Ordering::Less | Ordering::Equal => append_both(out, first, second),
+        Ordering::Less => append_both(out, first, second),
+        Ordering::Equal => append_both(out, first, second),
     }
 }
 

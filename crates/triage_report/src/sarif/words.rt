@@ -32,7 +32,8 @@ pub(crate) fn kind_word(rank: u8) -> &'static str
     ensures { result.now ≡ kind_word rank }
 {
     match rank {
-        0 | 1 => "fail",
+        0 => "fail",
+        1 => "fail",
         _ => "pass",
     }
 }

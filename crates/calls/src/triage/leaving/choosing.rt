@@ -38,7 +38,11 @@ pub struct Left<'a> {
 fn count_if(is_printed: bool, number: usize) -> Option<u64>
     ensures { result ≡ count_if is_printed number }
 {
-    is_printed.then_some(number as u64)
+    if is_printed {
+        Some(number as u64)
+    } else {
+        None
+    }
 }
 
 /// The entries; an empty slice if there is no triage file.

@@ -42,9 +42,10 @@ fn is_one_named(
 ) -> Result<bool, OutOfMemory>
     ensures { IfOk result (λ named. named ≡ is_one_named rows.now (view entry.now) cell.now) }
 {
-    match cell.rank {
-        0 => is_row_named(alloc, rows, entry, cell.number),
-        _ => Ok(true),
+    if cell.rank == 0 {
+        is_row_named(alloc, rows, entry, cell.number)
+    } else {
+        Ok(true)
     }
 }
 
@@ -103,7 +104,11 @@ fn leaves_out(
 ) -> Result<bool, OutOfMemory>
     ensures { IfOk result (λ out. out ≡ leaves_out rows.now cell.now cells.now (view entry.now)) }
 {
-    Ok(hides(entry) && is_about(alloc, rows, entry, cell, cells)?)
+    if hides(entry) {
+        is_about(alloc, rows, entry, cell, cells)
+    } else {
+        Ok(false)
+    }
 }
 
 /// The first entry, and the others.
@@ -147,10 +152,11 @@ fn is_first_about(
 ) -> Result<bool, OutOfMemory>
     ensures { IfOk result (λ about. about ≡ is_first_about rows.now (view entry.now) before.entry cell.now cells.now) }
 {
-    if !is_new(before, *cell) || cell.rank != 0 {
-        return Ok(false);
+    if is_new(before, *cell) && cell.rank == 0 {
+        is_about(alloc, rows, entry, cell, cells)
+    } else {
+        Ok(false)
     }
-    is_about(alloc, rows, entry, cell, cells)
 }
 
 /// Whether the entry is about a race among the cells. `rows` are the rows of all parts, and `cells` are these rows in

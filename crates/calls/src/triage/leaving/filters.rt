@@ -19,7 +19,11 @@ pub(crate) fn is_hidden(
 ) -> Result<bool, OutOfMemory>
     ensures { IfOk result (λ hidden. hidden ≡ is_hidden filters.entry rows.now cell.now) }
 {
-    Ok(filters.is_any() && is_dropped(alloc, rows, filters, cell.number)?)
+    if filters.is_any() {
+        is_dropped(alloc, rows, filters, cell.number)
+    } else {
+        Ok(false)
+    }
 }
 
 /// Whether the filters drop the block of the row with this number; false if there is no such row.

@@ -135,9 +135,10 @@ fn out_of(
     ensures { IfOk result (λ out. out ≡ is_out (drops_first rows.now test.entry) is_first was_out cells.now) }
 {
     if is_first {
-        return first_out(alloc, rows, test, was_out, cells);
+        first_out(alloc, rows, test, was_out, cells)
+    } else {
+        Ok(was_out)
     }
-    Ok(was_out)
 }
 
 /// Whether the first of the cells is left out, if it is the first of its locations.

@@ -5,5 +5,5 @@ use Rattle.calls.proofs.pair.witnessing.write_witness.Goals as goal
 pub returns-clause-written : goal.returns-clause-written
 returns-clause-written g c =
     text-written (λ r text. IsWitness r c.args.one c.args.other c.args.form text) (λ r fault. IsUnwitnessed r c.args.one c.args.other fault) c.args.indexed.now
-    (g.K.Sink.taken c.args.writer.now) (g.K.Sink.taken c.write_text.new.writer) c.in_ok-text.text.items c.as_slice.result.now c.as_slice.ensures.value c.in_ok-text.ensures.text
+    (g.K.Sink.taken c.args.writer.now) (g.K.Sink.taken c.write_text.new.writer) c.in-Ok.text.items c.as_slice.result.now c.as_slice.ensures.value c.in-Ok.ensures.text
     c.write_text.result c.write_text.ensures.ok c.write_text.ensures.err c.write_text.ensures.why
