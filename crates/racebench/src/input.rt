@@ -214,8 +214,12 @@ impl<R: io::Read + Drop> Source for Watched<R> {
     ghost has_failed = { λ s. s.reader.1 };
 
     fn read(&mut self, buf: &mut [u8]) -> Result<usize, Failed> {
-        let count = self.reader.read(buf)?;
-        self.note(&buf[..count]);
-        Ok(count)
+        match self.reader.read(buf) {
+            Ok(count) => {
+                self.note(&buf[..count]);
+                Ok(count)
+            }
+            Err(failed) => Err(failed),
+        }
     }
 }

@@ -251,8 +251,12 @@ impl<S: Source> Source for Heard<'_, S> {
     ghost has_failed = { λ s. S.has_failed s.reader };
 
     fn read(&mut self, buf: &mut [u8]) -> Result<usize, Failed> {
-        let count = self.reader.read(buf)?;
-        self.notes.hear(before(buf, count));
-        Ok(count)
+        match self.reader.read(buf) {
+            Ok(count) => {
+                self.notes.hear(before(buf, count));
+                Ok(count)
+            }
+            Err(failed) => Err(failed),
+        }
     }
 }

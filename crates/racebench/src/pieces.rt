@@ -86,8 +86,13 @@ pub(crate) fn end_of_line(bytes: &[u8], number: u64) -> usize {
 
 /// How many lines end before this index.
 pub(crate) fn lines_before(bytes: &[u8], at: usize) -> u64 {
-    let ends = before(bytes, at).iter().filter(|byte| **byte == b'\n');
-    ends.count() as u64
+    let mut lines = 0u64;
+    for byte in before(bytes, at).iter() {
+        if *byte == b'\n' {
+            lines = lines.saturating_add(1);
+        }
+    }
+    lines
 }
 
 /// Where the line of the event with this number begins. Events are counted from 0.

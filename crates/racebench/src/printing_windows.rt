@@ -85,14 +85,10 @@ fn write_rest<K: Sink>(
 
 /// The outcome, in the type of the calls on merged reports.
 fn told_of(written: Result<u64, TriageFault>) -> Result<u64, MergeFault> {
-    written.map_err(|fault| fault_of(fault))
-}
-
-/// The fault, in the type of those calls.
-fn fault_of(fault: TriageFault) -> MergeFault {
-    match fault {
-        TriageFault::Replay(fault) => MergeFault::Replay(fault),
-        _ => MergeFault::Replay(ReplayFault::OutOfMemory),
+    match written {
+        Ok(races) => Ok(races),
+        Err(TriageFault::Replay(fault)) => Err(MergeFault::Replay(fault)),
+        Err(_) => Err(MergeFault::Replay(ReplayFault::OutOfMemory)),
     }
 }
 

@@ -30,14 +30,6 @@ fn unread() -> SessionFault {
     })
 }
 
-/// 94: the place of a closed standard stream was not taken.
-fn unheld() -> SessionFault {
-    SessionFault::Replay(ReplayFault::Read {
-        input: 3,
-        why: ReadCause::Device,
-    })
-}
-
 /// 95: the log's file was not written.
 fn unwritten() -> SessionFault {
     SessionFault::Replay(ReplayFault::Write)
@@ -221,9 +213,13 @@ fn opened_for(
     indexed: &Indexed,
     path: &str,
 ) -> Result<(Vec<u8>, File), SessionFault> {
-    let head = head_of(rt.alloc(), indexed)?;
-    let file = log_at(rt, path, &head)?;
-    Ok((head, file))
+    match head_of(rt.alloc(), indexed) {
+        Ok(head) => match log_at(rt, path, &head) {
+            Ok(file) => Ok((head, file)),
+            Err(fault) => Err(fault),
+        },
+        Err(fault) => Err(SessionFault::from(fault)),
+    }
 }
 
 /// Answers standard input on a trace and the log at this path.
@@ -260,7 +256,13 @@ fn answer_input<K: Sink>(
 
 /// An open folder. If a standard stream is closed, it takes that place, and reads and writes there fail.
 fn held(rt: &HostRuntime) -> Result<File, SessionFault> {
-    File::open(rt, "/").map_err(|_| unheld())
+    match File::open(rt, "/") {
+        Ok(file) => Ok(file),
+        Err(_) => Err(SessionFault::Replay(ReplayFault::Read {
+            input: 3,
+            why: ReadCause::Device,
+        })),
+    }
 }
 
 /// Answers standard input, with the places of closed standard streams taken. Else the log might be opened in such a
