@@ -65,5 +65,5 @@ IsFirstPairIn t effort places first =
 -- Each row has its least pairs.
 pub record AreLeastsFound (t : Tables) (effort : Effort) (rows : List Row) (leasts : List Least) : Type 0 where
   pub len : length leasts ≡ length rows
-  pub leasts : (at : ℕ) (row : Row) (l : Least) → slice_get rows at ≡ Some row → slice_get leasts at ≡ Some l
+  pub are : (at : ℕ) (row : Row) (l : Least) → slice_get rows at ≡ Some row → slice_get leasts at ≡ Some l
       → AreLeastsIn t effort row.places l

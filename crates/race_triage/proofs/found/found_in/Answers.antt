@@ -24,7 +24,7 @@ returns-clause-found c =
           is = c.budget_of-budget.ensures ∙ ap (λ (rows : List Row). budget_for (count_by has_tries rows)) c.as_slice.ensures.value;
         };
         leasts_len = c.requires.leasts.len;
-        leasts = c.requires.leasts.leasts;
+        leasts = c.requires.leasts.are;
         firsts_len = λ told. elim c.if-effort.branch [
           | then-effort+in_ok-firsts w ↦ ap (λ (v : Vec (Option (ℕ × ℕ)) Global). length v.items) w.firsts-is ∙ w.in_ok-firsts.ensures.len
           | else-effort w ↦ absurd (true≢false (sym told ∙ w.if-effort.false))

@@ -6,7 +6,7 @@ pub returns : goal.returns
 returns c =
     record {
       len = c.in_ok-leasts.ensures.len;
-      leasts = λ at row l here there.
+      are = λ at row l here there.
           subst (λ (n : ℕ). AreLeasts c.args.tables.indexed.now (slice_index c.args.tables.places.now) row.places n l) c.most_of.ensures
           (c.in_ok-leasts.ensures.leasts at row l here there);
     }

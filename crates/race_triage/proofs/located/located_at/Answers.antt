@@ -17,5 +17,5 @@ returns c =
       spots = c.requires.spots;
       firsts = c.requires.firsts;
       classes = subst (λ (ns : List ℕ). AreClassesOf r ns c.in_ok-classes.classes) c.as_slice.ensures.value made;
-      acquires = c.in_ok-acquires.ensures;
+      acquires = c.in_ok-acquires.ensures.ok;
     }
