@@ -12,14 +12,19 @@ use Rattle.race_triage.proofs.verdicts.verdicts_at.Goals as goal
 pub verdicts_by-requires : goal.verdicts_by-requires
 verdicts_by-requires g c =
     let is = c.requires.located in
-    let numbers = c.as_slice.ensures.value in
-    (c.type_bounds.sync-R, c.type_bounds.sync-W, record {
-      clocks = c.clocks.ensures ∙ sym c.indexed.ensures;
-      must = c.must.ensures ∙ sym c.indexed.ensures;
-      acquires = is.acquires ∙ sym c.indexed.ensures;
-      places = ap (λ (ns : List ℕ). length ns) numbers ∙ is.numbers.len ∙ ap (λ (r : Recording). length r.events) (sym c.indexed.ensures);
-      classes = both_along (λ (r : Recording) (ns : List ℕ). AreClassesOf r ns c.args.located.now.classes) _ _ _ _ (sym c.indexed.ensures) (sym numbers) is.classes;
-    })
+    let numbers = c.as_slice.ensures.value in (
+      c.type_bounds.sync-R,
+      (
+        c.type_bounds.sync-W,
+        record {
+          clocks = c.clocks.ensures ∙ sym c.indexed.ensures;
+          must = c.must.ensures ∙ sym c.indexed.ensures;
+          acquires = is.acquires ∙ sym c.indexed.ensures;
+          places = ap (λ (ns : List ℕ). length ns) numbers ∙ is.numbers.len ∙ ap (λ (r : Recording). length r.events) (sym c.indexed.ensures);
+          classes = both_along (λ (r : Recording) (ns : List ℕ). AreClassesOf r ns c.args.located.now.classes) _ _ _ _ (sym c.indexed.ensures) (sym numbers) is.classes;
+        },
+      ),
+    )
 
 pub returns-clause-verdicts : goal.returns-clause-verdicts
 returns-clause-verdicts g c =
