@@ -98,6 +98,13 @@ module _ (r : Recording) (tries : ℕ) where
       All-weaker (IsVerdict r place tries true) (IsNeverShownIfApart r) (λ v is. apart r found.places.numbers.items are tries v is) found.verdicts.items right
   all_apart (Err why) are right = tt
 
+  pub all_shown : (answer : Result Verdicts TriageRefusal) → IfOk answer (λ found. AreNumbers r found.places.numbers.items) → IfOk answer AreRight
+      → IfOk answer (λ found. All (IsShownIfRace r.events) found.verdicts.items)
+  all_shown (Ok found) are right =
+      let place : ℕ → ℕ = slice_index found.places.numbers.items in
+      All-weaker (IsVerdict r place tries true) (IsShownIfRace r.events) (λ v is. shown r found.places.numbers.items are tries v is) found.verdicts.items right
+  all_shown (Err why) are right = tt
+
   pub all_decided : (answer : Result Verdicts TriageRefusal) → IfOk answer (λ found. AreNumbers r found.places.numbers.items) → IfOk answer AreRight
       → IfOk answer (λ found. AreAllTold r.events (slice_index found.places.numbers.items) found.verdicts.items)
       → IfOk answer (λ found. AreDecided r found.verdicts.items)
