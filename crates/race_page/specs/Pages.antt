@@ -86,8 +86,8 @@ left_of chosen = record {
 -- The text is a page of the trace, of which these are the verdicts, with a row for each chosen verdict. The page is
 -- about what `about` says.
 abbrev pub IsChosenPage : Recording → Verdicts → Chosen → Bool → About → List ℕ → Type 0
-IsChosenPage r found chosen apart about text =
-    IsPage r found.verdicts.items chosen.races (left_of chosen) about.name.now text
+IsChosenPage r found chosen apart about bytes =
+    IsPage r found.verdicts.items chosen.races (left_of chosen) about.name.now bytes
     (all_rows r (followed_in about) apart chosen.verdicts.items)
 
 -- Unless the answer is an error, this holds: if `end` is the end of a page with this trace and these rows, such a page
@@ -104,4 +104,4 @@ AddedRows answer old new rows = OnOk answer (new.rows ≡ old.rows ++ rows old.t
 
 -- the same for one row
 abbrev pub AddedRow : {T E : Type 0} → Result T E → Made → Made → (Recording → Shown) → Type 0
-AddedRow answer old new row = AddedRows answer old new (λ r. row r ∷ [])
+AddedRow answer old new shown = AddedRows answer old new (λ r. shown r ∷ [])
