@@ -5,7 +5,8 @@ ghost use Rattle.rapid_text.specs.Appended.{Appended};
 ghost use Rattle.workspace_lock.specs.Seating.{Opened};
 ghost use Rattle.report.specs.Log.{log_text};
 ghost use Rattle.calls.specs.Told.{fresh_bench, AreTold};
-ghost use Rattle.calls.specs.Jobs.{AnswersJob, AnswerJobs};
+ghost use Rattle.calls.specs.Jobs.{AnswersJob, AnswerJobs, AppendsAll, AppendsLines, AppendsLog, GivesBack, KeepSite, LacksMemory};
+ghost use Rattle.calls.specs.Jobs.{PutsAllBack, SeatsEach};
 ghost use Rattle.calls.specs.Threads.{IsRunFault};
 
 use crate::beside::{clients_beside, run_beside};

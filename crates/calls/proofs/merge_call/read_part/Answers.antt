@@ -8,7 +8,7 @@ pub returns-in-Ok-clause-err : goal.returns-in-Ok-clause-err
 returns-in-Ok-clause-err g c =
     let rest = g.S.Source.rest c.args.reader.now in
     subst (IsUntaken c.args.parts.now c.args.file c.args.name.now rest) (sym c.from.ensures)
-    (untaken c.args.parts.now c.args.file c.args.name.now rest c.in-Ok.text.items c.in-Err-take_file.refusal c.in-Ok.ensures.input.1 (search rules) (search rules))
+    (untaken c.args.parts.now c.args.file c.args.name.now rest c.in-Ok.text.items c.in-Err-take_file.refusal c.in-Ok.ensures.input.1 (search rules) c.in-Err-take_file.ensures.clash)
 
 pub returns-in-Ok-take_file-clause-there : goal.returns-in-Ok-take_file-clause-there
 returns-in-Ok-take_file-clause-there g c =
