@@ -47,10 +47,6 @@ AnswerJobs trace jobs told =
 abbrev pub AreSeated : Site → List (List Asked) → List Job → Type 0
 AreSeated site scripts jobs = (map (λ (j : Job). j.1) jobs ≡ scripts) × (map (λ (j : Job). Some j.0) jobs ≡ fresh_rows site 1 (length jobs))
 
--- the seats of a site are still of this site at the end
-abbrev pub KeepSite : List Job → List Told → Type 0
-KeepSite jobs told = (s : Site) → All (λ (j : Job). j.0.site ≡ s) jobs → All (λ (t : Told). t.0.site ≡ s) told
-
 -- n seats from client 1 on are in, and none has made a call
 abbrev pub AreAllFresh : SeatsView → ℕ → Type 0
 AreAllFresh seats n = seats.rows ≡ fresh_rows seats.site 1 n

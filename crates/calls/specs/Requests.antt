@@ -36,8 +36,3 @@ SearchesBy trace s n = (pairs : List (ℕ × ℕ)) × AreFirstCandidates trace.e
 abbrev pub AreBehind : ℕ → Recording → Site → ℕ → List (Option SeatView) → Type 0
 AreBehind zero trace site client rows = rows ≡ []
 AreBehind (suc workers) trace site client rows = (last : SeatView) × SearchesBy trace (fresh_seat site client) last × (rows ≡ Some last ∷ [])
-
--- at the end the seats of these jobs are out, and those behind them are in
-abbrev pub LeavesRows : {J : Type 0} → ℕ → Recording → List J → SeatsView → SeatsView → Type 0
-LeavesRows workers trace jobs old new =
-    (rows : List (Option SeatView)) × AreBehind workers trace old.site (suc (length jobs)) rows × (new.rows ≡ replicate (length jobs) None ++ rows)

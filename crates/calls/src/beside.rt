@@ -1,10 +1,11 @@
 //! Runs scripts at the same time, with a client in the background that proposes the witnesses of the workers.
-ghost use Rattle.std.specs.Prelude.{[], ◌≡◌, ◌≤◌, ◌<◌, ◌++◌, IfOk, IfErr, OnOk, suc, None, length, replicate};
+ghost use Rattle.std.specs.Prelude.{[], ◌≡◌, ◌≤◌, ◌<◌, ◌⊎◌, ◌++◌, List, Option, All, IfOk, IfErr, OnOk, suc, None, length, replicate};
 ghost use Rattle.std.specs.Arc.{arc_value};
 ghost use Rattle.std.specs.Thread.{IsSync};
-ghost use Rattle.workspace_lock.specs.Seating.{fresh_rows};
-ghost use Rattle.calls.specs.Jobs.{AnswerJobs, KeepSite};
-ghost use Rattle.calls.specs.Requests.{LeavesRows, SearchesBy};
+ghost use Rattle.shb_clocks.specs.Candidates.{AreFirstCandidates};
+ghost use Rattle.workspace_lock.specs.Seating.{Site, SeatView, fresh_rows, fresh_seat};
+ghost use Rattle.calls.specs.Jobs.{AnswerJobs};
+ghost use Rattle.calls.specs.Requests.{AreBehind, SearchesBy};
 ghost use Rattle.calls.specs.Searches.{further_clients, ProposesSlices};
 ghost use Rattle.calls.specs.Threads.{IsRunFault};
 
@@ -58,7 +59,8 @@ fn run_both<R: Threads + Wait + Sync>(
 )
     requires { work.old.pool.pending ≡ [] }
     ensures told { IfOk result.0 (λ told. AnswerJobs indexed.now jobs.items told.items) }
-    ensures site { IfOk result.0 (λ told. KeepSite jobs.items told.items) }
+    ensures site { IfOk result.0
+        (λ told. (s : Site) → All (λ job. job.0.site ≡ s) jobs.items → All (λ t. t.0.site ≡ s) told.items) }
     ensures proposes { ProposesSlices work.old.pool.trace.events work.old.pairs seat result.1.0 }
     ensures seat { (result.1.0.site ≡ seat.site) × (result.1.0.number ≡ seat.number) }
 {
@@ -69,7 +71,8 @@ fn run_both<R: Threads + Wait + Sync>(
         move || -> Result<Vec<Told>, AllocError>
             requires { IsSync R.row }
             ensures told { IfOk result (λ told. AnswerJobs indexed.entry.now jobs.items told.items) }
-            ensures site { IfOk result (λ told. KeepSite jobs.items told.items) }
+            ensures site { IfOk result
+                (λ told. (s : Site) → All (λ job. job.0.site ≡ s) jobs.items → All (λ t. t.0.site ≡ s) told.items) }
         { run_all(rt, alloc, indexed, jobs) },
         move || -> (Seat, Result<(), OutOfMemory>)
             requires { pool.now.pending ≡ [] }
@@ -90,7 +93,8 @@ fn run_searched<R: Threads + Wait + Sync + Clone + Send + Drop + 'static>(
 ) -> Result<(Vec<Told>, Seat), BenchFault>
     requires { (0 < workers) × (workers ≤ 16) }
     ensures told { IfOk result (λ r. AnswerJobs (arc_value indexed.now) jobs.items r.0.items) }
-    ensures site { IfOk result (λ r. KeepSite jobs.items r.0.items) }
+    ensures site { IfOk result
+        (λ r. (s : Site) → All (λ job. job.0.site ≡ s) jobs.items → All (λ t. t.0.site ≡ s) r.0.items) }
     ensures searches { IfOk result (λ r. SearchesBy (arc_value indexed.now) seat r.1) }
     ensures seat { IfOk result (λ r. (r.1.site ≡ seat.site) × (r.1.number ≡ seat.number)) }
     ensures fault { IfErr result (λ fault. IsRunFault workers fault) }
@@ -116,9 +120,12 @@ pub(crate) fn run_beside<R: Threads + Wait + Sync + Clone + Send + Drop + 'stati
     requires workers { workers ≤ 16 }
     requires rows { seats.old.rows ≡ replicate (length jobs.items) None ++ fresh_rows seats.old.site (suc (length jobs.items)) (further_clients workers) }
     ensures told { IfOk result (λ told. AnswerJobs (arc_value indexed.now) jobs.items told.items) }
-    ensures site { IfOk result (λ told. KeepSite jobs.items told.items) }
+    ensures site { IfOk result
+        (λ told. (s : Site) → All (λ job. job.0.site ≡ s) jobs.items → All (λ t. t.0.site ≡ s) told.items) }
     ensures seats { seats.new.site ≡ seats.old.site }
-    ensures rows { OnOk result (LeavesRows workers (arc_value indexed.now) jobs.items seats.old seats.new) }
+    ensures rows { OnOk result ((rows : List (Option SeatView))
+        × AreBehind workers (arc_value indexed.now) seats.old.site (suc (length jobs.items)) rows
+        × (seats.new.rows ≡ replicate (length jobs.items) None ++ rows)) }
     ensures fault { IfErr result (λ fault. IsRunFault workers fault) }
 {
     if workers == 0 {

@@ -2,10 +2,10 @@
 ghost use Rattle.std.specs.Prelude.{◌≡◌, ◌≤◌, ◌<◌, ◌+◌, ◌-◌, All, vec_len, IfOk, IfErr, IsOk, OnOk, Some};
 ghost use Rattle.std.specs.Arc.{arc_value};
 ghost use Rattle.rapid_text.specs.Appended.{Appended};
-ghost use Rattle.workspace_lock.specs.Seating.{Opened};
+ghost use Rattle.workspace_lock.specs.Seating.{Opened, Site};
 ghost use Rattle.report.specs.Log.{log_text};
 ghost use Rattle.calls.specs.Told.{fresh_bench, AreTold};
-ghost use Rattle.calls.specs.Jobs.{AnswersJob, AnswerJobs, AppendsAll, AppendsLines, AppendsLog, GivesBack, KeepSite, LacksMemory};
+ghost use Rattle.calls.specs.Jobs.{AnswersJob, AnswerJobs, AppendsAll, AppendsLines, AppendsLog, GivesBack, LacksMemory};
 ghost use Rattle.calls.specs.Jobs.{PutsAllBack, SeatsEach};
 ghost use Rattle.calls.specs.Threads.{IsRunFault};
 
@@ -55,7 +55,8 @@ pub(crate) fn run_all<R: Threads + Wait + Sync>(
     jobs: Vec<Job>,
 ) -> Result<Vec<Told>, AllocError>
     ensures told { IfOk result (λ told. AnswerJobs indexed.now jobs.items told.items) }
-    ensures site { IfOk result (λ told. KeepSite jobs.items told.items) }
+    ensures site { IfOk result
+        (λ told. (s : Site) → All (λ job. job.0.site ≡ s) jobs.items → All (λ t. t.0.site ≡ s) told.items) }
 {
     let run = |job: Job| -> Told
         ensures site { result.0.site ≡ job.0.site }

@@ -13,16 +13,16 @@ returns-in-Ok-clause-told g c =
     (λ ran. (
       read.0,
       read.1,
-      ran.2,
+      ran.2.0,
       record {
         trace = c.in-Ok.indexed;
         scripts = ran.0;
         short = read.2.0;
         trace_is = read.2.1;
         scripts_are = ran.1;
-        told = ran.3;
+        told = ran.2.1;
       },
-      ran.4,
+      ran.2.2,
     ))
     c.run_on.ensures.told
 
