@@ -10,11 +10,15 @@ const GUTTER = 92;
 const AXIS = 17;
 // With less breadth than this names, places and lanes have the least that can be read.
 const NARROW = 480;
-const space = $("space");
+// The least and the most breadth that places keep if there are too many lanes: then lanes are scrolled under them.
+const [PLACE, PLACES] = [112, 126];
+const [space, stage] = [$("space"), $("stage")];
 
 let lanes = new Map();
 let width = 0;
 let hasOthers = false;
+let text = 0; // the breadth that an event's text has
+let kept = 0; // the breadth that places keep in sight while lanes are scrolled, or 0
 
 export const lane = (thread) => lanes.get(thread) ?? lanes.size;
 export const isOther = (thread) => !lanes.has(thread);
@@ -31,9 +35,29 @@ export function lay(win, breadth) {
   const room = breadth - GUTTER - code - name;
   width = Math.max(close, Math.min(132, Math.floor(room / Math.max(1, number - 1))));
   const all = (number - 1) * width + name;
+  text = name;
+  kept = breadth - GUTTER - all < Math.min(PLACES, code) ? Math.round(Math.max(PLACE, Math.min(PLACES, code))) : 0;
   space.style.setProperty("--lanes", `${all}px`);
+  space.style.setProperty("--place", `${kept}px`);
+  space.style.width = kept ? `${GUTTER + all + kept}px` : "";
+  space.classList.toggle("sideways", kept > 0);
   space.classList.toggle("sourced", Boolean(win.source && Object.keys(win.source).length));
-  head(win, number, name, all);
+  head(win, number, name, kept ? breadth - kept : GUTTER + all);
+  followHead();
+}
+
+// The names of lanes go sideways with them, and that of places stays.
+function followHead() {
+  $("lanes-head").style.setProperty("--sideways", `${stage.scrollLeft}px`);
+}
+stage.addEventListener("scroll", followHead, { passive: true });
+
+// Scrolls sideways to what a thread does: to the beginning if that shows it, else no farther than is needed.
+export function reveal(thread) {
+  if (!kept) return;
+  const least = Math.max(0, left(thread) + text - (stage.clientWidth - kept));
+  const isInSight = least <= stage.scrollLeft && stage.scrollLeft <= left(thread);
+  if (!least || !isInSight) stage.scrollLeft = least;
 }
 
 function named(thread, own, at, size) {
@@ -46,7 +70,7 @@ function named(thread, own, at, size) {
   return cell;
 }
 
-function head(win, number, room, all) {
+function head(win, number, room, places) {
   const made = new Map(win.counts);
   const names = win.lanes.map((thread, at) => {
     const [own, size] = [made.get(thread) ?? 0, at < number - 1 ? width : room];
@@ -57,8 +81,8 @@ function head(win, number, room, all) {
     cell.style.left = `${GUTTER + lanes.size * width}px`;
     names.push(cell);
   }
-  const code = el("span", "lane-name dim", win.source ? "place and source" : "place");
-  code.style.left = `${GUTTER + all + 3}px`;
+  const code = el("span", "lane-name dim place-name", win.source ? "place and source" : "place");
+  code.style.left = `${places + 3}px`;
   fill($("lanes-head"), el("span", "lane-name dim pos-name", "#"), el("span", "lane-name dim event-name", "event"),
     names, code);
 }

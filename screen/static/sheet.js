@@ -2,7 +2,7 @@
 import { $, el, fill, nameChosen } from "./make.js";
 import { ask, isOpen } from "./net.js";
 import { state } from "./words.js";
-import { HEIGHT, lay, rails, bars } from "./lanes.js";
+import { HEIGHT, lay, rails, bars, reveal } from "./lanes.js";
 import * as drawn from "./rows.js";
 import * as edges from "./edges.js";
 import * as map from "./map.js";
@@ -166,6 +166,7 @@ function settle() {
 export async function refresh(isMine) {
   stop = null;
   await load(isMine ? { to: END } : {});
+  if (isMine && win?.rows.length) reveal(win.rows.at(-1).t);
 }
 
 // Keeps the row at the top where it is, if rows above it came or went.
@@ -213,6 +214,7 @@ export function select(position, { into = true } = {}) {
     const top = parseFloat(made.style.top);
     if (top < stage.scrollTop) stage.scrollTop = top;
     else if (top + HEIGHT > stage.scrollTop + stage.clientHeight) stage.scrollTop = top + HEIGHT - stage.clientHeight;
+    reveal(cursorRow().t);
   }
   edges.show(win, position);
 }

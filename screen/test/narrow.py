@@ -68,6 +68,60 @@ async def test_places_beside_their_source(program):
         is_clean(page, screen)
 
 
+NINE = "".join(f"main|fork(W{at})|src/main.c:1{at}\n" for at in range(8)) + "".join(
+    f"W{at}|{operation}|src/deep/folder/worker.c:2{at}\n" for at in range(8) for operation in ("w(shared)", "w(hits)")
+)
+# How many rows are in sight, and of each whose file and line are covered or beyond the window's edge its place.
+COVERED = """(() => { const box = document.getElementById('stage').getBoundingClientRect();
+  const rows = [...document.querySelectorAll('#space .row:not(.block)')].filter((row) => {
+    const { top, bottom } = row.getBoundingClientRect();
+    return top >= box.top && bottom <= box.top + document.getElementById('stage').clientHeight;
+  });
+  const bad = rows.filter((row) => {
+    const end = row.querySelector('.place .end') ?? row.querySelector('.place');
+    const { left, right, top } = end.getBoundingClientRect();
+    const isThere = (x) => end.contains(document.elementFromPoint(x, top + 8));
+    return end.scrollWidth > end.clientWidth + 1 || !isThere(left + 2) || !isThere(right - 2);
+  });
+  return `${rows.length > 4} ${bad.map((row) => row.querySelector('.place').textContent).join('; ')}`; })()"""
+# Whether all that the event at the cursor does is in sight beside its place, and its lane is below the lane's name.
+BESIDE = """(() => { const row = document.querySelector('#space .row.on');
+  const [what, name] = [row.querySelector('.what'), row.querySelector('.what .name')];
+  const room = row.querySelector('.info').getBoundingClientRect().left;
+  const head = document.getElementById(`lane-${(Number(row.querySelector('.event').textContent) - 8 >> 1) + 1}`);
+  const off = row.querySelector('.cell').getBoundingClientRect().left - head.getBoundingClientRect().left;
+  return [what.getBoundingClientRect().left > 0, name.getBoundingClientRect().right <= room, off].join(); })()"""
+
+
+async def test_places_beside_nine_lanes(program):
+    """Lanes that have no room are scrolled sideways, and their names with them. Places stay, and what is chosen."""
+    traces.write("trace", NINE)
+    async with Screen(program, "trace", "log") as screen, Browser() as browser:
+        page = await browser.page(screen.link, 360, 800)
+        await new(page, 9)
+        await press(page, "1", "r", *"2345678", "9")
+        await page.until(f"{ROWS} > 9")
+        for width in (360, 540, 1000, 1440):
+            await page.size(width, 800)
+            await page.until(f"innerWidth === {width} && {COVERED} === 'true '")
+        await page.size(360, 800)
+        await focus(page, "stage")
+        await page.key("End")
+        await page.until(f"{COVERED} === 'true ' && {BESIDE} === 'true,true,0'")
+        same(await page.run("document.querySelector('.place-name').getBoundingClientRect().right <= innerWidth"), True)
+        for _ in range(7):
+            await page.key("ArrowUp")
+            await page.until(f"{BESIDE} === 'true,true,0'")
+        same(await page.run("document.getElementById('stage').scrollLeft"), 0)  # the beginning shows this lane
+        for key, is_there in (("ArrowRight", "> 0"), ("ArrowLeft", "=== 0")):
+            await page.key(key)
+            await page.until(f"document.getElementById('stage').scrollLeft {is_there}")
+        await focus(page, "next-list")
+        await press(page, "9")  # a step shows its lane
+        await page.until("document.getElementById('stage').scrollLeft > 0")
+        is_clean(page, screen)
+
+
 DARK = [{"name": "prefers-color-scheme", "value": "dark"}]
 SHOWN = "[...document.querySelectorAll('#main > section')].filter((s) => s.offsetHeight).map((s) => s.id).join()"
 
