@@ -5,6 +5,7 @@ import { does } from "./press.js";
 import { again } from "./again.js";
 import { later, isBusy } from "./queue.js";
 import { ask } from "./net.js";
+import { isInherited, keepingFocus } from "./focus.js";
 import { state, tag, operation, place, reason, help, threadName, threadShort, spoken } from "./words.js";
 import { showPair } from "./pair.js";
 
@@ -77,9 +78,19 @@ function sorted() {
   return kept.sort((one, other) => rank(one) - rank(other) || one.t - other.t);
 }
 
+// While the list is hidden another pane has the focus that it had.
+function showList(isShown) {
+  const box = $("next");
+  if (box.hidden === !isShown) return;
+  keepingFocus(box, () => {
+    box.hidden = !isShown;
+  });
+  if (isShown && isInherited()) list.focus();
+}
+
 function render() {
   showPair(told);
-  $("next").hidden = !told || Boolean(told.witness);
+  showList(Boolean(told && !told.witness));
   if (!told || told.witness) return;
   const free = told.next.filter((one) => !one.why).length;
   const ended = told.ended ? `, ${told.ended} at an end` : "";
@@ -91,9 +102,7 @@ function render() {
   list.dataset.length = told.length;
   const empty = told.next.length ? "Nothing matches." : "This schedule has all events of the trace.";
   const lines = sorted().map((one) => line(one, lit));
-  const hasFocus = list.contains(document.activeElement);
   fill(list, lines.length ? lines : el("p", "empty", empty));
-  if (hasFocus && !list.contains(document.activeElement)) list.focus(); // what had it is gone
   nameChosen(list);
   const sign = `${chosen} ${Boolean(chosenOne()?.why)}`; // a thread that has to wait stands elsewhere in a long list
   if (shown !== sign) list.querySelector(".on")?.scrollIntoView({ block: "nearest" });

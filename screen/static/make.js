@@ -1,6 +1,7 @@
 // Elements. Text is set as text and nothing else: no string of the trace is ever read as markup.
 import { does } from "./press.js";
 import { put } from "./morph.js";
+import { keepingFocus } from "./focus.js";
 
 export const $ = (id) => document.getElementById(id);
 
@@ -19,10 +20,11 @@ function add(into, inner) {
   }
 }
 
-// Draws an element's inside anew; nodes that stay are kept.
+// Draws an element's inside anew; nodes that stay are kept, and so is the focus.
 export function fill(into, ...inner) {
   const there = inner.flat(Infinity).filter((one) => one !== null && one !== undefined && one !== false);
-  put(into, there.map((one) => (typeof one === "object" ? one : document.createTextNode(one))));
+  const nodes = there.map((one) => (typeof one === "object" ? one : document.createTextNode(one)));
+  keepingFocus(into, () => put(into, nodes));
   return into;
 }
 

@@ -123,6 +123,45 @@ async def test_the_focus_of_a_button_that_went_away(program):
         is_clean(page, screen)
 
 
+async def enter(page, button):
+    """Presses a button by the keyboard."""
+    await page.until(f"{button} !== null")
+    await page.run(f"{button}.focus()")
+    await page.key("Enter")
+
+
+async def test_the_focus_is_never_lost(program):
+    """If what has it goes away, the list around it has it, or a pane. What may come next has it again if it is back."""
+    traces.write("trace", traces.COUNT)
+    at, bar = "document.activeElement.id", "document.querySelector('#bar [data-does=\"{}\"]')"
+    async with Screen(program, "trace", "log") as screen, Browser() as browser:
+        page = await browser.page(screen.link)
+        await page.until("document.querySelectorAll('.race').length === 1")
+        await page.click(".race")
+        await page.until(f"{OPEN} === 'Witness'")
+        await enter(page, bar.format("e"))
+        await page.until(f"{OPEN} === 'r7-12' && {at} === 'next-list'")
+        await page.key("w")  # the list is hidden
+        await page.until(f"{OPEN} === 'Witness' && {at} === 'stage'")
+        await page.key("[")
+        await page.until(f"{OPEN} === 'r7-12' && {at} === 'next-list'")
+        await press(page, "1")
+        await enter(page, "document.querySelector('#feed [aria-label=\"undo 1\"]')")
+        await page.until(f"{ROWS} === 0 && {at} === 'feed'")
+        await enter(page, bar.format("Drop"))
+        await page.until(f"{OPEN} === 'No schedule' && {at} === 'stage'")
+        await enter(page, bar.format("×"))
+        await page.until(f"document.querySelector('#bar .aim') === null && {at} === 'stage'")
+        await page.key("n")
+        await page.until("document.getElementById('ask').open")
+        await page.key("Enter")
+        await page.until(f"{OPEN} === 'A' && {at} === 'next-list'")
+        await page.key("Enter")
+        await page.until(f"{ROWS} === 1")
+        same(logged(), ["1 new r7-12", "1 add r7-12 0", "1 undo 1", "1 drop r7-12", "1 new A", "1 add A 0"])
+        is_clean(page, screen)
+
+
 async def test_an_undo_of_what_is_in_part_taken_back(program):
     """Another tab was faster with one of the entries: the page says what it took back, and why not all."""
     traces.write("trace", FREE)
