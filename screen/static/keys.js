@@ -50,11 +50,8 @@ function inOrder(step) {
   return later(step);
 }
 const inTurn = (keys) => Object.fromEntries(Object.entries(keys).map(([key, does]) => [key, () => inOrder(does)]));
-// A step that goes by position is for what is shown when its key is pressed.
-const ofShown = (step) => () => {
-  const before = sheet.shown();
-  return inOrder(ofSchedule(() => step(sheet.meant(before))));
-};
+// A step that goes by position is for what is shown when its key, or its button, is pressed.
+const ofShown = (step) => (before = sheet.shown()) => inOrder(ofSchedule(() => step(sheet.meant(before))));
 const down = (move) => ({ ArrowDown: () => move(1), j: () => move(1), ArrowUp: () => move(-1), k: () => move(-1) });
 
 // By pane.
@@ -82,6 +79,13 @@ function goToNext() {
   $("next-list").focus();
   inOrder(ofSchedule(() => $("next-list").focus()));
 }
+
+const takeBack = ofShown((shown) => actOn(shown, "back", { name: shown.name }));
+let pressed = null; // what was shown when the button went down
+$("back").addEventListener("pointerdown", () => {
+  pressed = sheet.shown();
+});
+$("back").addEventListener("click", ({ detail }) => takeBack(detail ? pressed : sheet.shown()));
 
 let opening = 0; // questions for a name that wait for their turn
 const typed = []; // keys meanwhile
@@ -128,7 +132,7 @@ function filterRaces() {
 // Everywhere.
 const ANYWHERE = {
   "?": showKeys, "/": filterRaces, F6: () => nextPane(1), "Shift+F6": () => nextPane(-1), n: views.fresh,
-  s: markSeen, b: branch, Backspace: ofShown((shown) => actOn(shown, "back", { name: shown.name })),
+  s: markSeen, b: branch, Backspace: () => takeBack(),
   ...inTurn({
     u: undoLatest, "Ctrl+z": undoLatest, p: ofSchedule(propose),
     r: ofSchedule(() => frontier.run()), t: ofSchedule(() => frontier.toAim()),

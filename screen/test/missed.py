@@ -131,7 +131,7 @@ async def enter(page, button):
 
 
 async def test_the_focus_is_never_lost(program):
-    """If what has it goes away, the list around it has it, or a pane. What may come next has it again if it is back."""
+    """If what has it goes away, the list around it has it, or a pane. What may come next has it again later."""
     traces.write("trace", traces.COUNT)
     at, bar = "document.activeElement.id", "document.querySelector('#bar [data-does=\"{}\"]')"
     async with Screen(program, "trace", "log") as screen, Browser() as browser:
@@ -159,6 +159,26 @@ async def test_the_focus_is_never_lost(program):
         await page.key("Enter")
         await page.until(f"{ROWS} === 1")
         same(logged(), ["1 new r7-12", "1 add r7-12 0", "1 undo 1", "1 drop r7-12", "1 new A", "1 add A 0"])
+        is_clean(page, screen)
+
+
+async def test_a_step_back_by_a_button(program):
+    """It takes back the event that was the last one when it was pressed, and each click takes one back."""
+    traces.write("trace", traces.COUNT)
+    async with Screen(program, "trace", "log") as screen, Browser() as browser:
+        page = await browser.page(screen.link, 360, 800)
+        await new(page, 3)
+        await press(page, "1", "1", "2")
+        await page.click("#back", times=2)
+        await page.until(f"{ROWS} === 1")
+        x, y = await page.press("#back")
+        await session(program, 2, "add A 1\n")
+        await page.until(f"{ROWS} === 2")
+        await page.release(x, y)
+        await page.until(f"{SAID}.startsWith('not done: entry 6 of 2 changed A meanwhile')")
+        await page.click("#back")
+        await page.until(f"{ROWS} === 1")
+        same(logged()[4:], ["1 back A", "1 back A", "2 add A 1", "1 back A"])
         is_clean(page, screen)
 
 
