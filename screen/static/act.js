@@ -2,7 +2,7 @@
 import { $, count, el, fill, many } from "./make.js";
 import { ask } from "./net.js";
 import { keep, kept } from "./store.js";
-import { who, said, reason, isRefused } from "./words.js";
+import { who, said, reason, isRefused, lastWords } from "./words.js";
 import * as feed from "./feed.js";
 import * as frontier from "./frontier.js";
 import * as queue from "./queue.js";
@@ -45,7 +45,7 @@ export async function act(what, given) {
   const told = await awaited(ask(what, given));
   acting--;
   note(what, told, given);
-  if (told.gone) say(bad(`the program ended: ${told.gone}`));
+  if (told.gone) say(bad(`the program ended: ${lastWords(told.gone)}`));
   else if (told.mistake) say(bad(told.mistake));
   else {
     const took = performance.now() - began;

@@ -6,7 +6,7 @@ import { again } from "./again.js";
 import { later, isBusy } from "./queue.js";
 import { ask } from "./net.js";
 import { isInherited, keepingFocus } from "./focus.js";
-import { state, tag, operation, place, reason, help, threadName, threadShort, spoken } from "./words.js";
+import { state, tag, operation, place, reason, help, lastWords, threadName, threadShort, spoken } from "./words.js";
 import { showPair } from "./pair.js";
 
 // With more threads than this there is a filter, and those that the aim needs come first.
@@ -47,7 +47,7 @@ async function fetchNext() {
   const got = await ask("frontier", { name: schedule, aim: state.aim });
   if (mine !== asked || schedule !== name() || got.lost) return;
   if (got.gone) {
-    events.say(`the program ended: ${got.gone}`); // the list stays, so a key starts it again
+    events.say(`the program ended: ${lastWords(got.gone)}`); // the list stays, so a key starts it again
     return;
   }
   const before = here()?.ahead; // it stays until the new one is there, with what is typed below it

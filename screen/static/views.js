@@ -1,7 +1,7 @@
 // What is looked at: a schedule, a witness, or why a pair has none; and the aim, which is the race that is open.
 import { $, el, fill, button, many } from "./make.js";
 import { ask, isOpen } from "./net.js";
-import { state, who, short, isDone, isRefused } from "./words.js";
+import { state, who, short, isDone, isRefused, lastWords } from "./words.js";
 import { act, actOn, awaited, bad, say as tell } from "./act.js";
 import { asked } from "./dialogs.js";
 import { reveal } from "./frame.js";
@@ -164,7 +164,7 @@ async function look(pair, mine) {
   if (mine !== looks || text.lost) return;
   close();
   remember({ pair });
-  none = told.none ?? told.mistake ?? told.gone;
+  none = told.none ?? told.mistake ?? lastWords(told.gone);
   bar();
   say(el("pre", "explained", (text.lines ?? [none]).join("\n")));
 }
@@ -178,7 +178,7 @@ export async function why() {
   const [mine, aim] = [looks, state.aim];
   const text = await awaited(ask("explain", { pair: aim }));
   if (mine !== looks || aim !== state.aim) return null; // something else is looked at by now
-  return say(el("pre", "explained", (text.lines ?? [text.mistake ?? text.gone]).join("\n")));
+  return say(el("pre", "explained", (text.lines ?? [text.mistake ?? lastWords(text.gone)]).join("\n")));
 }
 
 // The line over the schedule, and that of the aim.

@@ -136,6 +136,14 @@ const REFUSALS = {
   55: "the log is full", 58: "that entry is not yours", 59: "that entry was taken back already",
 };
 
+const MAYBE = { read: "the trace or the log may be gone", write: "the disk may be full" };
+
+// What the program said at its end, and what may have led to that.
+export function lastWords(gone) {
+  const maybe = MAYBE[/\b(read|write) failed$/.exec(gone)?.[1]];
+  return maybe ? `${gone} (${maybe})` : gone;
+}
+
 // A line of the session, as a person says it.
 export function said(answer) {
   const done = /^(\d+): (done|undone (\d+)|proposed (\d+))$/.exec(answer);

@@ -159,6 +159,42 @@ async def test_a_session_that_dies_comes_back(program):
         is_clean(page, screen)
 
 
+# Sessions of this program find a full disk as long as a file says so.
+FULL = """#!/bin/sh
+if [ "$1" = session ] && [ -e full ]; then
+    echo 'racebench: write failed' >&2
+    exit 1
+fi
+exec {0} "$@"
+"""
+
+
+async def test_what_may_have_ended_the_program(program):
+    """The page says it in words, and the next step comes to the program as soon as that can be started."""
+    traces.write("trace", traces.COUNT)
+    traces.write("program", FULL.format(program))
+    os.chmod("program", 0o755)
+    async with Screen(os.path.abspath("program"), "trace", "log") as screen, Browser() as browser:
+        page = await browser.page(screen.link)
+        await new(page, 3)
+        for hide, show, told in (
+            (lambda: os.rename("trace", "gone"), lambda: os.rename("gone", "trace"),
+             "read failed (the trace or the log may be gone)"),
+            (lambda: traces.write("full", ""), lambda: os.remove("full"), "write failed (the disk may be full)"),
+        ):
+            hide()
+            killed = await kill_sessions(screen)
+            await comes(lambda: not set(killed).intersection(children(screen.process)))
+            await press(page, "Backspace")
+            if told not in await page.run(SAID):  # the screen did not know of its end yet
+                await press(page, "Backspace")
+            same(await page.run(SAID), f"the program ended: racebench: {told}")
+            show()
+            await page.key("Backspace")
+            await page.until(f"{SAID}.startsWith('refused: there is no event to take back')")
+        is_clean(page, screen)
+
+
 async def test_a_log_that_breaks_is_said(program):
     traces.write("trace", traces.COUNT)
     async with Screen(program, "trace", "log") as screen, Browser() as browser:
