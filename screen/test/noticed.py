@@ -657,3 +657,76 @@ async def test_a_schedule_of_another_that_was_worked_on_last(program):
         page = await browser.page(screen.link)
         await page.until(f"{OPEN} === 'A' && {ROWS} === 1")
         is_clean(page, screen)
+
+
+# Of each lane the name, its title, and whether the rows of its thread have its colour.
+LANES = """[...document.querySelectorAll('#lanes-head .lane-name[id]')].map((name) => {
+  const hue = /\\bh\\d\\b/.exec(name.className)[0];
+  const cells = [...document.querySelectorAll('#space .cell')].filter((cell) =>
+    cell.getBoundingClientRect().left === name.getBoundingClientRect().left);
+  return `${name.title} ${cells.length > 0 && cells.every((cell) => cell.classList.contains(hue))}`;
+}).join('; ')"""
+
+
+async def test_a_lane_is_that_of_its_thread(program):
+    """Of many threads those with most events have lanes, by rising number, with their colours and lengths."""
+    events = {thread: thread + 1 for thread in range(11)}
+    traces.write("trace", "".join(f"T{t}|w(v{t})|a:{t}\n" * size for t, size in events.items()))
+    async with Screen(program, "trace", "log") as screen, Browser() as browser:
+        page = await browser.page(screen.link, 2200, 900)
+        await new(page, 11)
+        for key in "987654321":
+            await press(page, key)
+        await press(page, "9", "8", "7", "6", "5", "4", "3")
+        await page.key("End")
+        await press(page, "Enter")  # a thread without a digit
+        shown = "; ".join(f"T{t}: {2 if t < 9 else 1} of {t + 1} events true" for t in (2, 3, 4, 5, 6, 7, 8))
+        await page.until(f"{LANES}.endsWith({shown!r})", what="lanes in their order")
+        is_clean(page, screen)
+
+
+async def test_a_line_ends_at_the_read(program):
+    traces.write("trace", "T0|w(x)|a:1\nT1|w(y)|b:1\nT1|r(x)|b:2\n")
+    async with Screen(program, "trace", "log") as screen, Browser() as browser:
+        page = await browser.page(screen.link)
+        await new(page, 2)
+        await press(page, "1", "2", "2")
+        await focus(page, "stage")
+        await page.key("End")
+        await page.until(
+            """[document.querySelector('.edge-end'), document.querySelector('#space .row.on .lanes')]
+            .map((one) => one.getBoundingClientRect()).map(({ top, height }) => Math.round(top + height / 2))
+            .reduce((one, other) => one === other)"""
+        )
+        is_clean(page, screen)
+
+
+async def test_who_put_what_was_moved(program):
+    """An event that is moved keeps who put it there, and a schedule keeps who made it."""
+    traces.write("trace", "T0|w(x)|a:1\nT1|w(y)|b:1\n")
+    await session(program, 2, "new A\nadd A 0\n")
+    async with Screen(program, "trace", "log") as screen, Browser() as browser:
+        page = await browser.page(screen.link)
+        await page.until(f"{ROWS} === 1")
+        await focus(page, "next-list")
+        await press(page, "2")
+        await focus(page, "stage")
+        await page.key("End")
+        await page.key("ArrowUp", ALT)
+        await page.until(f"{ORDER} === '1 0'")
+        titles = "[0, 1].map((p) => document.querySelector(`#space .row[data-p='${p}'] .pos`).title).join('; ')"
+        await page.until(f"{titles} === 'put here by you in entry 2; put here by 2 in entry 1'")
+        await page.until("document.querySelector('.sched .who').textContent === '2'")
+        is_clean(page, screen)
+
+
+async def test_the_choice_after_a_thread_ended(program):
+    """The first thread that may go on is chosen, and not one before it that has to wait."""
+    traces.write("trace", "T0|w(y)|a:1\nT2|w(x)|c:1\nT0|r(x)|a:2\nT1|w(a)|b:1\n")
+    async with Screen(program, "trace", "log") as screen, Browser() as browser:
+        page = await browser.page(screen.link)
+        await new(page, 3)
+        await press(page, "1", "3")
+        await page.until(f"{NEXT} === 2")
+        await page.until("document.querySelector('#next-list .on .thread').textContent === 'T2'")
+        is_clean(page, screen)
