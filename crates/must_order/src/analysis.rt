@@ -13,6 +13,8 @@ use rapid_text::OutOfMemory;
 use shb_clocks::Clocks;
 use std::alloc::Global;
 use std::marker::Model;
+use std::thread;
+use std::thread::Threads;
 
 /// A trace with both its orders, SHB and must-before. A contract sees its recording.
 #[derive(Drop)]
@@ -42,6 +44,26 @@ impl<'a> Analysis<'a> {
             Ok(must) => Analysis::with_clocks(alloc, indexed, must),
             Err(refused) => Err(refused),
         }
+    }
+
+    /// The same. Two threads compute the orders if a thread can be started.
+    pub fn at_once<R: Threads>(
+        rt: &R,
+        alloc: Global,
+        indexed: &'a Indexed,
+    ) -> Result<Analysis<'a>, OutOfMemory>
+        ensures { IfOk result (λ analysis. analysis ≡ indexed.now) }
+    {
+        let (clocks, must) = thread::join(
+            rt,
+            move || Clocks::new(alloc, indexed),
+            move || Must::new(alloc, indexed),
+        );
+        Ok(Analysis {
+            indexed,
+            clocks: clocks?,
+            must: must?,
+        })
     }
 
     // The same if must-before is already computed.
