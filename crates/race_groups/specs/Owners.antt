@@ -6,10 +6,12 @@ use Rattle.rapid_text.specs.Recording.{Recording}
 use Rattle.rapid_text.specs.declared.event.Event.{Event}
 use Rattle.event_index.specs.Events.{thread_at}
 use Rattle.race_groups.specs.Classes.{AreWriters}
-use Rattle.race_groups.specs.Totals.{AreSpread, AreTotals}
+use Rattle.race_groups.specs.Totals.{AreClassTotals, AreSpread, AreTotals, IsClassSpread}
 use Rattle.race_groups.specs.declared.class.Class.{Class}
 use Rattle.race_groups.specs.declared.classes.Classes.{Classes}
 use Rattle.race_groups.specs.declared.writers.Conflicts.{Conflicts}
+use Rattle.race_groups.specs.declared.writers.Owning.{Owning}
+use Rattle.race_groups.specs.declared.writers.Tally.{Tally}
 
 -- If the owner of a class is a thread, all events of the class are of this thread.
 abbrev pub AreOwners : List Event → ℕ → List ℕ → List ℕ → Type 0
@@ -53,3 +55,15 @@ pub record AreConflicts (T : List Event) (threads : ℕ) (classes : List ℕ) (i
 -- the same for the classes of a trace
 abbrev pub AreClassConflicts : Recording → Classes → Conflicts → Type 0
 AreClassConflicts r c = AreConflicts r.events (length r.threads) c.numbers.items c.infos.items c.members.items
+
+-- The tables that need no number of events are those of this trace's classes.
+pub record AreOwning (r : Recording) (c : Classes) (o : Owning) : Type 0 where
+  pub writers : AreWriters c.infos.items c.members.items o.writers.items
+  pub owners : AreClassOwners r c o.owners.items
+  pub runs : AreRunsOf o.owners.items c.members.items o.runs.items
+  pub writer_runs : AreRunsOf o.owners.items o.writers.items o.writer_runs.items
+
+-- The numbers of events are those of this trace's classes.
+pub record AreTallied (r : Recording) (c : Classes) (t : Tally) : Type 0 where
+  pub totals : AreClassTotals r c t.totals.items
+  pub spread : IsClassSpread r c t.spread.items

@@ -12,47 +12,37 @@ use std::alloc::Global;
 /// For each class the threads that have events of it, and each thread's number of events.
 pub(crate) type Spread = Vec<Vec<(u32, u32)>>;
 
-/// The spread of the trace's classes. Fails if memory runs out.
+/// The spread of the trace's classes, which have `totals` events. Fails if memory runs out.
 pub(crate) fn spread_of(
     alloc: Global,
     indexed: &Indexed,
     classes: &Classes,
+    totals: &[u64],
 ) -> Result<Spread, OutOfMemory>
     requires numbers { length classes.now.numbers.items ≡ length indexed.now.events }
     requires classes { All (λ c. c < length classes.now.infos.items) classes.now.numbers.items }
+    requires totals { length totals.now ≡ length classes.now.infos.items }
     ensures { IfOk result (λ spread. IsClassSpread indexed.now classes.now spread.items) }
 {
     let _len = indexed.len();
     let numbers = classes.numbers.as_slice();
-    let mut spread = empty(alloc, classes.infos.as_slice().len())?;
+    let mut spread = empty(alloc, totals, indexed.threads())?;
     for thread in 0..indexed.threads() {
         note_thread(&mut spread, indexed, numbers, thread)?;
     }
-    let made = packed(alloc, spread.as_slice())?;
-    Ok(made)
+    Ok(spread)
 }
 
-// A copy in which the entries of each class follow those of the class before it in memory.
-fn packed(alloc: Global, spread: &[Vec<(u32, u32)>]) -> Result<Spread, OutOfMemory>
-    ensures len { IfOk result (λ made. length made.items ≡ length spread.now) }
-    ensures same { IfOk result (λ made. (c : ℕ) → entries_at made.items c ≡ entries_at spread.now c) }
-{
-    let mut made = Vec::with_capacity(alloc, spread.len())?;
-    for class in 0..spread.len() {
-        let entries = Vec::from_slice(alloc, spread[class].as_slice())?;
-        made.push(entries)?;
-    }
-    Ok(made)
-}
-
-// A spread without events.
-fn empty(alloc: Global, many: usize) -> Result<Spread, OutOfMemory>
-    ensures len { IfOk result (λ spread. length spread.items ≡ many) }
+// A spread without events. Each class has room for all its entries, of which there are no more than events or threads.
+// So the entries never move, and those of a class follow those of the class before it in memory.
+fn empty(alloc: Global, totals: &[u64], threads: u32) -> Result<Spread, OutOfMemory>
+    ensures len { IfOk result (λ spread. length spread.items ≡ length totals.now) }
     ensures none { IfOk result (λ spread. (c : ℕ) → entries_at spread.items c ≡ []) }
 {
-    let mut spread = Vec::with_capacity(alloc, many)?;
-    for _class in 0..many {
-        spread.push(Vec::new(alloc))?;
+    let mut spread = Vec::with_capacity(alloc, totals.len())?;
+    for class in 0..totals.len() {
+        let most = totals[class].min(u64::from(threads));
+        spread.push(Vec::with_capacity(alloc, most as usize)?)?;
     }
     Ok(spread)
 }

@@ -1,11 +1,12 @@
 //! Counts a trace's pairs with several workers: each counts the threads and classes whose turn it is, and then all
 //! are summed.
-ghost use Rattle.std.specs.Prelude.{◌≡◌, ℕ, ◌+◌, ◌^◌, ◌<◌, ◌≤◌, IfOk, OnOk, length, slice_index};
+ghost use Rattle.std.specs.Prelude.{◌≡◌, ℕ, ◌+◌, ◌^◌, ◌<◌, ◌≤◌, All, IfOk, OnOk, length, slice_index};
 ghost use Rattle.indexmap.specs.IndexMap.{index_map_len};
 ghost use Rattle.race_groups.specs.Basis.{AreFewAll, AreJoined, AreParts, IsBasis, IsPart, AreTooManyIn};
 ghost use Rattle.race_groups.specs.ClassTables.{AreFewClasses, HaveClasses, HaveMembers};
 ghost use Rattle.race_groups.specs.Counts.{AreCountedBy};
 ghost use Rattle.race_groups.specs.Found.{AreTooMany, IfTooMany};
+ghost use Rattle.race_groups.specs.Owners.{AreClassConflicts};
 ghost use Rattle.race_groups.specs.Rows.{Part, AreMore, AreRows, count_at, AreGrownBy, AreGrownUpTo, IsRowAdded};
 
 use crate::basis::Basis;
@@ -43,7 +44,7 @@ pub(crate) fn count_by_workers<R: Threads + Sync>(
     ensures kept { IfOk result (λ rows. index_map_len rows ≤ limit) }
     ensures too_many { IfTooMany result (AreTooMany indexed.now.events (slice_index places.now) limit) }
 {
-    let conflicts = Conflicts::of(alloc, indexed, classes)?;
+    let conflicts = conflicts_of(rt, alloc, indexed, classes, workers)?;
     let basis = Basis::of(indexed, places, clocks, must, classes, &conflicts, workers);
     match in_turns(rt, alloc, places, basis, limit) {
         Ok(rows) => {
@@ -52,6 +53,25 @@ pub(crate) fn count_by_workers<R: Threads + Sync>(
         }
         Err(refusal) => Err(refusal),
     }
+}
+
+// The tables for the trace's classes, which two workers or more compute in two threads.
+fn conflicts_of<R: Threads>(
+    rt: &R,
+    alloc: Global,
+    indexed: &Indexed,
+    classes: &Classes,
+    workers: usize,
+) -> Result<Conflicts, OutOfMemory>
+    requires numbers { length classes.now.numbers.items ≡ length indexed.now.events }
+    requires classes { All (λ c. c < length classes.now.infos.items) classes.now.numbers.items }
+    requires members { HaveMembers classes.now }
+    ensures { IfOk result (AreClassConflicts indexed.now classes.now) }
+{
+    if workers < 2 {
+        return Conflicts::of(alloc, indexed, classes);
+    }
+    Conflicts::at_once(rt, alloc, indexed, classes)
 }
 
 // The counts of all workers.

@@ -4,7 +4,7 @@ ghost use Rattle.std.specs.Prelude.{◌≡◌, ◌<◌, ◌≤◌, All, IfOk, fi
 ghost use Rattle.event_index.specs.Relations.{is_access};
 ghost use Rattle.race_groups.specs.ClassTables.{HaveMembers};
 ghost use Rattle.race_groups.specs.Classes.{AreConflicting, AreMembers, AreWriters, is_writing, is_writing_op};
-ghost use Rattle.race_groups.specs.Owners.{AreRuns, AreRunsOf, AreClassConflicts};
+ghost use Rattle.race_groups.specs.Owners.{AreRuns, AreRunsOf, AreClassConflicts, AreOwning, AreTallied};
 
 use crate::class::Class;
 use crate::classes::Classes;
@@ -15,6 +15,8 @@ use crate::totals::totals_of;
 use event_index::Indexed;
 use rapid_text::{Op, OutOfMemory};
 use std::alloc::Global;
+use std::thread;
+use std::thread::Threads;
 
 /// For each variable the classes that write it; tables to skip the classes of one thread; and the number of events of
 /// each class. All workers read the same tables.
@@ -41,6 +43,22 @@ pub(crate) struct Walk<'a> {
     pub(crate) runs: &'a [usize],
 }
 
+/// The tables of `Conflicts` that need no number of events.
+#[derive(Drop)]
+struct Owning {
+    writers: Vec<Vec<u32>>,
+    owners: Vec<u32>,
+    runs: Vec<Vec<usize>>,
+    writer_runs: Vec<Vec<usize>>,
+}
+
+/// The numbers of events of `Conflicts`.
+#[derive(Drop)]
+struct Tally {
+    totals: Vec<u64>,
+    spread: Spread,
+}
+
 impl Conflicts {
     /// The tables for a trace's classes. Fails if memory runs out.
     pub(crate) fn of(
@@ -53,20 +71,96 @@ impl Conflicts {
         requires members { HaveMembers classes.now }
         ensures { IfOk result (AreClassConflicts indexed.now classes.now) }
     {
-        let members = classes.members.as_slice();
-        let writers = writers_of(alloc, classes.infos.as_slice(), members)?;
-        let owners = owners_of(alloc, indexed, classes)?;
-        let runs = runs_of(alloc, owners.as_slice(), members)?;
-        let writer_runs = runs_of(alloc, owners.as_slice(), writers.as_slice())?;
+        let Owning {
+            writers,
+            owners,
+            runs,
+            writer_runs,
+        } = owning_of(alloc, indexed, classes)?;
+        let Tally { totals, spread } = tally_of(alloc, indexed, classes)?;
         Ok(Conflicts {
             writers,
             owners,
             runs,
             writer_runs,
-            totals: totals_of(alloc, indexed, classes)?,
-            spread: spread_of(alloc, indexed, classes)?,
+            totals,
+            spread,
         })
     }
+
+    /// The same, in two threads if a thread can be started.
+    pub(crate) fn at_once<R: Threads>(
+        rt: &R,
+        alloc: Global,
+        indexed: &Indexed,
+        classes: &Classes,
+    ) -> Result<Conflicts, OutOfMemory>
+        requires numbers { length classes.now.numbers.items ≡ length indexed.now.events }
+        requires classes { All (λ c. c < length classes.now.infos.items) classes.now.numbers.items }
+        requires members { HaveMembers classes.now }
+        ensures { IfOk result (AreClassConflicts indexed.now classes.now) }
+    {
+        let (owning, tally) = thread::join(
+            rt,
+            move || -> Result<Owning, OutOfMemory>
+                requires numbers { length classes.now.numbers.items ≡ length indexed.now.events }
+                requires classes { All (λ c. c < length classes.now.infos.items) classes.now.numbers.items }
+                requires members { HaveMembers classes.now }
+                ensures { IfOk result (AreOwning indexed.entry.now classes.entry.now) }
+            { owning_of(alloc, indexed, classes) },
+            move || -> Result<Tally, OutOfMemory>
+                requires numbers { length classes.now.numbers.items ≡ length indexed.now.events }
+                requires classes { All (λ c. c < length classes.now.infos.items) classes.now.numbers.items }
+                ensures { IfOk result (AreTallied indexed.entry.now classes.entry.now) }
+            { tally_of(alloc, indexed, classes) },
+        );
+        let Owning {
+            writers,
+            owners,
+            runs,
+            writer_runs,
+        } = owning?;
+        let Tally { totals, spread } = tally?;
+        Ok(Conflicts {
+            writers,
+            owners,
+            runs,
+            writer_runs,
+            totals,
+            spread,
+        })
+    }
+}
+
+// The tables that need no number of events.
+fn owning_of(alloc: Global, indexed: &Indexed, classes: &Classes) -> Result<Owning, OutOfMemory>
+    requires numbers { length classes.now.numbers.items ≡ length indexed.now.events }
+    requires classes { All (λ c. c < length classes.now.infos.items) classes.now.numbers.items }
+    requires members { HaveMembers classes.now }
+    ensures { IfOk result (AreOwning indexed.now classes.now) }
+{
+    let members = classes.members.as_slice();
+    let writers = writers_of(alloc, classes.infos.as_slice(), members)?;
+    let owners = owners_of(alloc, indexed, classes)?;
+    let runs = runs_of(alloc, owners.as_slice(), members)?;
+    let writer_runs = runs_of(alloc, owners.as_slice(), writers.as_slice())?;
+    Ok(Owning {
+        writers,
+        owners,
+        runs,
+        writer_runs,
+    })
+}
+
+// The numbers of events.
+fn tally_of(alloc: Global, indexed: &Indexed, classes: &Classes) -> Result<Tally, OutOfMemory>
+    requires numbers { length classes.now.numbers.items ≡ length indexed.now.events }
+    requires classes { All (λ c. c < length classes.now.infos.items) classes.now.numbers.items }
+    ensures { IfOk result (AreTallied indexed.now classes.now) }
+{
+    let totals = totals_of(alloc, indexed, classes)?;
+    let spread = spread_of(alloc, indexed, classes, totals.as_slice())?;
+    Ok(Tally { totals, spread })
 }
 
 // For each variable, the classes that write it.

@@ -5,6 +5,6 @@ use Rattle.race_groups.proofs.spread.empty.Given as goal
 abbrev pub invariant-loop-class : goal.invariant-loop-class
 invariant-loop-class l =
     record {
-      len : length l.spread.items ≡ l._class;
+      len : length l.spread.items ≡ l.class;
       none : (c : ℕ) → entries_at l.spread.items c ≡ [];
     }

@@ -1,7 +1,6 @@
-use Rattle.std.proofs.Common.{◌≡◌, ◌*◌, ◌<◌, ℕ, All, List, length, sum_by, sym, subst, ap, ◌∙◌, arith}
+use Rattle.std.proofs.Common.{◌≡◌, ◌*◌, ◌<◌, ℕ, List, length, sum_by, ap, ◌∙◌, arith}
 use Rattle.event_index.specs.Lookups.{before, events_of}
 use Rattle.race_groups.specs.Counting.{class_count}
-use Rattle.race_groups.specs.Totals.{entries_at, weighed_sum}
 use Rattle.race_groups.proofs.SumLemmas.{sum_by_below_more, sum_by_each}
 use Rattle.race_groups.proofs.TotalLemmas.{count_few}
 use Rattle.race_groups.proofs.spread.spread_of.Goals as goal
@@ -34,15 +33,11 @@ pub returns : goal.returns
 returns c =
     let r = c.args.indexed.now in
     let inv = c.loop-thread.invariant in
-    let same : (k : ℕ) → entries_at c.in_ok-made.made.items k ≡ entries_at c.loop-thread.spread.items k =
-    λ k. c.in_ok-made.ensures.same k ∙ ap (λ xs. entries_at xs k) c.as_slice-2.ensures.value in
-    let long : length c.as_slice-2.result.now ≡ length c.loop-thread.spread.items = ap (λ xs. length xs) c.as_slice-2.ensures.value in
     let end : c.loop-thread.thread ≡ length r.threads = omega (arith, c.loop-thread-test.false, c.loop-thread.auto.thread-end, c.threads-thread-end.ensures.len) in
     record {
-      len = c.in_ok-made.ensures.len ∙ long ∙ inv.len;
-      within = λ k. subst (All (λ e. e.0 < length r.threads)) (sym (same k)) (inv.within k);
+      len = inv.len;
+      within = inv.within;
       weighed = λ k w lt.
-          ap (weighed_sum w) (same k)
-          ∙ inv.weighed k w
+          inv.weighed k w
           ∙ ap (λ n. sum_by (λ t. class_count c.args.classes.now.numbers.items k (events_of r.events t) * w t) (before n)) end;
     }
