@@ -3,13 +3,15 @@ program writes, and the log that a session leaves.
 
 Each run has to write what is wanted, or to end with the fault's status and text after a beginning of it, and to write
 nothing else. Standard error may have several messages: those before the fault are as the case wants them.
-  an allocation    `out of memory`; in a thread or a session the call's line may say so, and the others go on; beside workers one slice may not be
-                   proposed, whose worker wanted memory; or `no thread`, where the system wanted it to start one; or only
-                   notes are missing, as below
-  a read, a file   `read failed` and nothing on standard output, or in a session the answers before it (there also `write failed`, of a file that is to be
-                   made); or only notes are missing or say less, for which a file is read once more
-  a write          `write failed`; or only standard error is cut, where one of its messages could not be written
-  a thread         what is wanted, since another thread makes the calls of such a script; or, where workers are asked for, `no thread`
+  an allocation    `out of memory`; in a thread or a session the call's line may say so, and the others go on; beside
+                   workers one slice may not be proposed, whose worker ran out of memory; or `no thread`, if the system
+                   had no memory to start one; or only notes are missing, as below
+  a read, a file   `read failed` and nothing on standard output, or in a session the answers before it (there also
+                   `write failed`, of a file that is to be made); or only notes are missing or say less, for which a
+                   file is read once more
+  a write          `write failed`; or only standard error is cut, if one of its messages could not be written
+  a thread         what is wanted, since another thread makes the calls of such a script; or `no thread`, if workers are
+                   asked for
   a write at a place, a cut, a sync, a lock, a new name of a session's log: `write failed`, or `read failed` if the lock
                    is not had; never what is wanted, but for a write of one byte that cannot be cut
 A call that is interrupted and one that moves a single byte change nothing.

@@ -5,8 +5,8 @@
  *   REFUSE_HOW  how it fails: error (so if it is missing), interrupted, short (one byte is moved), nothing (a write
  *               takes no byte), or cut (one byte is written, and the next write fails)
  *   REFUSE_MARK a file that is made where the call came
- * Or it runs the program again and again before its first instruction, with each call of the kind failing in turn, until
- * a run ends without such a call:
+ * Or it runs the program again and again before its first instruction, with each call of the kind failing in turn,
+ * until a run ends without such a call:
  *   REFUSE_EACH the file that gets, for each run, a line `STATUS MET OUT ERR` and then what the run wrote: its exit
  *               status or, below 0, the signal that ended it; whether the call came; and how many bytes follow of its
  *               standard output, of its standard error and of the file REFUSE_LEFT, -1 if there is none
