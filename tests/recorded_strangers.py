@@ -213,6 +213,19 @@ def judge_calls(c):
         raise Wrong(f"the calls behind a longjmp are {sorted(calls)}")
 
 
+def judge_searches(c):
+    """What a search of the C library calls back is called where the program searches."""
+    with open("source.c", "w", encoding="ascii") as source:
+        source.write(SEARCHES)
+    words = [os.path.join(RECORD, "cc"), "-O0", "source.c", "-oprogram"]
+    status, _, told = ran(words, env=dict(os.environ, RECORD_CC=c))
+    _, trace, said = ran([os.path.join(RECORD, "run"), "./program"])
+    calls = {line.split(" < ", 2)[-1] for line in trace.splitlines() if "|r(sorted)|" in line}
+    wanted = {f"looks source.c:{line} < main source.c:16" for line in (7, 8, 9, 10, 11)}
+    if status or calls != wanted:
+        raise Wrong(f"the calls of a search are {sorted(calls)}, and not {sorted(wanted)}: {told}{said}")
+
+
 def judge_late(c):
     """A library that a thread opens late has its lines, also if the program does not end by itself."""
     environment, folder = dict(os.environ, RECORD_CC=c), os.path.join(SOURCES, "late")
@@ -464,6 +477,28 @@ int main() {
 }
 """
 
+# A thread writes what another one compares as it searches. The tree has one place, which is compared by each call but
+# the first.
+SEARCHES = """#include <pthread.h>
+#include <search.h>
+#include <stdlib.h>
+static int sorted[1], one;
+static int compare(const void *a, const void *b) { return *(const int *)a - *(const int *)b; }
+static int looks(const void *key, size_t n, void *tree) {
+    return bsearch(key, sorted, 1, sizeof one, compare) == NULL ||
+           lfind(key, sorted, &n, sizeof one, compare) == NULL ||
+           lsearch(key, sorted, &n, sizeof one, compare) == NULL ||
+           tfind(key, &tree, compare) == NULL ||
+           tdelete(key, &tree, compare) == NULL; }
+static void *work(void *p) { sorted[0] = 0; return p; }
+int main(void) {
+    pthread_t t;
+    void *tree = NULL;
+    return pthread_create(&t, 0, work, 0) || !tsearch(sorted, &tree, compare) || looks(&one, 1, tree) ||
+           pthread_join(t, 0);
+}
+"""
+
 # More threads than the C library keeps stacks of; each gives its own blocks back.
 WAVES = """#include <pthread.h>
 #include <stdlib.h>
@@ -504,6 +539,7 @@ def cases(racebench, c, cxx):
     names = sorted(name for name in os.listdir(FOLDER) if name.endswith((".c", ".cpp")))
     names = [name for name in names if (cxx or name.endswith(".c")) and (c == "gcc" or name not in OPENMP)]
     found = [(f"calls behind a jump, {c}", judge_calls), (f"a library that is opened late, {c}", judge_late)]
+    found += [(f"calls in a search, {c}", judge_searches)]
     found += [(f"threads in waves, {c}", judge_waves)]
     found += [(f"few open files, {c}", judge_few_files), (f"a header for later, {c}", judge_header)]
     found += [(f"descriptors of the recorder, {c}", judge_descriptors), (f"names of its own, {c}", judge_own_names)]

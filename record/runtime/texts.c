@@ -142,6 +142,36 @@ void __wrap_qsort_r(void *first, size_t count, size_t size, compares_with *compa
     IN_LIBRARY(__real_qsort_r(first, count, size, compare, with));
 }
 
+/* Searches call back into the program, which reads what it compares. A tree is in memory of the C library: where it
+ * begins stands for all of it, and a search that may add to it turns it too. */
+typedef int compares(const void *, const void *);
+extern void *__real_bsearch(const void *, const void *, size_t, size_t, compares *);
+void *__wrap_bsearch(const void *key, const void *first, size_t count, size_t size, compares *compare) {
+    return IN_LIBRARY(__real_bsearch(key, first, count, size, compare));
+}
+extern void *__real_lfind(const void *, const void *, size_t *, size_t, compares *);
+void *__wrap_lfind(const void *key, const void *first, size_t *count, size_t size, compares *compare) {
+    READS(count, sizeof *count);
+    return IN_LIBRARY(__real_lfind(key, first, count, size, compare));
+}
+extern void *__real_lsearch(const void *, void *, size_t *, size_t, compares *);
+void *__wrap_lsearch(const void *key, void *first, size_t *count, size_t size, compares *compare) {
+    READS(count, sizeof *count);
+    size_t before = *count;
+    void *found = IN_LIBRARY(__real_lsearch(key, first, count, size, compare));
+    if (*count != before) READS(key, size), wrote(found, size, PC), wrote(count, sizeof *count, PC);
+    return found;
+}
+#define OF_TREE(name, qualified, goes_over) \
+    extern void *__real_##name(const void *, qualified, compares *); \
+    void *__wrap_##name(const void *key, qualified root, compares *compare) { \
+        if (root) goes_over; \
+        return IN_LIBRARY(__real_##name(key, root, compare)); \
+    }
+OF_TREE(tfind, void *const *, READS(root, sizeof *root))
+OF_TREE(tsearch, void **, (READS(root, sizeof *root), WRITES(root, sizeof *root)))
+OF_TREE(tdelete, void **, (READS(root, sizeof *root), WRITES(root, sizeof *root)))
+
 /* ---- what is printed: a format reads its texts, and what is printed into memory writes there ---- */
 
 extern int __real_vprintf(const char *, va_list), __real_vfprintf(FILE *, const char *, va_list);
