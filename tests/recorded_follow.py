@@ -45,9 +45,10 @@ PROGRAMS = {
     ),
     "counted_twice.cpp": ([], [(11, 11, BAD, (OKAY,))]),
     "passed.c": ([], [(14, 22, (ASSERTION,), ANY)]),
+    "asked_again.c": ([], [(8, 17, (OKAY,), (OKAY,))]),
 }
 # So many races stand at least in all programs together: ring.c waits by the time, so it has one or more.
-ALL_RACES = 17
+ALL_RACES = 18
 DIFFER = "the order matters: the outputs differ: 1 with A first, 0 with B first"
 NO_DIFFERENCE = "it makes no difference"
 # The members of a line of JSON for a race that stands and for one that departed, as docs/FORMATS.md has them.

@@ -45,6 +45,7 @@ OPENMP = ("shared_tasks.cpp", "task_kinds.cpp", "doacross.c", "task_events.c")
 # Those that are judged with each compiler.
 EACH_COMPILER = (
     "sizes.c",
+    "filled_by_calls.c",
     "conversions.c",
     "cut_texts.c",
     "links.cpp",

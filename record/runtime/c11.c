@@ -33,7 +33,7 @@ int thrd_create(thrd_t *id, thrd_start_t body, void *argument) {
 int thrd_join(thrd_t id, int *value) {
     void *given = NULL;
     int answer = join((pthread_t)id, &given, PC);
-    if (value) *value = (int)(intptr_t)given;
+    if (value) *value = (int)(intptr_t)given, wrote(value, sizeof *value, PC);
     return c11_answer(answer);
 }
 

@@ -1,6 +1,8 @@
 /* Calls that fill memory of the program. What they wrote is known afterwards. By the linker's --wrap. */
 #include <arpa/inet.h>
-#include <sys/resource.h>
+#include <sys/statvfs.h>
+#include <sys/sysinfo.h>
+#include <sys/times.h>
 #include <sys/utsname.h>
 
 /* `size` is how many bytes the call wrote at `at`; `answer` is what it gave back. */
@@ -51,6 +53,39 @@ FILLS(long double, remquol, (long double v, long double by, int *to), (v, by, to
 FILLS(double, lgamma_r, (double v, int *to), (v, to), , to, sizeof *to)
 FILLS(float, lgammaf_r, (float v, int *to), (v, to), , to, sizeof *to)
 FILLS(long double, lgammal_r, (long double v, int *to), (v, to), , to, sizeof *to)
+FILLS(ssize_t, getrandom, (void *to, size_t n, unsigned how), (to, n, how), , to, answer > 0 ? (u64)answer : 0)
+FILLS(int, getentropy, (void *to, size_t n), (to, n), , to, answer ? 0 : n)
+FILLS(int, getrlimit, (int of, struct rlimit *to), (of, to), , to, answer ? 0 : sizeof *to)
+FILLS(int, getitimer, (int of, struct itimerval *to), (of, to), , to, answer ? 0 : sizeof *to)
+FILLS(clock_t, times, (struct tms * to), (to), , to, (to) && answer != -1 ? sizeof *to : 0)
+FILLS(int, sysinfo, (struct sysinfo * to), (to), , to, answer ? 0 : sizeof *to)
+FILLS(int, clock_getres, (clockid_t of, struct timespec *to), (of, to), , to, to && !answer ? sizeof *to : 0)
+FILLS(int, statvfs, (const char *p, struct statvfs *to), (p, to), READS(p, TEXT_AT(p)), to, answer ? 0 : sizeof *to)
+FILLS(int, fstatvfs, (int f, struct statvfs *to), (f, to), , to, answer ? 0 : sizeof *to)
+FILLS(int, pthread_getname_np, (pthread_t t, char *to, size_t n), (t, to, n), , to, answer ? 0 : TEXT_AT(to))
+
+/* Of an address, or of what a socket is set to, the room is read, and so much of it is written as there is room. */
+#define FILLS_ROOM(name, given, passed_on, to) \
+    WEAKLY int __real_##name given; \
+    int __wrap_##name given { \
+        socklen_t room = n ? *n : 0; \
+        if (n) READS(n, sizeof *n); \
+        int answer = __real_##name passed_on; \
+        wrote(to, answer ? 0 : *n < room ? *n : room, PC); \
+        wrote(n, answer ? 0 : sizeof *n, PC); \
+        return answer; \
+    }
+FILLS_ROOM(getsockname, (int f, struct sockaddr *a, socklen_t *n), (f, a, n), a)
+FILLS_ROOM(getpeername, (int f, struct sockaddr *a, socklen_t *n), (f, a, n), a)
+FILLS_ROOM(getsockopt, (int f, int level, int of, void *to, socklen_t *n), (f, level, of, to, n), to)
+
+/* Pairs of bytes change their places. */
+extern void __real_swab(const void *, void *, ssize_t);
+void __wrap_swab(const void *from, void *to, ssize_t n) {
+    size_t even = n > 1 ? (size_t)n & ~(size_t)1 : 0;
+    READS(from, even), WRITES(to, even);
+    __real_swab(from, to, n);
+}
 
 /* These three are no weak names, so that the library of numbers is linked. */
 #define SINE_AND_COSINE(name, type) \

@@ -183,6 +183,13 @@ static int joined(int answer, u32 number, u64 pc) {
     return answer;
 }
 
+/* What the thread gave back is written for the joiner. */
+static int joined_with(int answer, u32 number, void **value, u64 pc) {
+    joined(answer, number, pc);
+    if (value && !answer) wrote(value, sizeof *value, pc);
+    return answer;
+}
+
 /* Where a plan is followed, the thread that is waited for goes on by the joiner's leave. */
 static void wait_for_end(u32 number) {
     if (following && !gone[number]) {
@@ -220,9 +227,7 @@ static int join(pthread_t id, void **value, u64 pc) {
     short_wait = 1;
     int answer = join_gone(real, id, value);
     short_wait = 0;
-    joined(answer, number, pc);
-    if (value) wrote(value, answer ? 0 : sizeof *value, pc);
-    return answer;
+    return joined_with(answer, number, value, pc);
 }
 
 int pthread_join(pthread_t id, void **value) { return join(id, value, PC); }
@@ -230,19 +235,19 @@ int pthread_join(pthread_t id, void **value) { return join(id, value, PC); }
 int pthread_tryjoin_np(pthread_t id, void **value) {
     REAL(pthread_tryjoin_np, int, pthread_t, void **);
     u32 number = number_of(id);
-    return joined(OUTSIDE(real(id, value)), number, PC);
+    return joined_with(OUTSIDE(real(id, value)), number, value, PC);
 }
 
 int pthread_timedjoin_np(pthread_t id, void **value, const struct timespec *t) {
     REAL(pthread_timedjoin_np, int, pthread_t, void **, const struct timespec *);
     u32 number = number_of(id);
-    return joined(OUTSIDE(real(id, value, t)), number, PC);
+    return joined_with(OUTSIDE(real(id, value, t)), number, value, PC);
 }
 
 int pthread_clockjoin_np(pthread_t id, void **value, clockid_t c, const struct timespec *t) {
     REAL(pthread_clockjoin_np, int, pthread_t, void **, clockid_t, const struct timespec *);
     u32 number = number_of(id);
-    return joined(OUTSIDE(real(id, value, c, t)), number, PC);
+    return joined_with(OUTSIDE(real(id, value, c, t)), number, value, PC);
 }
 
 int pthread_detach(pthread_t id) {

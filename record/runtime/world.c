@@ -11,20 +11,34 @@ WAITS(int, nanosleep, (const struct timespec *t, struct timespec *rest), (t, res
 WAITS(int, clock_nanosleep, (clockid_t c, int g, const struct timespec *t, struct timespec *rest), (c, g, t, rest))
 WAITS(int, usleep, (useconds_t t), (t))
 WAITS(unsigned, sleep, (unsigned t), (t))
-WAITS(pid_t, wait, (int *status), (status))
-WAITS(pid_t, waitpid, (pid_t p, int *status, int g), (p, status, g))
-WAITS(pid_t, wait3, (int *status, int g, struct rusage *u), (status, g, u))
-WAITS(pid_t, wait4, (pid_t p, int *status, int g, struct rusage *u), (p, status, g, u))
-WAITS(int, waitid, (idtype_t of, id_t id, siginfo_t *info, int g), (of, id, info, g))
 WAITS(int, system, (const char *c), (c))
 WAITS(int, pclose, (FILE * f), (f))
 WAITS(int, pause, (void), ())
 WAITS(int, sigsuspend, (const sigset_t *s), (s))
-WAITS(int, sigwait, (const sigset_t *s, int *number), (s, number))
-WAITS(int, sigwaitinfo, (const sigset_t *s, siginfo_t *info), (s, info))
-WAITS(int, sigtimedwait, (const sigset_t *s, siginfo_t *info, const struct timespec *t), (s, info, t))
 WAITS(int, flock, (int f, int what), (f, what))
 WAITS(int, thrd_sleep, (const struct timespec *t, struct timespec *rest), (t, rest))
+
+/* Those that write what came, when it has come. One that found nothing is no tick: a program may ask again and again,
+ * another number of times in each run. */
+#define AWAITS(type, name, given, passed_on, filled) \
+    type name given { \
+        static type(*real) given; \
+        if (!real) real = (type(*) given)next(#name, NULL); \
+        type answer = OUTSIDE(real passed_on); \
+        filled; \
+        return answer; \
+    }
+#define FILLED(at, does) ((at) && (does) ? wrote((at), sizeof *(at), PC) : (void)0)
+#define ENDED (FILLED(status, answer > 0), FILLED(usage, answer > 0))
+AWAITS(pid_t, wait, (int *status), (status), FILLED(status, answer > 0))
+AWAITS(pid_t, waitpid, (pid_t p, int *status, int g), (p, status, g), FILLED(status, answer > 0))
+AWAITS(pid_t, wait3, (int *status, int g, struct rusage *usage), (status, g, usage), ENDED)
+AWAITS(pid_t, wait4, (pid_t p, int *status, int g, struct rusage *usage), (p, status, g, usage), ENDED)
+AWAITS(int, waitid, (idtype_t of, id_t id, siginfo_t *info, int g), (of, id, info, g), FILLED(info, !answer))
+AWAITS(int, sigwait, (const sigset_t *s, int *number), (s, number), FILLED(number, !answer))
+AWAITS(int, sigwaitinfo, (const sigset_t *s, siginfo_t *info), (s, info), FILLED(info, answer > 0))
+AWAITS(int, sigtimedwait, (const sigset_t *s, siginfo_t *info, const struct timespec *t), (s, info, t),
+       FILLED(info, answer > 0))
 
 int sched_yield(void) {
     if (!IDLE) give_and_take();
