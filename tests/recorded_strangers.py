@@ -46,6 +46,7 @@ OPENMP = ("shared_tasks.cpp", "task_kinds.cpp", "doacross.c", "task_events.c")
 EACH_COMPILER = (
     "sizes.c",
     "filled_by_calls.c",
+    "accepted.c",
     "conversions.c",
     "cut_texts.c",
     "links.cpp",

@@ -27,7 +27,9 @@ int posix_memalign(void **block, size_t align, size_t n) {
     if (!align || align % sizeof(void *) || (align & (align - 1))) return EINVAL;
     void *p = __libc_memalign(align, n);
     if (!p) return ENOMEM;
+    u64 from = (u64)__builtin_return_address(0);
     *block = got(p, n, PC);
+    if (is_hooked(from)) wrote(block, sizeof *block, from);
     return 0;
 }
 

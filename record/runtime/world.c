@@ -195,21 +195,30 @@ int epoll_wait(int f, struct epoll_event *to, int n, int t) {
     return polled(f, to, answer, PC);
 }
 
+/* Who connected: so much of the address is written as there was room. */
+static int wrote_peer(int f, const struct sockaddr *a, const socklen_t *n, socklen_t room, u64 pc) {
+    if (f < 0 || !a || !n) return f;
+    wrote(a, *n < room ? *n : room, pc);
+    wrote(n, sizeof *n, pc);
+    return f;
+}
+
 /* A connection is a descriptor that is given out. */
 #define ACCEPTS(name, given, passed_on) \
     int name given { \
         static int(*real) given; \
         if (!real) real = (int(*) given)next(#name, NULL); \
         if (IDLE) return real passed_on; \
+        socklen_t room = n ? *n : 0; \
         struct tick_entry *e = following ? entry_of_accept(PC) : NULL; \
         if (e && (e->code & 127) == ANSWER) return errno = (int)e->answer, gives(-1, PC); \
-        if (!e) return is_accepted(gives(OUTSIDE(real passed_on), PC), PC); \
+        if (!e) return wrote_peer(is_accepted(gives(OUTSIDE(real passed_on), PC), PC), a, n, room, PC); \
         int got_one; \
         for (int tries = 0; (got_one = at_once(f, POLLIN) ? real passed_on : (errno = EAGAIN, -1)) < 0; tries++) { \
             if ((errno != EAGAIN && errno != EINTR) || given_up(tries)) world_differs(); \
             moment(); \
         } \
-        return is_accepted(gives(got_one, PC), PC); \
+        return wrote_peer(is_accepted(gives(got_one, PC), PC), a, n, room, PC); \
     }
 static struct tick_entry *entry_of_accept(u64 pc) {
     struct tick_entry *e = world_expected(ANSWER, pc);
