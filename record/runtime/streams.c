@@ -1,9 +1,16 @@
 /* Streams of the C library whose descriptor is a channel, such as one that fdopen made of a pipe: a call that may write the
  * stream's buffer out sends, and a call that may read it receives. */
 
+/* The descriptor of a stream. One of memory has none, but anything in its place. */
+static int descriptor_of(FILE *s) {
+    int error = errno, f = fileno(s);
+    errno = error;
+    return f;
+}
+
 /* Before a call that may send. */
 static void sends_stream(FILE *s, u64 pc) {
-    u32 channel = IDLE || !s ? 0 : out_of(s->_fileno);
+    u32 channel = IDLE || !s ? 0 : out_of(descriptor_of(s));
     if (!channel) return;
     maybe_give();
     pass_of(OF_CHANNEL, channel, pc);
@@ -11,7 +18,7 @@ static void sends_stream(FILE *s, u64 pc) {
 
 static void sent_stream(FILE *s) {
     int error = errno;
-    if (s) sent(s->_fileno, 0);
+    if (s) sent(descriptor_of(s), 0);
     errno = error;
 }
 
@@ -26,12 +33,12 @@ static int is_in_buffer(const FILE *s, size_t bytes, int end) {
 
 /* Before a call that may receive: it waits in the recorder if the stream's buffer has too little. */
 static void awaits_stream(FILE *s, size_t bytes, int end) {
-    u32 channel = IDLE || !s ? 0 : in_of(s->_fileno);
-    if (channel && !is_in_buffer(s, bytes, end)) comes_at_once(s->_fileno, channel, POLLIN, 0);
+    u32 channel = IDLE || !s ? 0 : in_of(descriptor_of(s));
+    if (channel && !is_in_buffer(s, bytes, end)) comes_at_once(descriptor_of(s), channel, POLLIN, 0);
 }
 
 static void received_stream(FILE *s, u64 pc) {
-    u32 channel = IDLE || !s ? 0 : in_of(s->_fileno);
+    u32 channel = IDLE || !s ? 0 : in_of(descriptor_of(s));
     if (!channel) return;
     pass_of(OF_CHANNEL, channel, pc);
     unpark(key_of(channel));
@@ -50,10 +57,12 @@ WRITES_STREAM(fputc, to, (int c, FILE *to), (c, to))
 WRITES_STREAM(putc, to, (int c, FILE *to), (c, to))
 WRITES_STREAM(putchar, stdout, (int c), (c))
 
-/* The streams that fdopen made of channels. */
+/* The streams that fdopen made of channels, and those of memory: where the program has the text and its size. */
 struct stream {
     FILE *is;
     struct stream *next;
+    char **text;
+    size_t *size;
 };
 static struct stream *streams;
 
@@ -70,15 +79,37 @@ static void forget_stream(const FILE *stream) {
     if (s) s->is = NULL;
 }
 
+static void note_stream(FILE *made, char **text, size_t *size) {
+    keep_turn();
+    struct stream *s = place_of(NULL);
+    if (s) s->text = text, s->size = size, s->is = made;
+    else if ((s = __libc_malloc(sizeof *s))) *s = (struct stream){made, streams, text, size}, streams = s;
+}
+
 FILE *fdopen(int f, const char *how) {
     REAL(fdopen, FILE *, int, const char *);
     FILE *made = real(f, how);
-    if (IDLE || !made || !out_of(f)) return made;
-    keep_turn();
-    struct stream *s = place_of(NULL);
-    if (s) s->is = made;
-    else if ((s = __libc_malloc(sizeof *s))) *s = (struct stream){made, streams}, streams = s;
+    if (!IDLE && made && out_of(f)) note_stream(made, NULL, NULL);
     return made;
+}
+
+FILE *open_memstream(char **text, size_t *size) {
+    REAL(open_memstream, FILE *, char **, size_t *);
+    FILE *made = real(text, size);
+    if (!IDLE && made) note_stream(made, text, size);
+    return made;
+}
+
+/* The text of a stream of memory is the program's when the stream is written out, or closed. */
+static struct stream memory_of(const FILE *stream) {
+    struct stream *s = stream && !IDLE ? place_of(stream) : NULL;
+    if (!s || !s->text) return (struct stream){0};
+    comes_to_call();
+    return *s;
+}
+
+static void wrote_memory(const struct stream *s, u64 pc) {
+    if (s->text) wrote(s->text, sizeof *s->text, pc), wrote(s->size, sizeof *s->size, pc);
 }
 
 static void sends_all_streams(u64 pc) {
@@ -95,8 +126,10 @@ static void sent_all_streams(void) {
 int fflush(FILE *to) {
     REAL(fflush, int, FILE *);
     to ? sends_stream(to, PC) : IDLE ? (void)0 : sends_all_streams(PC);
+    struct stream s = memory_of(to);
     int answer = real(to);
     to ? sent_stream(to) : IDLE ? (void)0 : sent_all_streams();
+    wrote_memory(&s, PC);
     return answer;
 }
 
@@ -136,10 +169,12 @@ ssize_t __getdelim(char **to, size_t *room, int end, FILE *from) { return reads_
 
 int fclose(FILE *stream) {
     REAL(fclose, int, FILE *);
-    int f = stream->_fileno;
+    int f = descriptor_of(stream);
     if (f >= 0) closes(f, PC);
+    struct stream s = memory_of(stream);
     if (!IDLE) keep_turn(), forget_stream(stream);
     int answer = real(stream);
     closed(f);
+    wrote_memory(&s, PC);
     return answer;
 }
