@@ -47,6 +47,7 @@ EACH_COMPILER = (
     "sizes.c",
     "filled_by_calls.c",
     "accepted.c",
+    "set_by_calls.c",
     "memory_streams.c",
     "conversions.c",
     "cut_texts.c",

@@ -32,6 +32,7 @@
 #include "clocks.c"
 #include "wide.c"
 #include "fills.c"
+#include "attributes.c"
 #undef syscall
 #include "futex.c"
 #define syscall raw_syscall

@@ -1,25 +1,35 @@
 /* The time: it is as recorded where a plan is followed. And what the C library makes of a time, of which some lies in
  * memory that all threads share. */
 
+static int is_of_program(u64 from) { return from - main_start < main_size || is_hooked(from); }
+
 /* What a call is about to write. One that a library makes for itself writes into memory of its own. */
 #define WRITES_TIME(at) \
     do { \
         u64 from_ = (u64)__builtin_return_address(0); \
-        if ((at) && (from_ - main_start < main_size || is_hooked(from_))) access_(WRITE, (at), sizeof *(at), from_); \
+        if ((at) && is_of_program(from_)) access_(WRITE, (at), sizeof *(at), from_); \
     } while (0)
 
-int clock_gettime(clockid_t k, struct timespec *t) {
+static int time_of(clockid_t k, struct timespec *t, u64 from) {
     if (IDLE) return (int)syscall(SYS_clock_gettime, k, t);
-    struct tick_entry *e = world_expected(ANSWER, PC);
+    struct tick_entry *e = world_expected(ANSWER, in_program(from));
     struct timespec now = {0, 0};
     int answer = 0;
     if (e) now = (struct timespec){(time_t)e->at, (long)e->answer};
     else answer = (int)syscall(SYS_clock_gettime, k, &now);
-    put_answer(ANSWER, (u64)now.tv_sec, (u64)now.tv_nsec, PC);
+    put_answer(ANSWER, (u64)now.tv_sec, (u64)now.tv_nsec, in_program(from));
     if (answer) return answer;
-    WRITES_TIME(t);
+    if (t && is_of_program(from)) access_(WRITE, t, sizeof *t, from);
     *t = now;
     return 0;
+}
+int clock_gettime(clockid_t k, struct timespec *t) { return time_of(k, t, (u64)__builtin_return_address(0)); }
+
+/* C11's time of day. */
+int timespec_get(struct timespec *t, int base) {
+    REAL(timespec_get, int, struct timespec *, int);
+    if (base != TIME_UTC) return real(t, base);
+    return time_of(CLOCK_REALTIME, t, (u64)__builtin_return_address(0)) ? 0 : base;
 }
 
 int gettimeofday(struct timeval *t, void *z) {

@@ -63,6 +63,47 @@ FILLS(int, clock_getres, (clockid_t of, struct timespec *to), (of, to), , to, to
 FILLS(int, statvfs, (const char *p, struct statvfs *to), (p, to), READS(p, TEXT_AT(p)), to, answer ? 0 : sizeof *to)
 FILLS(int, fstatvfs, (int f, struct statvfs *to), (f, to), , to, answer ? 0 : sizeof *to)
 FILLS(int, pthread_getname_np, (pthread_t t, char *to, size_t n), (t, to, n), , to, answer ? 0 : TEXT_AT(to))
+FILLS(int, getgroups, (int n, gid_t *to), (n, to), , to, answer > 0 && n ? (u64)answer * sizeof *to : 0)
+FILLS(size_t, confstr, (int of, char *to, size_t n), (of, to, n), , to, to ? answer < n ? answer : n : 0)
+FILLS(int, sigaltstack, (const stack_t *s, stack_t *before), (s, before), s ? READS(s, sizeof *s) : (void)0, before,
+      before && !answer ? sizeof *before : 0)
+
+/* What files of more than two gigabytes need is called by other names. */
+FILLS(int, getrlimit64, (int of, struct rlimit64 *to), (of, to), , to, answer ? 0 : sizeof *to)
+FILLS(int, statvfs64, (const char *p, struct statvfs64 *to), (p, to), READS(p, TEXT_AT(p)), to, answer ? 0 : sizeof *to)
+FILLS(int, fstatvfs64, (int f, struct statvfs64 *to), (f, to), , to, answer ? 0 : sizeof *to)
+
+/* A number that is printed, with its end. */
+#define PRINTS_NUMBER(name, type) \
+    FILLS(int, name, (char *to, size_t n, const char *f, type v), (to, n, f, v), READS(f, TEXT_AT(f)), to, \
+          with_end((size_t)answer, n))
+PRINTS_NUMBER(strfromd, double)
+PRINTS_NUMBER(strfromf, float)
+PRINTS_NUMBER(strfroml, long double)
+
+/* The place of a stream, and nothing of how its letters are converted. */
+#define PLACES(more) \
+    FILLS(int, fgetpos##more, (FILE * s, fpos##more##_t * to), (s, to), , &to->__pos, answer ? 0 : sizeof to->__pos) \
+    WEAKLY int __real_fsetpos##more(FILE *, const fpos##more##_t *); \
+    int __wrap_fsetpos##more(FILE *s, const fpos##more##_t *at) { \
+        READS(&at->__pos, sizeof at->__pos); \
+        return __real_fsetpos##more(s, at); \
+    }
+PLACES()
+PLACES(64)
+
+/* Whose rights a process has. */
+#define RIGHTS(name) \
+    WEAKLY int __real_##name(uid_t *, uid_t *, uid_t *); \
+    int __wrap_##name(uid_t *real, uid_t *effective, uid_t *saved) { \
+        comes_to_call(); \
+        int answer = __real_##name(real, effective, saved); \
+        size_t size = answer ? 0 : sizeof *real; \
+        wrote(real, size, PC), wrote(effective, size, PC), wrote(saved, size, PC); \
+        return answer; \
+    }
+RIGHTS(getresuid)
+RIGHTS(getresgid)
 
 /* Of an address, or of what a socket is set to, the room is read, and so much of it is written as there is room. */
 #define FILLS_ROOM(name, given, passed_on, to) \

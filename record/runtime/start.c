@@ -62,7 +62,7 @@ static void begin(void) {
     one_in = (u32)option("RACEBENCH_RECORD_YIELD", 40);
     if (!one_in) one_in = 1;
     chance = (option("RACEBENCH_RECORD_SEED", 1) + 5) * 0x9e3779b97f4a7c15ull | 1;
-    pthread_key_create(&last_turn, end_of_thread);
+    __real_pthread_key_create(&last_turn, end_of_thread);
     pthread_setspecific(last_turn, (void *)1);
     pthread_atfork(NULL, note_fork, stop_in_child);
     me = 0;

@@ -127,7 +127,7 @@ static void *child_body(void *p) {
 
 static int is_detached(const pthread_attr_t *attributes) {
     int state;
-    return attributes && !pthread_attr_getdetachstate(attributes, &state) && state == PTHREAD_CREATE_DETACHED;
+    return attributes && !__real_pthread_attr_getdetachstate(attributes, &state) && state == PTHREAD_CREATE_DETACHED;
 }
 
 /* A thread that begins has no signals until it has its number and its turn. `mask` is the one that it gets then. */
@@ -146,6 +146,7 @@ static int create(pthread_t *id, const pthread_attr_t *attributes, void *(*body)
     watch();
     note_modules();
     maybe_give();
+    reads_attributes(attributes, pc);
     /* The C library writes the number before the thread begins. */
     if (id) put(WRITE, (u64)id, sizeof *id, pc);
     u32 number = planned_child();
@@ -209,11 +210,11 @@ static void wait_for_end(u32 number) {
 static int join_gone(int (*real)(pthread_t, void **), pthread_t id, void **value) {
     u8 was = inside;
     int state;
-    pthread_setcancelstate(PTHREAD_CANCEL_DISABLE, &state);
+    __real_pthread_setcancelstate(PTHREAD_CANCEL_DISABLE, &state);
     inside = IN_TURNS;
     int answer = real(id, value);
     leave_turns(was);
-    pthread_setcancelstate(state, NULL);
+    __real_pthread_setcancelstate(state, NULL);
     return answer;
 }
 
@@ -297,5 +298,6 @@ int pthread_setcanceltype(int type, int *before) {
     REAL(pthread_setcanceltype, int, int, int *);
     int answer = real(type, before);
     if (!answer) cancels_at_once = type == PTHREAD_CANCEL_ASYNCHRONOUS;
+    FILLED(before, !answer);
     return answer;
 }
