@@ -48,6 +48,7 @@ EACH_COMPILER = (
     "filled_by_calls.c",
     "accepted.c",
     "set_by_calls.c",
+    "matched.c",
     "memory_streams.c",
     "conversions.c",
     "cut_texts.c",
@@ -274,19 +275,20 @@ def judge_header(c):
 
 def judge_own_names(c):
     """What one source of the program defines and another one uses is the program's, also if the recorder stands for a
-    function of that name: another function, or a variable. So is what its library defines."""
-    sources = {"first.c": OWN_NAMES, "second.c": OTHER_NAMES, "third.c": LIBRARY_NAMES}
+    function of that name: another function, or a variable. So is what its library defines, and the `regcomp` of a
+    library that the linker looks for."""
+    sources = {"first.c": OWN_NAMES, "second.c": OTHER_NAMES, "third.c": LIBRARY_NAMES, "fourth.c": PATTERN_NAMES}
     for name, text in sources.items():
         with open(name, "w", encoding="ascii") as source:
             source.write(text)
     environment, cc = dict(os.environ, RECORD_CC=c), os.path.join(RECORD, "cc")
-    for words in (["-c", "second.c"], ["-fPIC", "-shared", "third.c", "-olib.so"]):
+    for words in (["-c", "second.c"], ["-fPIC", "-shared", "third.c", "-olib.so"], PATTERNS):
         ran([cc, "-w", "-fno-builtin", *words], env=environment)
-    words = ["first.c", "second.o", "./lib.so", "-oprogram"]
+    words = ["first.c", "second.o", "./lib.so", "-L.", "-lpatterns", "-Wl,-rpath,.", "-oprogram"]
     status, _, told = ran([cc, "-w", "-fno-builtin", *words], env=environment)
     _, trace, said = ran([os.path.join(RECORD, "run"), "./program"])
     named = "(memmem+4)" in trace and "w(threads)" in trace and "w(ends+4)" in trace
-    if status or not said.startswith("47 3 9 texts\n") or not named or "ended with status 0" not in said:
+    if status or not said.startswith("47 3 9 texts 7\n") or not named or "ended with status 0" not in said:
         raise Wrong(f"the program's own names are not its own: {told}{said}{trace}")
 
 
@@ -430,7 +432,7 @@ int main(void) {
 
 # Names of the C library that are the program's own.
 OWN_NAMES = """#include <pthread.h>
-extern int printf(const char *, ...), strsep(int), strtok(void);
+extern int printf(const char *, ...), strsep(int), strtok(void), regcomp(const char *);
 extern const char *stpcpy;
 extern struct { int a, b; } memmem;
 static int threads, ends[2];
@@ -440,7 +442,7 @@ int main(void) {
     pthread_create(&t, 0, work, 0);
     memmem.b++, threads++, ends[1]++;
     pthread_join(t, 0);
-    printf("%d %d %d %s\\n", strsep(5), memmem.b, strtok(), stpcpy);
+    printf("%d %d %d %s %d\\n", strsep(5), memmem.b, strtok(), stpcpy, regcomp("7"));
     return 0;
 }
 """
@@ -451,6 +453,10 @@ const char *stpcpy = "texts";
 """
 LIBRARY_NAMES = """static int nine = 9;
 int strtok(void) { return nine; }
+"""
+# A library of regular expressions, and how it is compiled.
+PATTERNS = ["-fPIC", "-shared", "fourth.c", "-olibpatterns.so"]
+PATTERN_NAMES = """int regcomp(const char *pattern) { return *pattern - '0'; }
 """
 
 # Regions in a function of a template in a class, and in main, and a task. Both threads read what the tasks write, so it

@@ -79,6 +79,13 @@ static void wrote(const volatile void *at, u64 size, u64 pc) {
     errno = error;
 }
 
+/* What a call read, where it is known when it has been made: before what it wrote. */
+static void went_over(const volatile void *at, u64 size, u64 pc) {
+    int error = errno;
+    if (at) accessed(READ, at, size, pc);
+    errno = error;
+}
+
 #define ACCESSES(n) \
     void __tsan_read##n(void *a) { access_(READ, a, n, PC); } \
     void __tsan_write##n(void *a) { access_(WRITE, a, n, PC); } \

@@ -33,6 +33,7 @@
 #include "wide.c"
 #include "fills.c"
 #include "attributes.c"
+#include "patterns.c"
 #undef syscall
 #include "futex.c"
 #define syscall raw_syscall

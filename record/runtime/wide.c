@@ -122,3 +122,73 @@ int __wrap_swprintf(wchar_t *to, size_t n, const wchar_t *format, ...) {
     va_end(words);
     return count;
 }
+
+/* ---- one letter, or a text, of the one kind that becomes one of the other. What was read of a text is known when it
+ * has been converted; what is kept of a letter that is not yet whole is written where it changed. ---- */
+
+/* What is kept between calls: that of the caller, or nothing, where it is the C library's. */
+struct kept {
+    mbstate_t *at, before;
+    u64 pc;
+};
+static struct kept keep(mbstate_t *state, u64 pc) {
+    struct kept k = {state, {0}, pc};
+    comes_to_call();
+    if (state) went_over(state, sizeof *state, pc), k.before = *state;
+    return k;
+}
+static void kept(const struct kept *k) {
+    if (k->at && __real_memcmp(k->at, &k->before, sizeof k->before)) wrote(k->at, sizeof *k->at, k->pc);
+}
+/* The bytes of a letter of which a call says that it has so many; one that is an end has one. */
+static size_t bytes_of(size_t answer, size_t most) { return answer <= most ? answer ? answer : 1 : 0; }
+
+WEAKLY int __real_mbtowc(wchar_t *, const char *, size_t), __real_wctomb(char *, wchar_t);
+WEAKLY size_t __real_mbrtowc(wchar_t *, const char *, size_t, mbstate_t *);
+WEAKLY size_t __real_wcrtomb(char *, wchar_t, mbstate_t *);
+int __wrap_mbtowc(wchar_t *to, const char *from, size_t n) {
+    comes_to_call();
+    int answer = __real_mbtowc(to, from, n);
+    if (from && answer >= 0) went_over(from, bytes_of((size_t)answer, n), PC);
+    wrote(to, to && from && answer >= 0 ? sizeof *to : 0, PC);
+    return answer;
+}
+int __wrap_wctomb(char *to, wchar_t letter) {
+    comes_to_call();
+    int answer = __real_wctomb(to, letter);
+    wrote(to, to && answer > 0 ? (u64)answer : 0, PC);
+    return answer;
+}
+size_t __wrap_mbrtowc(wchar_t *to, const char *from, size_t n, mbstate_t *state) {
+    struct kept k = keep(state, PC);
+    size_t answer = __real_mbrtowc(to, from, n, state);
+    if (from) went_over(from, answer == (size_t)-2 ? n : bytes_of(answer, n), PC);
+    wrote(to, to && from && answer <= n ? sizeof *to : 0, PC), kept(&k);
+    return answer;
+}
+size_t __wrap_wcrtomb(char *to, wchar_t letter, mbstate_t *state) {
+    struct kept k = keep(state, PC);
+    size_t answer = __real_wcrtomb(to, letter, state);
+    wrote(to, to && answer <= MB_LEN_MAX ? answer : 0, PC), kept(&k);
+    return answer;
+}
+
+/* The place of the text goes on where something is written, and is none at the text's end. */
+#define CONVERTS_TEXT(name, to_type, from_type, size_of) \
+    WEAKLY size_t __real_##name(to_type *, const from_type **, size_t, mbstate_t *); \
+    size_t __wrap_##name(to_type *to, const from_type **from, size_t n, mbstate_t *state) { \
+        struct kept k = keep(state, PC); \
+        const from_type *text = *from; \
+        went_over(from, sizeof *from, PC); \
+        size_t answer = __real_##name(to, from, n, state); \
+        int is_done = answer != ~0ul, is_whole = is_done && (!to || !*from); \
+        if (is_whole) went_over(text, size_of(text), PC); \
+        else if (to && *from > text) went_over(text, (u64)((const char *)*from - (const char *)text), PC); \
+        wrote(to, to &&is_done ? (answer + is_whole) * sizeof *to : 0, PC); \
+        wrote(from, to ? sizeof *from : 0, PC), kept(&k); \
+        return answer; \
+    }
+#define TEXT_SIZE(s) (__real_strlen(s) + 1)
+#define WIDE_SIZE(s) LETTERS_OF(__real_wcslen(s) + 1)
+CONVERTS_TEXT(mbsrtowcs, wchar_t, char, TEXT_SIZE)
+CONVERTS_TEXT(wcsrtombs, char, wchar_t, WIDE_SIZE)

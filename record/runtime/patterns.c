@@ -1,0 +1,58 @@
+/* Patterns of texts, and names of hosts. */
+#include <netdb.h>
+#include <regex.h>
+
+/* ---- regular expressions. Other libraries have functions of these names too, with patterns of another size. ---- */
+
+static int is_seen(const void *real, u64 from) {
+    return !IDLE && (u64)real - c_library.start < c_library.size && is_of_program(from);
+}
+#define IS_SEEN is_seen((const void *)real, (u64)__builtin_return_address(0))
+
+int regcomp(regex_t *to, const char *pattern, int how) {
+    REAL(regcomp, int, regex_t *, const char *, int);
+    if (!IS_SEEN) return real(to, pattern, how);
+    READS(pattern, __real_strlen(pattern) + 1);
+    int answer = real(to, pattern, how);
+    wrote(to, sizeof *to, PC);
+    return answer;
+}
+
+/* With REG_STARTEND the first match says where the text begins and ends. */
+int regexec(const regex_t *compiled, const char *s, size_t n, regmatch_t *to, int how) {
+    REAL(regexec, int, const regex_t *, const char *, size_t, regmatch_t *, int);
+    if (!IS_SEEN) return real(compiled, s, n, to, how);
+    READS(compiled, sizeof *compiled);
+    if (how & REG_STARTEND) {
+        READS(to, sizeof *to);
+        READS(s + to->rm_so, to->rm_eo > to->rm_so ? (u64)(to->rm_eo - to->rm_so) : 0);
+    } else READS(s, __real_strlen(s) + 1);
+    int finds = !compiled->no_sub, answer = real(compiled, s, n, to, how);
+    wrote(to, finds && !answer ? n * sizeof *to : 0, PC);
+    return answer;
+}
+
+void regfree(regex_t *of) {
+    REAL(regfree, void, regex_t *);
+    if (IS_SEEN) WRITES(&of->buffer, sizeof of->buffer);
+    real(of);
+}
+
+/* ---- names of hosts, by the linker's --wrap: the answers are blocks of the program ---- */
+
+WEAKLY int __real_getaddrinfo(const char *, const char *, const struct addrinfo *, struct addrinfo **);
+int __wrap_getaddrinfo(const char *host, const char *service, const struct addrinfo *hints, struct addrinfo **to) {
+    if (host) READS(host, __real_strlen(host) + 1);
+    if (service) READS(service, __real_strlen(service) + 1);
+    if (hints) READS(hints, offsetof(struct addrinfo, ai_addrlen));
+    comes_to_call();
+    int answer = __real_getaddrinfo(host, service, hints, to);
+    /* It may have waited for so long that others got the turn. */
+    if (!IDLE) keep_turn();
+    wrote(to, answer ? 0 : sizeof *to, PC);
+    for (struct addrinfo *a = answer || IDLE ? NULL : *to; a; a = a->ai_next) {
+        wrote(a, sizeof *a, PC), wrote(a->ai_addr, a->ai_addr ? a->ai_addrlen : 0, PC);
+        if (a->ai_canonname) wrote(a->ai_canonname, __real_strlen(a->ai_canonname) + 1, PC);
+    }
+    return answer;
+}
