@@ -49,6 +49,7 @@ EACH_COMPILER = (
     "accepted.c",
     "set_by_calls.c",
     "matched.c",
+    "received_from.c",
     "memory_streams.c",
     "conversions.c",
     "cut_texts.c",

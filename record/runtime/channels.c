@@ -164,12 +164,23 @@ static void goes_over(int kind, const struct iovec *v, size_t pieces, ssize_t by
 static size_t pieces_of(int n) { return n > 0 ? (size_t)n : 0; }
 #define ONE(at, n) (&(struct iovec){(void *)(at), (n)}), 1
 
-#define RECEIVES(name, given, passed_on, f, flags, ...) \
+/* Of an address so much is written as there was room. */
+static void wrote_address(int there, const void *a, const socklen_t *n, socklen_t room, u64 pc) {
+    if (!there || !a || !n) return;
+    wrote(a, *n < room ? *n : room, pc);
+    wrote(n, sizeof *n, pc);
+}
+
+/* `address` and `size` are where the address of who sent is wanted. */
+#define RECEIVES(name, given, passed_on, f, flags, address, size, ...) \
     ssize_t name given { \
+        const socklen_t *size_ = (size); \
+        socklen_t room = size_ ? *size_ : 0; \
         static ssize_t(*real) given; \
         if (!real) real = (ssize_t(*) given)next(#name, NULL); \
         ssize_t bytes = received(f, ON_CHANNEL(f, in_of(f), POLLIN, flags, real passed_on), PC); \
         goes_over(WRITE, __VA_ARGS__, bytes, PC); \
+        wrote_address(bytes >= 0, (address), size_, room, PC); \
         return bytes; \
     }
 #define SENDS(name, given, passed_on, f, flags, ...) \
@@ -180,10 +191,11 @@ static size_t pieces_of(int n) { return n > 0 ? (size_t)n : 0; }
         sends(f, PC); \
         return sent(f, ON_CHANNEL(f, out_of(f), POLLOUT, flags, real passed_on)); \
     }
-RECEIVES(readv, (int f, const struct iovec *v, int n), (f, v, n), f, 0, v, pieces_of(n))
-RECEIVES(recvfrom, (int f, void *to, size_t n, int g, struct sockaddr *a, socklen_t *m), (f, to, n, g, a, m), f, g,
-         ONE(to, n))
-RECEIVES(recvmsg, (int f, struct msghdr *m, int g), (f, m, g), f, g, m->msg_iov, m->msg_iovlen)
+RECEIVES(readv, (int f, const struct iovec *v, int n), (f, v, n), f, 0, NULL, NULL, v, pieces_of(n))
+RECEIVES(recvfrom, (int f, void *to, size_t n, int g, struct sockaddr *a, socklen_t *m), (f, to, n, g, a, m), f, g, a,
+         m, ONE(to, n))
+RECEIVES(recvmsg, (int f, struct msghdr *m, int g), (f, m, g), f, g, m->msg_name, &m->msg_namelen, m->msg_iov,
+         m->msg_iovlen)
 SENDS(writev, (int f, const struct iovec *v, int n), (f, v, n), f, 0, v, pieces_of(n))
 SENDS(sendto, (int f, const void *b, size_t n, int g, const struct sockaddr *a, socklen_t m), (f, b, n, g, a, m), f, g,
       ONE(b, n))

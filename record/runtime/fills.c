@@ -2,6 +2,7 @@
 #include <arpa/inet.h>
 #include <sys/statvfs.h>
 #include <sys/sysinfo.h>
+#include <sys/timerfd.h>
 #include <sys/times.h>
 #include <sys/utsname.h>
 
@@ -67,6 +68,32 @@ FILLS(int, getgroups, (int n, gid_t *to), (n, to), , to, answer > 0 && n ? (u64)
 FILLS(size_t, confstr, (int of, char *to, size_t n), (of, to, n), , to, to ? answer < n ? answer : n : 0)
 FILLS(int, sigaltstack, (const stack_t *s, stack_t *before), (s, before), s ? READS(s, sizeof *s) : (void)0, before,
       before && !answer ? sizeof *before : 0)
+
+/* Times that run, with what they were set to before. */
+#define SETS_TIME(name, given, passed_on) \
+    FILLS(int, name, given, passed_on, wanted ? READS(wanted, sizeof *wanted) : (void)0, before, \
+          before && !answer ? sizeof *before : 0)
+SETS_TIME(setitimer, (__itimer_which_t of, const struct itimerval *wanted, struct itimerval *before),
+          (of, wanted, before))
+SETS_TIME(timer_settime, (timer_t of, int how, const struct itimerspec *wanted, struct itimerspec *before),
+          (of, how, wanted, before))
+SETS_TIME(timerfd_settime, (int f, int how, const struct itimerspec *wanted, struct itimerspec *before),
+          (f, how, wanted, before))
+FILLS(int, timer_gettime, (timer_t of, struct itimerspec *to), (of, to), , to, answer ? 0 : sizeof *to)
+FILLS(int, timerfd_gettime, (int f, struct itimerspec *to), (f, to), , to, answer ? 0 : sizeof *to)
+FILLS(int, timer_create, (clockid_t of, struct sigevent *event, timer_t *to), (of, event, to), , to,
+      answer ? 0 : sizeof *to)
+
+/* Six letters of the name of a new file, in front of so many. */
+#define NAMES_FILE(type, name, given, passed_on, behind, there) \
+    FILLS(type, name, given, passed_on, READS(t, TEXT_AT(t)), \
+          t + (__real_strlen(t) >= 6u + (size_t)(behind) ? __real_strlen(t) - 6 - (size_t)(behind) : 0), \
+          (there) ? 6 : 0)
+NAMES_FILE(int, mkstemp, (char *t), (t), 0, answer >= 0)
+NAMES_FILE(int, mkstemp64, (char *t), (t), 0, answer >= 0)
+NAMES_FILE(int, mkostemp, (char *t, int how), (t, how), 0, answer >= 0)
+NAMES_FILE(int, mkstemps, (char *t, int behind), (t, behind), behind, answer >= 0)
+NAMES_FILE(char *, mkdtemp, (char *t), (t), 0, answer)
 
 /* What files of more than two gigabytes need is called by other names. */
 FILLS(int, getrlimit64, (int of, struct rlimit64 *to), (of, to), , to, answer ? 0 : sizeof *to)

@@ -1,5 +1,6 @@
-/* Patterns of texts, and names of hosts. */
+/* Patterns of texts, and names of hosts and of users. */
 #include <netdb.h>
+#include <pwd.h>
 #include <regex.h>
 
 /* ---- regular expressions. Other libraries have functions of these names too, with patterns of another size. ---- */
@@ -56,3 +57,26 @@ int __wrap_getaddrinfo(const char *host, const char *service, const struct addri
     }
     return answer;
 }
+
+/* What is known of a user: the texts lie in the room that the caller gives. */
+static void wrote_user(int answer, struct passwd **found, u64 pc) {
+    if (!IDLE) keep_turn();
+    wrote(found, sizeof *found, pc);
+    struct passwd *user = answer || IDLE ? NULL : *found;
+    if (!user) return;
+    wrote(user, sizeof *user, pc);
+    const char *texts[] = {user->pw_name, user->pw_passwd, user->pw_gecos, user->pw_dir, user->pw_shell};
+    for (size_t k = 0; k < sizeof texts / sizeof *texts; k++)
+        if (texts[k]) wrote(texts[k], __real_strlen(texts[k]) + 1, pc);
+}
+#define LOOKS_UP_USER(name, type, before) \
+    WEAKLY int __real_##name(type, struct passwd *, char *, size_t, struct passwd **); \
+    int __wrap_##name(type by, struct passwd *to, char *room, size_t n, struct passwd **found) { \
+        before; \
+        comes_to_call(); \
+        int answer = __real_##name(by, to, room, n, found); \
+        wrote_user(answer, found, PC); \
+        return answer; \
+    }
+LOOKS_UP_USER(getpwnam_r, const char *, READS(by, __real_strlen(by) + 1))
+LOOKS_UP_USER(getpwuid_r, uid_t, )

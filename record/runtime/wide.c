@@ -192,3 +192,29 @@ size_t __wrap_wcrtomb(char *to, wchar_t letter, mbstate_t *state) {
 #define WIDE_SIZE(s) LETTERS_OF(__real_wcslen(s) + 1)
 CONVERTS_TEXT(mbsrtowcs, wchar_t, char, TEXT_SIZE)
 CONVERTS_TEXT(wcsrtombs, char, wchar_t, WIDE_SIZE)
+
+/* Numbers of wide letters: each looks at the letter behind. */
+#define CONVERTS_WIDE(type, name, given, base) \
+    WEAKLY type __real_##name(const wchar_t *, wchar_t **given); \
+    type __wrap_##name(const wchar_t *s, wchar_t **end given) { \
+        wchar_t *stop = NULL; \
+        comes_to_call(); \
+        type answer = __real_##name(s, &stop base); \
+        if (!stop) return answer; \
+        went_over(s, LETTERS_OF((size_t)(stop - s) + 1), PC); \
+        wrote(end, end ? sizeof *end : 0, PC); \
+        if (end) *end = stop; \
+        return answer; \
+    }
+#define AND ,
+#define WHOLE_WIDE(before) \
+    CONVERTS_WIDE(long, before##wcstol, AND int base, AND base) \
+    CONVERTS_WIDE(unsigned long, before##wcstoul, AND int base, AND base) \
+    CONVERTS_WIDE(long long, before##wcstoll, AND int base, AND base) \
+    CONVERTS_WIDE(unsigned long long, before##wcstoull, AND int base, AND base)
+WHOLE_WIDE()
+WHOLE_WIDE(__isoc23_)
+CONVERTS_WIDE(double, wcstod, , )
+CONVERTS_WIDE(float, wcstof, , )
+CONVERTS_WIDE(long double, wcstold, , )
+#undef AND

@@ -195,11 +195,9 @@ int epoll_wait(int f, struct epoll_event *to, int n, int t) {
     return polled(f, to, answer, PC);
 }
 
-/* Who connected: so much of the address is written as there was room. */
+/* Who connected. */
 static int wrote_peer(int f, const struct sockaddr *a, const socklen_t *n, socklen_t room, u64 pc) {
-    if (f < 0 || !a || !n) return f;
-    wrote(a, *n < room ? *n : room, pc);
-    wrote(n, sizeof *n, pc);
+    wrote_address(f >= 0, a, n, room, pc);
     return f;
 }
 
