@@ -1,5 +1,6 @@
 /* Calls that fill memory of the program. What they wrote is known afterwards. By the linker's --wrap. */
 #include <arpa/inet.h>
+#include <sys/ioctl.h>
 #include <sys/statvfs.h>
 #include <sys/sysinfo.h>
 #include <sys/timerfd.h>
@@ -68,6 +69,21 @@ FILLS(int, getgroups, (int n, gid_t *to), (n, to), , to, answer > 0 && n ? (u64)
 FILLS(size_t, confstr, (int of, char *to, size_t n), (of, to, n), , to, to ? answer < n ? answer : n : 0)
 FILLS(int, sigaltstack, (const stack_t *s, stack_t *before), (s, before), s ? READS(s, sizeof *s) : (void)0, before,
       before && !answer ? sizeof *before : 0)
+
+/* How many bytes are there, or how large a terminal is: of other requests nothing is known. */
+extern int __real_ioctl(int, unsigned long, ...);
+int __wrap_ioctl(int f, unsigned long what, ...) {
+    va_list words;
+    va_start(words, what);
+    void *to = va_arg(words, void *);
+    va_end(words);
+    int is_count = what == FIONREAD || what == TIOCOUTQ;
+    size_t size = is_count ? sizeof(int) : what == TIOCGWINSZ ? sizeof(struct winsize) : 0;
+    if (size) comes_to_call();
+    int answer = __real_ioctl(f, what, to);
+    if (size) wrote(to, answer ? 0 : size, PC);
+    return answer;
+}
 
 /* Times that run, with what they were set to before. */
 #define SETS_TIME(name, given, passed_on) \

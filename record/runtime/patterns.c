@@ -48,8 +48,6 @@ int __wrap_getaddrinfo(const char *host, const char *service, const struct addri
     if (hints) READS(hints, offsetof(struct addrinfo, ai_addrlen));
     comes_to_call();
     int answer = __real_getaddrinfo(host, service, hints, to);
-    /* It may have waited for so long that others got the turn. */
-    if (!IDLE) keep_turn();
     wrote(to, answer ? 0 : sizeof *to, PC);
     for (struct addrinfo *a = answer || IDLE ? NULL : *to; a; a = a->ai_next) {
         wrote(a, sizeof *a, PC), wrote(a->ai_addr, a->ai_addr ? a->ai_addrlen : 0, PC);
@@ -60,7 +58,6 @@ int __wrap_getaddrinfo(const char *host, const char *service, const struct addri
 
 /* What is known of a user: the texts lie in the room that the caller gives. */
 static void wrote_user(int answer, struct passwd **found, u64 pc) {
-    if (!IDLE) keep_turn();
     wrote(found, sizeof *found, pc);
     struct passwd *user = answer || IDLE ? NULL : *found;
     if (!user) return;
@@ -80,3 +77,11 @@ static void wrote_user(int answer, struct passwd **found, u64 pc) {
     }
 LOOKS_UP_USER(getpwnam_r, const char *, READS(by, __real_strlen(by) + 1))
 LOOKS_UP_USER(getpwuid_r, uid_t, )
+
+/* The answer lies in memory of the C library, the same for each call. */
+#define LOOKS_UP(type, name, by_type, before) \
+    FILLS(struct type *, name, (by_type by), (by), before, answer, answer ? sizeof *answer : 0)
+#define READS_NAME READS(by, __real_strlen(by) + 1)
+LOOKS_UP(passwd, getpwnam, const char *, READS_NAME)
+LOOKS_UP(passwd, getpwuid, uid_t, )
+LOOKS_UP(hostent, gethostbyname, const char *, READS_NAME)

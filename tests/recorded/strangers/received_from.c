@@ -1,11 +1,13 @@
-/* What calls give back in memory of their caller: who sent a message, timers, names of new files, what is known of a
- * user, and where a number ends. Another thread reads it. */
+/* What calls give back in memory of their caller, or in that of all callers: who sent a message, timers, names of new
+ * files, what is known of users and hosts, and where a number ends. Another thread reads it. */
 #define _GNU_SOURCE
+#include <netdb.h>
 #include <pthread.h>
 #include <pwd.h>
 #include <signal.h>
 #include <stdio.h>
 #include <stdlib.h>
+#include <sys/ioctl.h>
 #include <sys/socket.h>
 #include <sys/time.h>
 #include <sys/timerfd.h>
@@ -22,6 +24,7 @@ static struct itimerspec left, left_of_file, was, was_of_file, nothing;
 static timer_t timer, other_timer;
 static char file[32] = "/tmp/strangersXXXXXX", folder[32] = "/tmp/strangersXXXXXX", room[1024];
 static struct passwd user, *found;
+static int waiting;
 static wchar_t number[8] = L"12 34", *end;
 static __thread volatile long n;
 
@@ -35,6 +38,7 @@ static void receives(void) {
 
 static void *calls(void *p) {
     struct sigevent no_signal = {.sigev_notify = SIGEV_NONE};
+    n += ioctl(to_socket, FIONREAD, &waiting); /* RACE m */
     receives();
     n += setitimer(ITIMER_VIRTUAL, &no_interval, &interval); /* RACE c */
     n += timer_create(CLOCK_MONOTONIC, &no_signal, &timer); /* RACE d */
@@ -46,6 +50,8 @@ static void *calls(void *p) {
     if (!mkdtemp(folder)) abort(); /* RACE j */
     n += getpwuid_r(0, &user, room, sizeof room, &found); /* RACE k */
     n += wcstol(number, &end, 10); /* RACE l */
+    n += getpwuid(0) != NULL; /* RACE o */
+    n += gethostbyname("127.0.0.1") != NULL; /* RACE p */
     return p;
 }
 
@@ -63,6 +69,9 @@ static void *uses(void *p) {
     n += found != NULL; /* RACE k */
     number[2] = L' '; /* RACE l */
     n += end != NULL; /* RACE l */
+    n += waiting; /* RACE m */
+    n += getpwuid(0)->pw_uid; /* RACE o */
+    n += gethostbyname("127.0.0.1")->h_length; /* RACE p */
     number[3] = L'3';
     return p;
 }
