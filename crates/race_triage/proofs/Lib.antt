@@ -19,3 +19,4 @@ pub mod SameLemmas
 pub mod VerdictLemmas
 mod WorkerLemmas
 mod TotalLemmas
+mod TurnedLemmas

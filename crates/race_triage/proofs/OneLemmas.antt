@@ -1,6 +1,5 @@
 -- A right verdict on two places is one, whichever call finds it.
 use Rattle.std.proofs.Common.{◌≡◌, ◌≢◌, ℕ, zero, suc, ◌+◌, ◌<◌, ◌≤◌, ◌==◌, ◌⊎◌, Bool, true, false, List, [], ◌∷◌, ◌++◌, All, AllPairs, Any, Contains, length, take, get_or, Option, Some, None, refl, sym, ap, ◌∙◌, subst, arith, inl, inr}
-use Rattle.std.specs.Prelude.{option_map, find}
 use Rattle.std.specs.List.{slice_get}
 use Rattle.std.proofs.lemmas.Bool.{cases_lt, cases_order, eqb-true, or_cases, true≢false}
 use Rattle.std.proofs.lemmas.List.{get_or_default, take_all}
@@ -12,17 +11,9 @@ use Rattle.rapid_text.specs.declared.event.Event.{Event}
 use Rattle.rapid_text.specs.declared.event.Op.{Op}
 use Rattle.rapid_text.specs.declared.event.Op.TheVariants.{Read, Write, Acquire, Release, Fork, Join}
 use Rattle.event_index.specs.Events.{passes_by}
-use Rattle.event_index.specs.Least.{IsLeastOf as IsLeastNumber}
 use Rattle.event_index.specs.Lookups.{before}
-use Rattle.event_index.proofs.CallerLemmas.{find_cases, find-least}
 use Rattle.event_index.specs.Relations.{is_access}
-use Rattle.schedule.specs.Shows.{does_show}
-use Rattle.witness_search.specs.Greedy.{after_steps, first_shown, IsGreedyAnswer}
-use Rattle.witness_search.proofs.CallerLemmas.{IsGreedyAnswer-unique}
 use Rattle.witness_search.proofs.RisingLemmas.{rising-unique}
-use Rattle.witness_search.specs.trace_order.Counting.{IsLeft}
-use Rattle.witness_search.specs.trace_order.InOrder.{AreNeeded}
-use Rattle.witness_search.specs.trace_order.Orders.{IsTurned}
 use Rattle.witness_search.specs.trace_order.Refusals.{IsNeverShownInOrder}
 use Rattle.witness_search.specs.trace_order.Sizes.{HasSize}
 use Rattle.explain_report.specs.declared.verdict.How.{How}
@@ -47,6 +38,7 @@ use Rattle.race_triage.specs.declared.verdicts.Verdict.{Verdict}
 use Rattle.race_triage.proofs.BudgetLemmas.{IsBudget-unique, IsCountOf-unique, counts_same, row_of}
 use Rattle.race_triage.proofs.ListLemmas.{one_rising, some_or_all}
 use Rattle.race_triage.proofs.OnceLemmas.{distinct-le}
+use Rattle.race_triage.proofs.TurnedLemmas.{AreNeeded-unique, IsLeft-unique, IsTurned-unique}
 
 pair_same : (p q : ℕ × ℕ) → p.0 ≡ q.0 → p.1 ≡ q.1 → p ≡ q
 pair_same p q one other = ap (λ x. (x, p.1)) one ∙ ap (λ y. (q.0, y)) other
@@ -77,33 +69,8 @@ not_both_ways p q ahead up = elim (up_or_same q p up) [
   | inr back ↦ ahead_apart p q ahead back
 ]
 
--- the first list that shows the pair is the first of more lists, too
-module _ (T : List Event) (a b : ℕ) (N P : List ℕ) (budget more : ℕ) (Q : List ℕ) (le : budget ≤ more) where
-  abbrev shown : ℕ → Bool
-  shown j = does_show T (after_steps T a b N P j) a b
-
-  found_among : (o : Option ℕ) → IsLeastNumber (λ e. (e < budget + 1) × (shown e ≡ true)) o → option_map (after_steps T a b N P) o ≡ Some Q → find shown (before (more + 1)) ≡ o
-  found_among None least none = cc none
-  found_among (Some j) least some =
-      find-least shown (more + 1) (Some j) (
-        (omega (arith, least.0.0, le), least.0.1),
-        λ e h. elim (cases_lt e j) [
-          | inl early ↦ let up = least.1 e (omega (arith, early, least.0.0), h.1) in absurd (omega (arith, early, up))
-          | inr late ↦ late
-        ],
-      )
-
-  pub first_shown-more : first_shown T a b N P budget ≡ Some Q → first_shown T a b N P more ≡ Some Q
-  first_shown-more is =
-      let found : Option ℕ = find shown (before (budget + 1)) in
-      ap (option_map (after_steps T a b N P)) (found_among found (find_cases shown (budget + 1) found refl) is) ∙ is
-
 -- a list that is found is one
 module _ (T : List Event) where
-  pub AreNeeded-unique : (start : ℕ → Type 0) (P Q : List ℕ) → AreNeeded T start P → AreNeeded T start Q → P ≡ Q
-  AreNeeded-unique start P Q one other =
-      rising-unique P Q one.rising other.rising (λ e has. (other.members e).1 ((one.members e).0 has)) (λ e has. (one.members e).1 ((other.members e).0 has))
-
   pub HasSize-unique : (P : List ℕ) (n k m l : ℕ) → HasSize T P n k → HasSize T P m l → (n ≡ m) × (k ≡ l)
   HasSize-unique P n k m l one other =
       let same : one.threads ≡ other.threads =
@@ -113,45 +80,10 @@ module _ (T : List Event) where
       (sym one.events ∙ other.events, sym one.count ∙ ap (λ (ts : List ℕ). length ts) same ∙ other.count)
 
   module _ (a b : ℕ) where
-    pub IsTurned-unique : (budget : ℕ) (f g : Option (List ℕ)) → IsTurned T a b budget f → IsTurned T a b budget g → f ≡ g
-    IsTurned-unique budget f g (inl one) (inl other) =
-        let from : one.1 ≡ other.1 = AreNeeded-unique _ one.1 other.1 one.2.start other.2.start in
-        IsGreedyAnswer-unique T other.1 a b budget f g (subst (λ (S : List ℕ). IsGreedyAnswer T S a b budget f) from one.2.answer) other.2.answer
-    IsTurned-unique budget f g (inl one) (inr other) = absurd (other.0 one.0)
-    IsTurned-unique budget f g (inr one) (inl other) = absurd (one.0 other.0)
-    IsTurned-unique budget f g (inr one) (inr other) = one.1 ∙ sym other.1
-
-    -- what is found by fewer steps is found by more
-    pub IsTurned-more : (budget more : ℕ) (P : List ℕ) → IsTurned T a b budget (Some P) → budget ≤ more → IsTurned T a b more (Some P)
-    IsTurned-more budget more P (inl (conflict, S, from)) le =
-        let answer = from.answer in
-        inl (
-          conflict,
-          S,
-          record {
-            start = from.start;
-            ready = from.ready;
-            answer = record { wanted = answer.wanted; are_wanted = answer.are_wanted; is = sym (first_shown-more T a b answer.wanted S budget more P le (sym answer.is)) };
-          },
-        )
-    IsTurned-more budget more P (inr one) le = cc one.1
-
-    IsLeft-unique : (budget m n : ℕ) → IsLeft T a b budget m → IsLeft T a b budget n → m ≡ n
-    IsLeft-unique budget m n one other =
-        let start : one.start ≡ other.start = AreNeeded-unique _ one.start other.start one.are_needed other.are_needed in
-        let wanted : one.wanted ≡ other.wanted =
-        rising-unique one.wanted other.wanted one.are_wanted.rising other.are_wanted.rising (λ e has. (other.are_wanted.members e).1 ((one.are_wanted.members e).0 has))
-        (λ e has. (one.are_wanted.members e).1 ((other.are_wanted.members e).0 has))
-        in
-        let long : length (after_steps T a b one.wanted one.start budget) ≡ length (after_steps T a b other.wanted other.start budget) =
-        ap (λ (N : List ℕ). length (after_steps T a b N one.start budget)) wanted ∙ ap (λ (S : List ℕ). length (after_steps T a b other.wanted S budget)) start in
-        let size : length one.start ≡ length other.start = ap (λ (S : List ℕ). length S) start in
-        omega (arith, one.steps, other.steps, long, size)
-
     pub IsFoundAs-unique : (how : How) (P Q : List ℕ) → IsFoundAs T a b how P → IsFoundAs T a b how Q → P ≡ Q
-    IsFoundAs-unique Candidate P Q one other = AreNeeded-unique _ P Q one other
-    IsFoundAs-unique Beyond P Q one other = AreNeeded-unique _ P Q one other
-    IsFoundAs-unique Turned P Q one other = same_Some P Q (IsTurned-unique BUDGET (Some P) (Some Q) one other)
+    IsFoundAs-unique Candidate P Q one other = AreNeeded-unique T _ P Q one other
+    IsFoundAs-unique Beyond P Q one other = AreNeeded-unique T _ P Q one other
+    IsFoundAs-unique Turned P Q one other = same_Some P Q (IsTurned-unique T a b BUDGET (Some P) (Some Q) one other)
 
     pub sizes_same : (how : How) (n k m l : ℕ) → IsShownBy T a b how n k → IsShownBy T a b how m l → (n ≡ m) × (k ≡ l)
     sizes_same how n k m l one other =
@@ -161,13 +93,13 @@ module _ (T : List Event) where
     -- what is found is not missed
     pub found_not_missed : (budget left : ℕ) → IsFoundBy T a b budget → IsMissed T a b budget left → ⊥
     found_not_missed budget left (inl shown) missed = missed.0 shown.0 shown.1.0 shown.1.1 shown.1.2
-    found_not_missed budget left (inr (P, found)) missed = cc (IsTurned-unique budget (Some P) None found missed.1)
+    found_not_missed budget left (inr (P, found)) missed = cc (IsTurned-unique T a b budget (Some P) None found missed.1)
 
   -- what is left of a budget is one
   pub AreMissed-unique : (ts : List Try) (budget m n : ℕ) → AreMissed T budget ts m → AreMissed T budget ts n → m ≡ n
   AreMissed-unique [] budget m n one other = one ∙ sym other
   AreMissed-unique (t ∷ ts) budget m n (k, (never, turned, left), rest) (l, (shown, also, more), behind) =
-      let same : k ≡ l = IsLeft-unique t.pair.1 t.pair.0 budget k l left more in
+      let same : k ≡ l = IsLeft-unique T t.pair.1 t.pair.0 budget k l left more in
       AreMissed-unique ts l m n (subst (λ j. AreMissed T j ts m) same rest) behind
 
   -- one more that is missed

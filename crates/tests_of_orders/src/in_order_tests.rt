@@ -50,12 +50,19 @@ const TWO_LOCKS: &[u8] =
     b"T1|acq(m)|1\nT1|acq(l)|2\nT1|acq(l)|3\nT1|w(v)|4\nT1|rel(l)|5\nT1|rel(l)|6\nT1|rel(m)|7\nT1|w(y)|8\n\
 T2|acq(l)|9\nT2|rel(l)|10\nT2|w(u)|11\nT2|acq(m)|12\nT2|rel(m)|13\nT2|w(x)|14\nT3|r(v)|15\nT3|w(x)|16\nT3|w(u)|17\nT3|w(y)|18\nT3|w(v)|19";
 
+// Each thread goes through the other's lock, and then writes x while it holds its own.
+const READ_LOCKS: &[u8] = b"T1|acq(r2)|1\nT1|rel(r2)|2\nT1|acq(r1)|3\nT1|w(x)|4\nT1|rel(r1)|5\n\
+T2|acq(r1)|6\nT2|rel(r1)|7\nT2|acq(r2)|8\nT2|w(x)|9\nT2|rel(r2)|10";
+
 const ROWS: &[(&[u8], Question)] = &[
     (ONE_LOCK, Question::InOrder((0, 5), &[3, 4])),
     (ONE_LOCK, Question::Size((0, 5), (2, 1))),
     (ONE_LOCK, Question::Turned((0, 5), &[3, 4])),
     (ONE_LOCK, Question::TurnedSize((0, 5), (2, 1))),
     (ONE_LOCK, Question::Free(&[3, 4])),
+    // The first search has taken r2 for T2, so T1 can't go through it. The second search begins before both locks.
+    (READ_LOCKS, Question::Turned((3, 8), &[0, 1, 5, 6, 2, 7])),
+    (READ_LOCKS, Question::TurnedSize((3, 8), (6, 2))),
     // All of T1 but its last event, T2 up to its write of x, and the read.
     (TWO_LOCKS, Question::Size((13, 15), (13, 3))),
     // The sections of l alone.

@@ -1,6 +1,6 @@
 -- The steps of the greedy search. `T` is the events of a trace that keeps the rules, `P` a correct
 -- reordering of it.
-use Rattle.std.proofs.Common.{◌≡◌, ℕ, zero, suc, ◌+◌, ◌-◌, ◌<◌, ◌≤◌, ◌⊎◌, ◌&&◌, ◌==◌, not, Bool, true, false, List, [], ◌∷◌, ◌++◌, cond, filter, length, find, option_map, Option, Some, None, Result, Ok, sym, refl, ap, ◌∙◌, arith, add-one, inl, inr}
+use Rattle.std.proofs.Common.{◌≡◌, ℕ, zero, suc, ◌+◌, ◌-◌, ◌<◌, ◌≤◌, ◌⊎◌, ◌&&◌, ◌==◌, not, Bool, true, false, List, [], ◌∷◌, ◌++◌, cond, filter, length, find, option_map, Option, Some, None, IfSome, Result, Ok, sym, refl, ap, ◌∙◌, subst, arith, add-one, inl, inr}
 use Rattle.std.specs.Option.{is_none}
 use Rattle.std.proofs.lemmas.Bool.{cases_Bool, cases_eq, cases_lt, cond_below, cond_above, and_parts, true≢false}
 use Rattle.std.proofs.lemmas.List.{length_push}
@@ -19,7 +19,7 @@ use Rattle.schedule.specs.Refusals.{refusal_of, next_of}
 use Rattle.schedule.specs.Reordering.{IsCorrectReordering, IsPrefix}
 use Rattle.schedule.specs.Shows.{Shows, is_ready, does_show}
 use Rattle.schedule.proofs.CallerLemmas.{Allows, Allows-enabled, IsEnabled-none, is_ready-true}
-use Rattle.witness_search.specs.Greedy.{may_take, next_step, followed_by, after_steps, first_shown, IsGreedyAnswer}
+use Rattle.witness_search.specs.Greedy.{may_take, next_step, followed_by, after_steps, first_shown, IsGreedyAnswer, IsGreedyRun}
 use Rattle.witness_search.specs.Layout.{kept}
 use Rattle.witness_search.specs.Wanted.{AreWanted}
 use Rattle.witness_search.proofs.KeptLemmas.{event_there, kept_member, kept_passes, kept-rises}
@@ -233,3 +233,20 @@ AreWanted-unique T a b M N are also =
 pub IsGreedyAnswer-unique : (T : List Event) (P : List ℕ) (a b budget : ℕ) (found other : Option (List ℕ)) → IsGreedyAnswer T P a b budget found → IsGreedyAnswer T P a b budget other → found ≡ other
 IsGreedyAnswer-unique T P a b budget found other is also =
     is.is ∙ ap (λ N. first_shown T a b N P budget) (AreWanted-unique T a b is.wanted also.wanted is.are_wanted also.are_wanted) ∙ sym also.is
+
+-- what a run of the search finds
+module _ (T : List Event) (P : List ℕ) (a b budget : ℕ) where
+  pub IsGreedyAnswer-run : (found : Option (List ℕ)) (left : ℕ) → IsGreedyRun T P a b budget found left → IsGreedyAnswer T P a b budget found
+  IsGreedyAnswer-run found left run = record { wanted = run.wanted; are_wanted = run.are_wanted; is = run.is }
+
+  pub run_begins : (found : Option (List ℕ)) (left : ℕ) → IsGreedyRun T P a b budget found left → IfSome found (IsPrefix P)
+  run_begins None left run = tt
+  run_begins (Some L) left run =
+      let (j, low, after, shows) = first_shown-some T a b run.wanted P budget L (sym run.is) in
+      subst (IsPrefix P) after (after_steps-begins T a b run.wanted P j)
+
+  pub run_fits : (found : Option (List ℕ)) (left : ℕ) → IsGreedyRun T P a b budget found left → IfSome found (λ L. length L ≤ length P + budget)
+  run_fits None left run = tt
+  run_fits (Some L) left run =
+      let (j, low, after, shows) = first_shown-some T a b run.wanted P budget L (sym run.is) in
+      omega (arith, low, ap (λ (Q : List ℕ). length Q) after, after_steps-length T a b run.wanted P j)

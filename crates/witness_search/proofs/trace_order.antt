@@ -4,6 +4,7 @@ pub mod ClosedLemmas
 pub mod ClosingLemmas
 pub mod EnableLemmas
 pub mod FoundLemmas
+pub mod FrontLemmas
 pub mod HoldLemmas
 pub mod JoinLemmas
 pub mod LaneLemmas
@@ -19,6 +20,7 @@ pub mod StandLemmas
 pub mod SumLemmas
 pub mod TakeLemmas
 pub mod TurnLemmas
+pub mod TwiceLemmas
 pub mod WantLemmas
 pub mod WriteLemmas
 pub mod LeftLemmas

@@ -1,6 +1,6 @@
 -- A search that always appends the first event that it may take, and never goes back. This project's own. `T` is the
 -- events of a trace, `P` a correct reordering of it, and a and b the pair to be shown.
-use Rattle.std.specs.Prelude.{◌≡◌, ℕ, zero, suc, ◌+◌, ◌==◌, Bool, not, ◌&&◌, List, [], ◌∷◌, ◌++◌, find, Option, Some, None, option_map}
+use Rattle.std.specs.Prelude.{◌≡◌, ℕ, zero, suc, ◌+◌, ◌==◌, Bool, not, ◌&&◌, List, [], ◌∷◌, ◌++◌, length, find, Option, Some, None, option_map}
 use Rattle.std.specs.List.{range_with_len}
 use Rattle.std.specs.Option.{is_none}
 use Rattle.rapid_text.specs.declared.event.Event.{Event}
@@ -35,3 +35,11 @@ pub record IsGreedyAnswer (T : List Event) (P : List ℕ) (a b budget : ℕ) (fo
   pub wanted : List ℕ
   pub are_wanted : AreWanted T a b wanted
   pub is : found ≡ first_shown T a b wanted P budget
+
+-- How the search from P on ends: its result, and if it finds nothing, how many of its steps are not taken. Each step
+-- that it takes adds one event to the list.
+pub record IsGreedyRun (T : List Event) (P : List ℕ) (a b budget : ℕ) (found : Option (List ℕ)) (left : ℕ) : Type 0 where
+  pub wanted : List ℕ
+  pub are_wanted : AreWanted T a b wanted
+  pub is : found ≡ first_shown T a b wanted P budget
+  pub steps : found ≡ None → length (after_steps T a b wanted P budget) + left ≡ length P + budget

@@ -7,7 +7,7 @@ ghost use Rattle.event_index.specs.Relations.{IsConflicting};
 ghost use Rattle.schedule.specs.Refusals.{refusal_of};
 ghost use Rattle.schedule.specs.Reordering.{IsCorrectReordering, IsPrefix};
 ghost use Rattle.schedule.specs.Shows.{Shows};
-ghost use Rattle.witness_search.specs.Greedy.{next_step, first_shown, IsGreedyAnswer};
+ghost use Rattle.witness_search.specs.Greedy.{next_step, after_steps, first_shown, IsGreedyAnswer, IsGreedyRun};
 ghost use Rattle.event_index.specs.Least.{IsLeastOf};
 ghost use Rattle.witness_search.specs.Searches.{TellWanted, marked_events, is_step, lesser, IsStepOf};
 
@@ -56,14 +56,35 @@ pub fn greedy(
     if !conflict(indexed, first, second) {
         return Ok(None);
     }
-    let wanted = wanted_for(alloc, indexed, first, second)?;
+    let mut left = budget;
+    let found = greedy_within(alloc, indexed, start, (first, second), &mut left)?;
+    Ok(found)
+}
+
+/// The same search, with at most `left` steps, for two events of the trace. If it finds nothing, it subtracts the
+/// steps that it took from `left`.
+pub(crate) fn greedy_within(
+    alloc: Global,
+    indexed: &Indexed,
+    start: &Schedule,
+    pair: (u32, u32),
+    left: &mut u32,
+) -> Result<Option<EventList>, OutOfMemory>
+    requires trace { start.now.trace ≡ indexed.now }
+    requires first { pair.0 < length indexed.now.events }
+    requires second { pair.1 < length indexed.now.events }
+    ensures run { IfOk result (λ found. IsGreedyRun indexed.now.events start.now.events pair.0 pair.1 left.old found left.new) }
+    ensures reordering { IfOk result (λ found. IfSome found (IsCorrectReordering indexed.now.events)) }
+    ensures shows { IfFound result (λ list. Shows indexed.now.events list pair.0 pair.1) }
+{
+    let wanted = wanted_for(alloc, indexed, pair.0, pair.1)?;
     let aim = Aim {
-        first,
-        second,
+        first: pair.0,
+        second: pair.1,
         wanted,
     };
     let mut schedule = copied(alloc, indexed, start)?;
-    if !search(&mut schedule, indexed, &aim, budget)? {
+    if !search(&mut schedule, indexed, &aim, left)? {
         return Ok(None);
     }
     let events = EventList::of(alloc, schedule.events())?;
@@ -98,32 +119,40 @@ fn copied(alloc: Global, indexed: &Indexed, start: &Schedule) -> Result<Schedule
     Ok(schedule)
 }
 
-// Takes steps until the schedule shows the pair, or no step is possible. Returns whether it shows the pair.
+// Takes at most `left` steps until the schedule shows the pair, or no step is possible. Returns whether it shows the
+// pair. If not, `left` falls by the number of steps taken.
 fn search(
     schedule: &mut Schedule,
     indexed: &Indexed,
     aim: &Aim,
-    budget: u32,
+    left: &mut u32,
 ) -> Result<bool, OutOfMemory>
     requires trace { schedule.old.trace ≡ indexed.now }
     requires marks { length aim.now.wanted.items ≡ length indexed.now.events }
     ensures trace { schedule.new.trace ≡ indexed.now }
     ensures shown { result ≡ Ok true
-        → first_shown indexed.now.events aim.now.first aim.now.second (marked_events indexed.now.events aim.now.wanted.items) schedule.old.events budget
+        → first_shown indexed.now.events aim.now.first aim.now.second (marked_events indexed.now.events aim.now.wanted.items) schedule.old.events left.old
         ≡ Some schedule.new.events }
     ensures none { result ≡ Ok false
-        → first_shown indexed.now.events aim.now.first aim.now.second (marked_events indexed.now.events aim.now.wanted.items) schedule.old.events budget
+        → first_shown indexed.now.events aim.now.first aim.now.second (marked_events indexed.now.events aim.now.wanted.items) schedule.old.events left.old
         ≡ None }
+    ensures left { result ≡ Ok false
+        → length (after_steps indexed.now.events aim.now.first aim.now.second (marked_events indexed.now.events aim.now.wanted.items) schedule.old.events left.old)
+        + left.new
+        ≡ length schedule.old.events + left.old }
 {
-    for _step in 0..budget {
+    let budget = *left;
+    for step in 0..budget {
         if schedule.shows(indexed, aim.first, aim.second) {
             return Ok(true);
         }
         let Some(event) = next_step(schedule, indexed, aim) else {
+            *left = budget - step;
             return Ok(false);
         };
         take_step(schedule, indexed, event)?;
     }
+    *left = 0;
     Ok(schedule.shows(indexed, aim.first, aim.second))
 }
 

@@ -5,6 +5,7 @@ mod acquires;
 mod closing;
 mod counting;
 mod enabling;
+mod fronts;
 mod holding;
 mod joining;
 mod lasting;

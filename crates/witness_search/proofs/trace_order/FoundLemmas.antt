@@ -1,28 +1,25 @@
 -- What a search by counts finds.
 use Rattle.std.proofs.Common.{◌≡◌, ℕ, ◌+◌, ◌<◌, ◌≤◌, List, length, get_or, Option, Some, None, sym, ap, ◌∙◌, arith, inl}
 use Rattle.std.proofs.lemmas.List.FromFn.{length-map-range_with_len}
-use Rattle.std.proofs.lemmas.Option.{slice_get-get_or}
+use Rattle.std.proofs.lemmas.Option.{none-some, slice_get-get_or}
 use Rattle.rapid_text.specs.Recording.{Recording, IsWellFormed}
 use Rattle.rapid_text.specs.declared.event.Event.{Event}
 use Rattle.trace_rules.specs.Rules.{IsDisciplined}
 use Rattle.event_index.specs.Lookups.{events_of}
-use Rattle.event_index.specs.Relations.{IsConflicting}
 use Rattle.event_index.proofs.CallerLemmas.{one_thread, place_of-events_of}
 use Rattle.shb_clocks.proofs.ReadLemmas.{thread_named}
-use Rattle.witness_search.specs.Greedy.{after_steps, first_shown}
 use Rattle.witness_search.specs.Searches.{TellWanted, marked_events}
 use Rattle.witness_search.proofs.RisingLemmas.{rising-unique}
 use Rattle.witness_search.proofs.StepLemmas.{AreWanted-marked, Shows-does_show, first_shown-some}
-use Rattle.witness_search.specs.trace_order.Aims.{IsAimFor}
-use Rattle.witness_search.specs.trace_order.Counting.{counts, counted_events, marks_of, IsAt, IsLeft, IsTurnedOfSize, IsWantedRow}
-use Rattle.witness_search.specs.trace_order.Laws.{IsBaseOf}
-use Rattle.witness_search.specs.trace_order.Layout.{IsListLength, IsNeededRow, IsThreadCount}
-use Rattle.witness_search.specs.trace_order.Orders.{IsTurned}
+use Rattle.witness_search.specs.Wanted.{AreWanted}
+use Rattle.witness_search.specs.trace_order.Aims.{IsAim, IsMissedFrom, IsRunOfSize}
+use Rattle.witness_search.specs.trace_order.Counting.{counts, counted_events, marks_of, IsAt}
+use Rattle.witness_search.specs.trace_order.Layout.{IsListLength, IsThreadCount}
 use Rattle.witness_search.specs.trace_order.Sizes.{HasSize, HasThread}
+use Rattle.witness_search.specs.trace_order.Standing.{found_within, LeavesSteps}
 use Rattle.witness_search.specs.declared.trace_order.enabling.Aim.{Aim}
 use Rattle.witness_search.proofs.trace_order.HoldLemmas.{Contains-counted, IsCounted-member}
-use Rattle.witness_search.proofs.trace_order.StandLemmas.{AreNeeded-events, counted-counts, counts-counted, is_marked-counts}
-use Rattle.witness_search.proofs.trace_order.TurnLemmas.{IsReady-needed}
+use Rattle.witness_search.proofs.trace_order.StandLemmas.{counted-counts, counts-counted, is_marked-counts}
 
 -- a row has one length
 pub IsListLength-one : (T : List Event) (row : ℕ → ℕ) (m n : ℕ) → IsListLength T row m → IsListLength T row n → m ≡ n
@@ -59,91 +56,45 @@ module _ (r : Recording) (well : IsWellFormed r) (start row : ℕ → ℕ) (last
     count = few;
   }
 
--- what the search answers from the row on
-module _ (T : List Event) (rules : IsDisciplined T) (a b budget : ℕ) (conflict : IsConflicting T a b) (low : b < length T)
-    (start wanted : ℕ → ℕ) (needs : IsNeededRow T (IsBaseOf T b) start) (within : (t : ℕ) → start t ≤ length (events_of T t)) (wants : IsWantedRow T a b wanted) where
-  abbrev S : List ℕ
-  S = counted_events T start
-
-  abbrev N : List ℕ
-  N = marked_events T (marks_of T wanted)
-
-  TellWanted-row : TellWanted T a b (marks_of T wanted)
-  TellWanted-row = record {
-    len = length-map-range_with_len (counts T wanted) 0 (length T);
-    marked = λ e. (
-      λ h. (wants e).0 (counts-counted T wanted e (sym (is_marked-counts T wanted e) ∙ h)),
-      λ is. is_marked-counts T wanted e ∙ counted-counts T wanted e ((wants e).1 is),
-    );
-  }
-
-  pub IsTurned-search : (found : Option (List ℕ)) → first_shown T a b N S budget ≡ found → IsTurned T a b budget found
-  IsTurned-search found is =
-      let are = AreNeeded-events T rules start b low needs within in
-      inl (
-        conflict,
-        S,
-        record {
-          start = are;
-          ready = IsReady-needed T rules b S low are;
-          answer = record { wanted = N; are_wanted = AreWanted-marked T rules a b (marks_of T wanted) TellWanted-row; is = sym is };
-        },
-      )
-
-  pub IsTurnedOfSize-search : (P : List ℕ) (row : ℕ → ℕ) (last : ℕ → Option (Option ℕ)) → IsAt T start row last P → first_shown T a b N S budget ≡ Some P
-      → (size : ℕ × ℕ) → HasSize T P size.0 size.1 → IsTurnedOfSize T a b budget size
-  IsTurnedOfSize-search P row last at is size has =
-      let (j, few, after, shows) = first_shown-some T a b N S budget P is in
-      record {
-        list = P;
-        turned = IsTurned-search (Some P) is;
-        reordering = at.correct;
-        shows = Shows-does_show T P a b at.correct shows;
-        size = has;
-      }
-
-  pub IsLeft-search : (left : ℕ) → length (after_steps T a b N S budget) + left ≡ length S + budget → IsLeft T a b budget left
-  IsLeft-search left is = record {
-    start = S;
-    are_needed = AreNeeded-events T rules start b low needs within;
-    wanted = N;
-    are_wanted = AreWanted-marked T rules a b (marks_of T wanted) TellWanted-row;
-    steps = is;
-  }
-
--- the same, by what the search starts from
-module _ (r : Recording) (rules : IsDisciplined r.events) (a b budget : ℕ) (conflict : IsConflicting r.events a b) (low : b < length r.events) (aim : Aim) (is : IsAimFor r a b aim) where
+-- how the search ends, by what it starts from
+module _ (r : Recording) (rules : IsDisciplined r.events) (aim : Aim) (is : IsAim r aim) (budget : ℕ) where
   abbrev from : ℕ → ℕ
   from t = get_or aim.start.items t 0
 
   abbrev to : ℕ → ℕ
   to t = get_or aim.wanted.items t 0
 
-  abbrev answer : Option (List ℕ) → Type 0
-  answer found = first_shown r.events aim.first aim.second (marked_events r.events (marks_of r.events to)) (counted_events r.events from) budget ≡ found
+  abbrev N : List ℕ
+  N = marked_events r.events (marks_of r.events to)
 
-  told : (found : Option (List ℕ)) → answer found → first_shown r.events a b (marked_events r.events (marks_of r.events to)) (counted_events r.events from) budget ≡ found
-  told found h =
-      ap (λ x. first_shown r.events x b (marked_events r.events (marks_of r.events to)) (counted_events r.events from) budget) (sym is.first)
-      ∙ ap (λ y. first_shown r.events aim.first y (marked_events r.events (marks_of r.events to)) (counted_events r.events from) budget) (sym is.second) ∙ h
+  TellWanted-row : TellWanted r.events aim.first aim.second (marks_of r.events to)
+  TellWanted-row = record {
+    len = length-map-range_with_len (counts r.events to) 0 (length r.events);
+    marked = λ e. (
+      λ h. (is.wants e).0 (counts-counted r.events to e (sym (is_marked-counts r.events to e) ∙ h)),
+      λ wanted. is_marked-counts r.events to e ∙ counted-counts r.events to e ((is.wants e).1 wanted),
+    );
+  }
 
-  pub aim_none : answer None → IsTurned r.events a b budget None
-  aim_none h = IsTurned-search r.events rules a b budget conflict low from to is.needs is.within is.wants None (told None h)
+  are_wanted : AreWanted r.events aim.first aim.second N
+  are_wanted = AreWanted-marked r.events rules aim.first aim.second (marks_of r.events to) TellWanted-row
 
-  abbrev after : ℕ → ℕ → List ℕ
-  after x y = after_steps r.events x y (marked_events r.events (marks_of r.events to)) (counted_events r.events from) budget
-
-  pub aim_left : (left : ℕ) → length (after aim.first aim.second) + left ≡ length (counted_events r.events from) + budget → IsLeft r.events a b budget left
-  aim_left left h =
-      IsLeft-search r.events rules a b budget conflict low from to is.needs is.within is.wants left
-      (ap (λ x. length (after x b) + left) (sym is.first) ∙ ap (λ y. length (after aim.first y) + left) (sym is.second) ∙ h)
+  pub aim_missed : (left : ℕ) → found_within r aim budget ≡ None → LeavesSteps r aim budget left → IsMissedFrom r aim budget left
+  aim_missed left none steps = record { wanted = N; are_wanted = are_wanted; is = sym none; steps = λ _. steps }
 
   module _ (well : IsWellFormed r) (row : List ℕ) (last : ℕ → Option (Option ℕ))
-      (found : (P : List ℕ) × IsAt r.events from (λ t. get_or row t 0) last P × answer (Some P)) where
+      (found : (P : List ℕ) × IsAt r.events from (λ t. get_or row t 0) last P × (found_within r aim budget ≡ Some P)) where
     pub aim_within : (t : ℕ) → get_or row t 0 ≤ length (events_of r.events t)
     aim_within = found.1.within
 
-    pub aim_some : (n k : ℕ) → IsListLength r.events (λ t. get_or row t 0) n → IsThreadCount (λ t. get_or row t 0) (length r.threads) k → IsTurnedOfSize r.events a b budget (n, k)
+    pub aim_some : (n k : ℕ) → IsListLength r.events (λ t. get_or row t 0) n → IsThreadCount (λ t. get_or row t 0) (length r.threads) k → IsRunOfSize r aim budget (n, k)
     aim_some n k long few =
-        IsTurnedOfSize-search r.events rules a b budget conflict low from to is.needs is.within is.wants found.0 (λ t. get_or row t 0) last found.1 (told (Some found.0) found.2)
-        (n, k) (HasSize-at r well from (λ t. get_or row t 0) last found.0 found.1 n k long few)
+        let P : List ℕ = found.0 in
+        let (j, low, after, shows) = first_shown-some r.events aim.first aim.second N (counted_events r.events from) budget P found.2 in
+        record {
+          list = P;
+          run = record { wanted = N; are_wanted = are_wanted; is = sym found.2; steps = λ none. absurd (none-some P (sym none)) };
+          reordering = found.1.correct;
+          shows = Shows-does_show r.events P aim.first aim.second found.1.correct shows;
+          size = HasSize-at r well from (λ t. get_or row t 0) last P found.1 n k long few;
+        }

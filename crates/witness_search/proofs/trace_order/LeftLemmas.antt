@@ -10,7 +10,7 @@ longer_by_one xs e n is = length-append xs (e ∷ []) ∙ ap (λ m. m + 1) is
 
 module _ (T : List Event) (a b : ℕ) (N P : List ℕ) (k : ℕ) (Q : List ℕ) (is : IsSearched T a b N P k Q) where
   -- where no step can be taken, none is
-  stays : next_step T a b N Q ≡ None → (j : ℕ) → after_steps T a b N P (k + j) ≡ Q
+  pub stays : next_step T a b N Q ≡ None → (j : ℕ) → after_steps T a b N P (k + j) ≡ Q
   unfolding after_steps
   stays none zero = ap (after_steps T a b N P) (omega arith) ∙ is.here
   stays none (suc j) =

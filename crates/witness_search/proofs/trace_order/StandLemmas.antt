@@ -122,22 +122,20 @@ op-writes T x e h =
 
 -- the search stands at a list
 module _ (T : List Event) (rules : IsDisciplined T) (row : ℕ → ℕ) where
-  -- where the row counts what is needed for an event its counts are those of its list
-  module _ (b : ℕ) (low : b < length T) (needs : IsNeededRow T (IsBaseOf T b) row) (within : (t : ℕ) → row t ≤ length (events_of T t)) where
-    abbrev S : List ℕ
-    S = counted_events T row
+  abbrev S : List ℕ
+  S = counted_events T row
 
-    pub AreNeeded-events : AreNeeded T (IsBaseOf T b) S
-    AreNeeded-events =
-        let are = IsCountedList-events T row in
-        record {
-          rising = are.rising;
-          members = λ e. (λ m. (needs e).0 ((are.members e).0 m), λ need. (are.members e).1 ((needs e).1 need));
-        }
+  -- the list of a row that counts what is needed
+  pub AreNeeded-events : (start : ℕ → Type 0) → IsNeededRow T start row → AreNeeded T start S
+  AreNeeded-events start needs =
+      let are = IsCountedList-events T row in
+      record {
+        rising = are.rising;
+        members = λ e. (λ m. (needs e).0 ((are.members e).0 m), λ need. (are.members e).1 ((needs e).1 need));
+      }
 
-    correct : IsCorrectReordering T S
-    correct = IsCorrectReordering-ready T rules b S low AreNeeded-events
-
+  -- where that list is a correct reordering, its counts are those of the row
+  module _ (correct : IsCorrectReordering T S) (within : (t : ℕ) → row t ≤ length (events_of T t)) where
     few : (t : ℕ) → count_by (is_of_thread T t) S ≤ length (events_of T t)
     few t =
         let xs : List ℕ = filter (is_of_thread T t) S in

@@ -12,14 +12,12 @@ use Rattle.must_order.specs.Layout.{IsCounted}
 use Rattle.schedule.specs.Refusals.{next_of}
 use Rattle.schedule.specs.Reordering.{IsCorrectReordering, StandsAfterFork, SeesItsWriter, FindsLockFree, JoinsEnded}
 use Rattle.witness_search.specs.Layout.{kept}
-use Rattle.witness_search.specs.Greedy.{after_steps}
-use Rattle.witness_search.specs.Wanted.{AreWanted, IsWanted}
+use Rattle.witness_search.specs.Wanted.{IsWanted}
 use Rattle.witness_search.specs.trace_order.Acquires.{IsTaken}
-use Rattle.witness_search.specs.trace_order.InOrder.{AreNeeded, IsBaseOfPair}
+use Rattle.witness_search.specs.trace_order.InOrder.{IsBaseOfPair}
 use Rattle.witness_search.specs.trace_order.Joining.{IsDownClosed}
-use Rattle.witness_search.specs.trace_order.Laws.{IsBaseOf}
 use Rattle.witness_search.specs.trace_order.Layout.{IsListLength}
-use Rattle.witness_search.specs.trace_order.Orders.{IsTurned}
+use Rattle.witness_search.specs.trace_order.Orders.{IsSearchedTwice, IsTurned}
 use Rattle.witness_search.specs.trace_order.Sizes.{HasSize}
 use Rattle.schedule.specs.Shows.{Shows}
 
@@ -101,7 +99,7 @@ pub record IsUp (T : List Event) (e : ℕ) (row new : ℕ → ℕ) : Type 0 wher
   pub here : new thread ≡ row thread + 1
   pub others : (u : ℕ) → u ≢ thread → new u ≡ row u
 
--- The search from the least list after which b is ready finds a list of n events, of k threads.
+-- The searches find a list of n events, of k threads.
 pub record IsTurnedOfSize (T : List Event) (a b budget : ℕ) (told : ℕ × ℕ) : Type 0 where
   pub list : List ℕ
   pub turned : IsTurned T a b budget (Some list)
@@ -109,18 +107,13 @@ pub record IsTurnedOfSize (T : List Event) (a b budget : ℕ) (told : ℕ × ℕ
   pub shows : Shows T list a b
   pub size : HasSize T list told.0 told.1
 
--- the result of the search, if there is one, has such a size
+-- the result of the searches, if there is one, has such a size
 abbrev pub SizeIfTurned : List Event → ℕ → ℕ → ℕ → Option (ℕ × ℕ) → Type 0
 SizeIfTurned T a b budget found = IfSome found (IsTurnedOfSize T a b budget)
 
--- The search from the least list after which b is ready takes at most `budget` steps, and `left` of them are not
--- taken. Each step that it takes adds one event to the list.
-pub record IsLeft (T : List Event) (a b budget left : ℕ) : Type 0 where
-  pub start : List ℕ
-  pub are_needed : AreNeeded T (IsBaseOf T b) start
-  pub wanted : List ℕ
-  pub are_wanted : AreWanted T a b wanted
-  pub steps : length (after_steps T a b wanted start budget) + left ≡ length start + budget
+-- the searches find nothing, and `left` of their `budget` steps are not taken
+abbrev pub IsLeft : List Event → ℕ → ℕ → ℕ → ℕ → Type 0
+IsLeft T a b budget left = IsSearchedTwice T a b budget None left
 
 -- if the two conflict, `left` steps are not taken
 abbrev pub IsLeftOf : List Event → ℕ → ℕ → ℕ → ℕ → Type 0

@@ -48,8 +48,8 @@ pub(crate) fn joined_in_order(
     unless_needed(row, indexed, first, second)
 }
 
-// For each thread, the number of its events that are needed for the pair.
-fn joined_for(
+/// For each thread, the number of its events that are needed for the pair.
+pub(crate) fn joined_for(
     alloc: Global,
     indexed: &Indexed,
     must: &Must,

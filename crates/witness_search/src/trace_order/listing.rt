@@ -115,8 +115,8 @@ pub(crate) fn judge(indexed: &Indexed, first: u32, second: u32) -> Result<(), In
     Ok(())
 }
 
-// For each thread, the number of its events that are needed for the pair.
-fn row_for(
+/// For each thread, the number of its events that are needed for the pair.
+pub(crate) fn row_for(
     alloc: Global,
     indexed: &Indexed,
     first: u32,

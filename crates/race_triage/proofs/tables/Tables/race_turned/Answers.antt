@@ -1,6 +1,6 @@
 use Rattle.std.proofs.Common.{ℕ, Option, IfSome, subst, inr}
 use Rattle.witness_search.specs.trace_order.Counting.{IsTurnedOfSize}
-use Rattle.race_triage.proofs.OneLemmas.{IsTurned-more}
+use Rattle.race_triage.proofs.TurnedLemmas.{IsTurned-more}
 use Rattle.race_triage.proofs.tables.Tables.race_turned.Goals as goal
 
 pub returns-in-Some-clause-race : goal.returns-in-Some-clause-race

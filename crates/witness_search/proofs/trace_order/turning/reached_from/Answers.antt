@@ -14,5 +14,5 @@ returns-clause-at c =
     let start = c.args.aim.now.start.items in
     subst (λ (xs : List ℕ). IsAt T (λ t. get_or start t 0) (λ t. get_or xs t 0) (get nat_eq c.new.result) (counted_events T (λ t. get_or start t 0)))
     (sym (c.in_ok-row.ensures.items ∙ c.as_slice.ensures.value))
-    (IsAt-start T c.len-len.ensures.disciplined (λ t. get_or start t 0) c.args.aim.now.second c.requires.second c.requires.aim.needs c.requires.aim.within
+    (IsAt-start T c.len-len.ensures.disciplined (λ t. get_or start t 0) c.requires.aim.correct c.requires.aim.within
     (get nat_eq c.new.result) (λ x. ap (lookup (nat_eq x)) c.new.ensures.empty))

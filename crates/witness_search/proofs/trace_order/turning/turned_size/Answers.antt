@@ -1,30 +1,36 @@
-use Rattle.std.proofs.Common.{rules, ◌≡◌, ℕ, List, Ok, true, false, get_or, length, nat_eq, ap, subst}
-use Rattle.std.specs.HashMap.{get}
-use Rattle.witness_search.specs.trace_order.Layout.{IsListLength, IsThreadCount}
-use Rattle.witness_search.proofs.trace_order.FoundLemmas.{aim_left, aim_none, aim_some}
+use Rattle.std.proofs.Common.{rules, ◌≡◌, is_some, false, None, inl}
+use Rattle.witness_search.proofs.trace_order.TwiceLemmas.{missed_twice, none_of, size_first-some, size_second-some}
 use Rattle.witness_search.proofs.trace_order.turning.turned_size.Goals as goal
 
-pub returns-then-not-branch-clause-none : goal.returns-then-not-branch-clause-none
-returns-then-not-branch-clause-none c =
-    let missed : c.in_ok-search.field-0 ≡ false = search rules in
-    λ _. aim_none c.args.indexed.now c.len-len.ensures.disciplined c.args.pair.0 c.args.pair.1 c.args.left.now
-    (c.are_conflicting.ensures.conflict.0 c.if-not-are_conflicting.false) (c.are_conflicting.ensures.second c.if-not-are_conflicting.false)
-    c.in_ok-aim.aim c.in_ok-aim.ensures (c.in_ok-search.ensures.none (ap Ok missed))
-
-pub returns-then-not-branch-clause-left : goal.returns-then-not-branch-clause-left
-returns-then-not-branch-clause-left c =
-    let missed : c.in_ok-search.field-0 ≡ false = search rules in
-    λ _ _. aim_left c.args.indexed.now c.len-len.ensures.disciplined c.args.pair.0 c.args.pair.1 c.args.left.now
-    (c.are_conflicting.ensures.conflict.0 c.if-not-are_conflicting.false) (c.are_conflicting.ensures.second c.if-not-are_conflicting.false)
-    c.in_ok-aim.aim c.in_ok-aim.ensures c.search.new.left (c.in_ok-search.ensures.left (ap Ok missed))
+pub returns-then-is_some-clause-size : goal.returns-then-is_some-clause-size
+returns-then-is_some-clause-size c =
+    let r = c.args.indexed.now in
+    size_first-some r c.len-len.ensures.disciplined c.args.pair.0 c.args.pair.1 (c.are_conflicting.ensures.second c.if-not-are_conflicting.false) c.in_ok-aim.aim c.in_ok-aim.ensures
+    (c.are_conflicting.ensures.conflict.0 c.if-not-are_conflicting.false) c.args.left.now c.in_ok-size.size c.in_ok-size.ensures.size
 
 pub returns-clause-size : goal.returns-clause-size
 returns-clause-size c =
     let r = c.args.indexed.now in
-    let shown : c.in_ok-search.field-0 ≡ true = search rules in
-    aim_some r c.len-len.ensures.disciplined c.args.pair.0 c.args.pair.1 c.args.left.now
-    (c.are_conflicting.ensures.conflict.0 c.if-not-are_conflicting.false) (c.are_conflicting.ensures.second c.if-not-are_conflicting.false)
-    c.in_ok-aim.aim c.in_ok-aim.ensures c.len-len.ensures.well_formed c.search.new.reached.row.items (get nat_eq c.search.new.reached.last)
-    (c.in_ok-search.ensures.shown (ap Ok shown)) c.events_counted.result c.threads_counted.result
-    (subst (λ (xs : List ℕ). IsListLength r.events (λ t. get_or xs t 0) c.events_counted.result) c.as_slice.ensures.value c.events_counted.ensures)
-    (subst (λ (xs : List ℕ). IsThreadCount (λ t. get_or xs t 0) (length r.threads) c.threads_counted.result) c.as_slice-2.ensures.value c.threads_counted.ensures)
+    let none : is_some c.in_ok-size.size ≡ false = search rules in
+    size_second-some r c.len-len.ensures.disciplined c.args.pair.0 c.args.pair.1 (c.are_conflicting.ensures.second c.if-not-are_conflicting.false) c.in_ok-aim.aim c.in_ok-aim.ensures
+    (c.are_conflicting.ensures.conflict.0 c.if-not-are_conflicting.false) c.args.left.now c.size_of.new.left c.in_ok-again.again
+    (c.in_ok-size.ensures.none (none_of c.in_ok-size.size none)) c.in_ok-again.ensures.size
+
+pub returns-clause-none : goal.returns-clause-none
+returns-clause-none c =
+    let r = c.args.indexed.now in
+    let none : is_some c.in_ok-size.size ≡ false = search rules in
+    let conflict = c.are_conflicting.ensures.conflict.0 c.if-not-are_conflicting.false in
+    λ is. inl (
+      conflict,
+      c.size_again.new.left,
+      missed_twice r c.len-len.ensures.disciplined c.args.pair.0 c.args.pair.1 (c.are_conflicting.ensures.second c.if-not-are_conflicting.false) c.in_ok-aim.aim c.in_ok-aim.ensures
+          c.args.left.now c.size_of.new.left c.size_again.new.left (c.in_ok-size.ensures.none (none_of c.in_ok-size.size none)) (c.in_ok-again.ensures.none is),
+    )
+
+pub returns-clause-left : goal.returns-clause-left
+returns-clause-left c =
+    let r = c.args.indexed.now in
+    let none : is_some c.in_ok-size.size ≡ false = search rules in
+    λ is _. missed_twice r c.len-len.ensures.disciplined c.args.pair.0 c.args.pair.1 (c.are_conflicting.ensures.second c.if-not-are_conflicting.false) c.in_ok-aim.aim c.in_ok-aim.ensures
+    c.args.left.now c.size_of.new.left c.size_again.new.left (c.in_ok-size.ensures.none (none_of c.in_ok-size.size none)) (c.in_ok-again.ensures.none is)
