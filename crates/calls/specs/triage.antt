@@ -12,4 +12,5 @@ pub mod LeavingSplitting
 pub mod Left
 pub mod Listings
 pub mod Merging
+pub mod Recordings
 pub mod Triaged

@@ -12,7 +12,7 @@ mod source;
 
 pub use fault::{LIMIT, ReadCause, ReadFault, ReplayFault, Tally};
 pub use fault_texts::{fault_text, script_words};
-pub use loading::{load, read_input, read_trace};
+pub use loading::{load, load_owned, read_input, read_trace};
 pub use replaying::{replay, replay_joint};
 pub use script_language::{
     CommandVerb, GivenCall, PlainCall, Script, ScriptCall, ScriptCause, ScriptRefusal, Verb,

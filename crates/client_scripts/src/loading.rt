@@ -57,7 +57,7 @@ pub fn load(alloc: Global, text: &[u8]) -> Result<Indexed, ReplayFault>
 }
 
 /// The same, but drops the text once it is parsed, because the tables need the memory.
-fn load_owned(alloc: Global, text: Vec<u8>) -> Result<Indexed, ReplayFault>
+pub fn load_owned(alloc: Global, text: Vec<u8>) -> Result<Indexed, ReplayFault>
     ensures { (result ≡ Err OutOfMemory) ⊎ (trace_of text.items ≡ result) }
 {
     let read = parse(alloc, &text);

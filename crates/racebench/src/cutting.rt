@@ -3,6 +3,7 @@ ghost use Rattle.std.specs.Prelude.{◌<◌};
 
 use crate::doing::finish;
 use crate::folders::{Folder, folder_at};
+use crate::kept::Kept;
 use crate::pieces::{Pieces, pieces_at};
 use crate::quoted::append_number;
 use crate::telling::{tell_past_end, tell_replay, tell_windows};
@@ -10,6 +11,7 @@ use crate::telling_paths::{tell_full, tell_unlisted, tell_unwritten};
 use crate::trace_notes::{LATE, held_note};
 use crate::windows::Windows;
 use crate::write_notes::cause_of;
+use calls::triage::{Wholeness, append_begin, append_end};
 use calls::{BenchFault, cut_window};
 use client_scripts::{FromRead, FromWrite, ReplayFault, write_all};
 use program_words::CutTask;
@@ -99,16 +101,37 @@ fn print_whole(
 ) -> Result<ExitCode, BenchFault>
     requires { 0 < task.now.most }
 {
-    let mut writer = FromWrite::new(io::writer(rt));
+    let mut writer = Kept::new(rt.alloc());
     let mut reader = FromRead::new(pieces.bytes());
     match cut_window(rt.alloc(), &mut reader, task.from, task.most, &mut writer) {
         Ok(()) => {
             pieces.tell_mark(rt, task.trace);
-            Ok(finish(rt, &mut writer))
+            let text = with_marks(rt.alloc(), &pieces.wholeness(rt.alloc())?, writer.bytes)?;
+            Ok(print_text(rt, text.as_slice()))
         }
         Err(BenchFault::NoSuchEvent) => Ok(tell_past_end(rt, task.from, events)),
+        // The writer keeps its bytes in memory, so a failed write means that memory ran out.
+        Err(BenchFault::Replay(ReplayFault::Write)) => {
+            Err(BenchFault::Replay(ReplayFault::OutOfMemory))
+        }
         Err(fault) => Err(fault),
     }
+}
+
+/// A window of a recording, with the marks of the recording.
+fn with_marks(
+    alloc: Global,
+    wholeness: &Wholeness,
+    window: Vec<u8>,
+) -> Result<Vec<u8>, OutOfMemory> {
+    if !wholeness.is_marked() {
+        return Ok(window);
+    }
+    let mut text = Vec::new(alloc);
+    append_begin(&mut text, wholeness)?;
+    text.extend_from_slice(window.as_slice())?;
+    append_end(&mut text, wholeness)?;
+    Ok(text)
 }
 
 /// Prints a window of a longer trace.
@@ -130,7 +153,9 @@ fn print_at(
     match windows.at(rt.alloc(), u64::from(task.from)) {
         Ok(Some(window)) => {
             windows.tell_mark(rt, task.trace);
-            Ok(print_text(rt, window.text.as_slice()))
+            let wholeness = windows.whole_wholeness(rt.alloc())?;
+            let text = with_marks(rt.alloc(), &wholeness, window.text)?;
+            Ok(print_text(rt, text.as_slice()))
         }
         Ok(None) => Ok(tell_past_end(rt, task.from, windows.events())),
         Err(fault) => Err(fault),
@@ -184,40 +209,82 @@ enum Written {
     Failed(ExitCode),
 }
 
-/// Writes each of the windows as a file into this folder, and prints the counts.
+/// Writes each of the windows as a file into this folder, and prints the counts. If the recording has marks, each file
+/// gets the first mark at once, and the last one when the end of the recording was read. So none is called whole before.
 fn write_each(
     rt: &HostRuntime,
     windows: &mut Windows,
     folder: &str,
 ) -> Result<ExitCode, BenchFault> {
-    let mut count = 0u64;
+    let mut starts = Vec::new(rt.alloc());
     for _ in 0..u64::MAX {
-        match write_next(rt, windows, folder)? {
-            Written::Window => count = count.saturating_add(1),
-            Written::Nothing => return Ok(print_counts(rt, windows, count)),
+        match write_next(rt, windows, folder, &mut starts)? {
+            Written::Window => {}
+            Written::Nothing => return end_each(rt, windows, folder, starts.as_slice()),
             Written::Failed(status) => return Ok(status),
         }
     }
-    Ok(print_counts(rt, windows, count))
+    end_each(rt, windows, folder, starts.as_slice())
 }
 
-/// Writes the next window as a file into this folder.
+/// Writes the next window as a file into this folder. Adds the number of its first event to `starts`.
 fn write_next(
     rt: &HostRuntime,
     windows: &mut Windows,
     folder: &str,
+    starts: &mut Vec<u64>,
 ) -> Result<Written, BenchFault> {
     match windows.next(rt.alloc())? {
-        Some(window) => Ok(write_window(rt, &window, folder)?),
+        Some(window) => {
+            starts.push(window.from)?;
+            let mut text = Vec::new(rt.alloc());
+            append_begin(&mut text, &windows.wholeness(rt.alloc())?)?;
+            text.extend_from_slice(window.text.as_slice())?;
+            Ok(write_window(rt, window.from, text.as_slice(), folder)?)
+        }
         None => Ok(Written::Nothing),
     }
 }
 
-/// Writes this window as a file into this folder.
-fn write_window(rt: &HostRuntime, window: &Window, folder: &str) -> Result<Written, OutOfMemory> {
-    match path_of(rt.alloc(), folder, window.from) {
-        Ok(path) => Ok(write_at(rt, path.as_str(), window.text.as_slice())),
+/// Writes this window as a file into this folder; `number` is that of its first event.
+fn write_window(
+    rt: &HostRuntime,
+    number: u64,
+    text: &[u8],
+    folder: &str,
+) -> Result<Written, OutOfMemory> {
+    match path_of(rt.alloc(), folder, number) {
+        Ok(path) => Ok(write_at(rt, path.as_str(), text)),
         Err(refused) => Err(refused),
+    }
+}
+
+/// Appends the last line of the recording to the file of each window, if it has one, and prints the counts.
+fn end_each(
+    rt: &HostRuntime,
+    windows: &Windows,
+    folder: &str,
+    starts: &[u64],
+) -> Result<ExitCode, BenchFault> {
+    let mut line = Vec::new(rt.alloc());
+    append_end(&mut line, &windows.wholeness(rt.alloc())?)?;
+    for start in starts {
+        let path = path_of(rt.alloc(), folder, *start)?;
+        if let Err(error) = append_to(rt, path.as_str(), line.as_slice()) {
+            return Ok(tell_unwritten(rt, path.as_str(), cause_of(&error)));
+        }
+    }
+    Ok(print_counts(rt, windows, starts.len() as u64))
+}
+
+/// Appends this text to the file at this path.
+fn append_to(rt: &HostRuntime, path: &str, text: &[u8]) -> io::Result<()> {
+    if text.is_empty() {
+        return Ok(());
+    }
+    match File::options().append(true).open(rt, path) {
+        Ok(mut file) => file.write_all(text),
+        Err(error) => Err(error),
     }
 }
 

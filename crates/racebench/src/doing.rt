@@ -44,7 +44,8 @@ fn finish_read<W: io::Write>(
 }
 
 /// What is said before a terminal is read. Else it would look as if the program did nothing.
-const READING: &[u8] = b"note: type a trace, a line `---` and a script, or see `racebench help`\n";
+const READING: &[u8] =
+    b"note: type a trace, a line `---` and a script, or see `racebench --help`\n";
 
 /// If standard input is a terminal, a note says what is read there.
 fn note_terminal(rt: &HostRuntime) {

@@ -1,48 +1,62 @@
 //! The exit status with `--fail`.
-ghost use Rattle.std.specs.Prelude.{◌≡◌, ◌<◌, true, false};
+ghost use Rattle.std.specs.Prelude.{◌≡◌};
 ghost use Rattle.std.specs.Process.{exit_status};
+ghost use Rattle.wholeness.specs.Status.{status_of as status_for};
 
+use crate::notes::are_wanted;
 use crate::telling::say;
+use calls::triage::{Judged, status_of as status_by};
+use rapid_text::OutOfMemory;
 use std::process::ExitCode;
 
-/// The exit status if a race is printed.
-const RACES: u8 = 3;
+/// What standard error says if the trace has no events.
+pub(crate) const NO_TRACE_EVENTS: &[u8] = b"the trace has no events: nothing was judged\n";
 
-/// The exit status if nothing was judged.
-const UNJUDGED: u8 = 4;
+/// What standard error says if no part has events.
+pub(crate) const NO_PART_EVENTS: &[u8] = b"no part has events: nothing was judged\n";
 
-/// The line on standard error if the trace has no events.
-pub(crate) const NO_TRACE_EVENTS: &[u8] =
-    b"racebench: the trace has no events: nothing was judged\n";
+/// Why no race does not mean that there is none.
+#[derive(Clone, Copy)]
+pub(crate) struct Unjudged<'a> {
+    /// What standard error says if there was no event.
+    pub(crate) no_events: &'a [u8],
+    /// What is missing in the recordings; empty if nothing is known to be missing.
+    pub(crate) missing: &'a [u8],
+}
 
-/// The line on standard error if no part has events.
-pub(crate) const NO_PART_EVENTS: &[u8] = b"racebench: no part has events: nothing was judged\n";
+/// Prints on standard error why the status is 4. A line is missing if memory runs out for it.
+fn tell_unjudged(rt: &HostRuntime, judged: Judged, why: Unjudged<'_>) {
+    if !judged.has_events {
+        say(rt, b"racebench: ");
+        say(rt, why.no_events);
+    }
+    if judged.is_whole {
+        return;
+    }
+    let mut line = Vec::new(rt.alloc());
+    if append_missing(&mut line, why.missing).is_ok() {
+        say(rt, line.as_slice());
+    }
+}
 
-/// The exit status after `races` races were printed. If it is 4, prints `words` on standard error first.
-pub(crate) fn status_of(
-    rt: &HostRuntime,
-    fail: bool,
-    races: u64,
-    is_judged: bool,
-    words: &[u8],
-) -> ExitCode
-    // Without `--fail` the status is 0, also if there are races.
-    ensures plain { fail ≡ false → exit_status result ≡ 0 }
+/// Appends the line that says what is missing.
+fn append_missing(out: &mut Vec<u8>, missing: &[u8]) -> Result<(), OutOfMemory> {
+    out.extend_from_slice(b"racebench: not whole: ")?;
+    out.extend_from_slice(missing)?;
+    out.push(b'\n')?;
+    Ok(())
+}
 
-    // With `--fail` it is 3 if there are races. Else it is 0 if something was judged, and 4 if not.
-    ensures races { fail ≡ true → 0 < races → exit_status result ≡ 3 }
-    ensures judged { fail ≡ true → races ≡ 0 → is_judged ≡ true → exit_status result ≡ 0 }
-    ensures unjudged { fail ≡ true → races ≡ 0 → is_judged ≡ false → exit_status result ≡ 4 }
+/// The exit status after the report was printed. If it is 4, prints on standard error why. Without `--fail`, a note says
+/// that there was no event.
+pub(crate) fn status_of(rt: &HostRuntime, fail: bool, judged: Judged, why: Unjudged<'_>) -> ExitCode
+    ensures { exit_status result ≡ status_for fail judged }
 {
-    if !fail {
-        return ExitCode::SUCCESS;
+    if fail && judged.races == 0 {
+        tell_unjudged(rt, judged, why);
+    } else if !judged.has_events && are_wanted(rt) {
+        say(rt, b"note: ");
+        say(rt, why.no_events);
     }
-    if races > 0 {
-        return ExitCode::from(RACES);
-    }
-    if is_judged {
-        return ExitCode::SUCCESS;
-    }
-    say(rt, words);
-    ExitCode::from(UNJUDGED)
+    ExitCode::from(status_by(fail, judged))
 }

@@ -14,7 +14,7 @@ use client_scripts::{FromRead, ReplayFault};
 use program_words::TriageTask;
 use race_page::append_shell_word;
 use rapid_text::OutOfMemory;
-use std::alloc::Global;
+use std::alloc::{AllocError, Global};
 use std::io::IsTerminal;
 use std::thread;
 use std::thread::Threads;
@@ -38,6 +38,12 @@ impl From<OutOfMemory> for Stop {
     }
 }
 
+impl From<AllocError> for Stop {
+    fn from(_refused: AllocError) -> Stop {
+        Stop::Trace(BenchFault::Replay(ReplayFault::OutOfMemory))
+    }
+}
+
 impl From<MergeFault> for Stop {
     fn from(fault: MergeFault) -> Stop {
         match fault {
@@ -55,6 +61,8 @@ pub(crate) struct Report<'a> {
     pub(crate) most: u32,
     pub(crate) parts: Parts,
     pub(crate) count: u64,
+    /// What is missing in the recording, in words; empty if nothing is known to be missing.
+    pub(crate) missing: Vec<u8>,
 }
 
 /// The next windows, `width` at most, which are judged at the same time. If a fault comes after the first of them, the

@@ -66,6 +66,7 @@ fn is_event(line: &[u8]) -> bool {
         || operation.starts_with(b"rel(")
         || operation.starts_with(b"fork(")
         || operation.starts_with(b"join(")
+        || operation.starts_with(b"begin(")
 }
 
 /// The first line that is not empty, without blanks at its ends; empty if the first 4,096 bytes have none.

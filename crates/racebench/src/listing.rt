@@ -3,14 +3,19 @@ ghost use Rattle.std.specs.Prelude.{◌≡◌, IfSome, false};
 
 use crate::coding::{lines_of, root_of};
 use crate::input::{Input, input_at};
+use crate::kept::Kept;
 use crate::marked::tell_mark;
+use crate::missing::write_missing;
 use crate::seen::Seen;
 use calls::triage::{
-    About, Asked, Crew, Filters, Form, SourceLine, Sources, TriageFault, Watch, triage, triage_on,
+    About, Asked, Crew, Filters, Form, Judged, Sources, TriageFault, Watch, Wholeness,
+    read_recording, triage_on,
 };
-use client_scripts::{Sink, read_trace};
+use client_scripts::{ReplayFault, Sink};
 use event_index::Indexed;
 use program_words::{RacesForm, TriageTask};
+use rapid_text::OutOfMemory;
+use std::alloc::Global;
 use std::thread::Threads;
 use toml::Value;
 
@@ -57,83 +62,125 @@ fn known_at(rt: &HostRuntime, path: Option<&str>) -> Option<Input>
     }
 }
 
+/// What was judged, and what is missing in the recording, in words; they are empty if nothing is known to be missing.
+#[derive(Drop)]
+pub(crate) struct Listed {
+    pub(crate) judged: Judged,
+    pub(crate) missing: Vec<u8>,
+}
+
+/// A trace that was read, and what is missing in its recording.
+#[derive(Drop)]
+struct Recording {
+    indexed: Indexed,
+    missing: Vec<u8>,
+    is_whole: bool,
+}
+
+/// What is missing, in words; empty if nothing is known to be missing.
+fn missing_of(alloc: Global, wholeness: &Wholeness) -> Result<Vec<u8>, OutOfMemory> {
+    let words = wholeness.words().unwrap_or(b"");
+    Ok(Vec::from_slice(alloc, words)?)
+}
+
+/// Reads the trace of an input, and what its recording says of itself.
+fn recording_of(alloc: Global, reader: &mut Input) -> Result<Recording, TriageFault>
+    requires { reader.old.failed ≡ false }
+{
+    let (indexed, wholeness) = match read_recording(alloc, reader) {
+        Ok(read) => read,
+        Err(fault) => return Err(TriageFault::Replay(fault)),
+    };
+    let missing = missing_of(alloc, &wholeness)?;
+    Ok(Recording {
+        indexed,
+        missing,
+        is_whole: wholeness.is_whole(),
+    })
+}
+
 /// Writes the report on the trace in a file. The watcher learns how far the work is, and of its end before anything is
-/// written. Returns how many races were written.
+/// written.
 pub(crate) fn list_to<R: Threads + Sync, K: Sink, W: Watch + Sync>(
     rt: &HostRuntime,
     crew: &Crew<'_, R, Seen<'_, W>>,
     listing: Listing<'_>,
     writer: &mut K,
-) -> Result<u64, TriageFault>
+) -> Result<Listed, TriageFault>
     requires { K.has_failed writer.old ≡ false }
 {
-    match listing.task.source {
-        Some(folder) => list_in(rt, crew, listing, folder, writer),
-        None => {
-            let none = Vec::new(rt.alloc());
-            list_plain(rt, crew, listing, none.as_slice(), writer)
-        }
-    }
+    let mut reader = input_at(rt, listing.task.trace);
+    let recording = recording_of(rt.alloc(), &mut reader)?;
+    crew.watch.read(recording.indexed.len());
+    let races = list_recording(rt, crew, listing, &recording, writer)?;
+    tell_mark(rt, &reader, listing.task.trace);
+    Ok(Listed {
+        judged: Judged {
+            races,
+            has_events: recording.indexed.len() > 0,
+            is_whole: recording.is_whole,
+        },
+        missing: recording.missing,
+    })
 }
 
-/// Writes the report without lines of code.
-fn list_plain<R: Threads + Sync, K: Sink, W: Watch + Sync>(
+/// Writes the report on a recording. If something is missing in it, the report says what.
+fn list_recording<R: Threads + Sync, K: Sink, W: Watch + Sync>(
     rt: &HostRuntime,
     crew: &Crew<'_, R, Seen<'_, W>>,
     listing: Listing<'_>,
-    none: &[SourceLine],
+    recording: &Recording,
     writer: &mut K,
 ) -> Result<u64, TriageFault>
     requires { K.has_failed writer.old ≡ false }
 {
-    let mut reader = input_at(rt, listing.task.trace);
-    let known = known_at(rt, listing.task.known);
-    let sources = Sources {
-        root: b"",
-        lines: none,
+    if recording.is_whole {
+        return list_by(rt, crew, listing, &recording.indexed, writer);
+    }
+    let mut kept = Kept::new(rt.alloc());
+    let races = match list_by(rt, crew, listing, &recording.indexed, &mut kept) {
+        Ok(races) => races,
+        // The writer keeps its bytes in memory, so a failed write means that memory ran out.
+        Err(TriageFault::Replay(ReplayFault::Write)) => {
+            return Err(TriageFault::Replay(ReplayFault::OutOfMemory));
+        }
+        Err(fault) => return Err(fault),
     };
-    let asked = asked_of(listing, sources);
-    let listed = triage(crew, rt.alloc(), &mut reader, known, asked, writer);
-    if listed.is_ok() {
-        tell_mark(rt, &reader, listing.task.trace);
-    }
-    listed
+    let words = recording.missing.as_slice();
+    write_missing(
+        rt.alloc(),
+        listing.task.form,
+        words,
+        kept.bytes.as_slice(),
+        writer,
+    )?;
+    Ok(races)
 }
 
-/// Writes the report with the code in this folder.
-fn list_in<R: Threads + Sync, K: Sink, W: Watch + Sync>(
-    rt: &HostRuntime,
-    crew: &Crew<'_, R, Seen<'_, W>>,
-    listing: Listing<'_>,
-    folder: &str,
-    writer: &mut K,
-) -> Result<u64, TriageFault>
-    requires { K.has_failed writer.old ≡ false }
-{
-    let mut reader = input_at(rt, listing.task.trace);
-    match read_trace(rt.alloc(), &mut reader) {
-        Ok(indexed) => {
-            tell_mark(rt, &reader, listing.task.trace);
-            crew.watch.read(indexed.len());
-            list_code(rt, crew, listing, &indexed, folder, writer)
-        }
-        Err(fault) => Err(TriageFault::Replay(fault)),
-    }
-}
-
-/// Writes the report on a trace that was read, with the code in this folder.
-fn list_code<R: Threads + Sync, K: Sink, W: Watch + Sync>(
+/// Writes the report on a trace that was read, with lines of code if the options name a folder.
+fn list_by<R: Threads + Sync, K: Sink, W: Watch + Sync>(
     rt: &HostRuntime,
     crew: &Crew<'_, R, Seen<'_, W>>,
     listing: Listing<'_>,
     indexed: &Indexed,
-    folder: &str,
     writer: &mut K,
 ) -> Result<u64, TriageFault>
     requires { K.has_failed writer.old ≡ false }
 {
-    let root = root_of(rt.alloc(), folder)?;
-    list_lines(rt, crew, listing, indexed, root.as_slice(), writer)
+    match listing.task.source {
+        Some(folder) => {
+            let root = root_of(rt.alloc(), folder)?;
+            list_lines(rt, crew, listing, indexed, root.as_slice(), writer)
+        }
+        None => {
+            let none = Vec::new(rt.alloc());
+            let sources = Sources {
+                root: b"",
+                lines: none.as_slice(),
+            };
+            list_with(rt, crew, listing, indexed, sources, writer)
+        }
+    }
 }
 
 /// Reads the lines of code, and writes the report with them.

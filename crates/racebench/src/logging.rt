@@ -1,17 +1,11 @@
-//! What the program does at `merge --sarif`.
+//! Writes a merged report as a SARIF log.
 ghost use Rattle.std.specs.Prelude.{◌≡◌, false};
 
 use crate::coding::{lines_of_cells, root_of, tell_codeless};
-use crate::merging::status_at;
-use crate::telling::tell_replay;
-use crate::telling_triage::tell_triage;
 use calls::Parts;
 use calls::triage::{MergedLog, SourceLine, Sources, TriageFault, write_merged_sarif};
-use client_scripts::{FromWrite, ReplayFault, Sink};
-use program_words::MergeTask;
+use client_scripts::{ReplayFault, Sink};
 use race_parts::{Cell, cells_of, rows_of};
-use std::io;
-use std::process::ExitCode;
 
 /// What was written: how many races, and whether the folder of code had none of the files.
 #[derive(Clone, Copy)]
@@ -79,35 +73,4 @@ pub(crate) fn write_log_in<K: Sink>(
         tell_codeless(rt, folder)?;
     }
     Ok(written.races)
-}
-
-/// The exit status after the log was printed. If the folder of code has none of the files, a note says so.
-fn status_of(rt: &HostRuntime, parts: &Parts, task: &MergeTask<'_>, written: Written) -> ExitCode {
-    if written.lacks_code && tell_codeless(rt, task.source.unwrap_or("")).is_err() {
-        return tell_replay(rt, ReplayFault::OutOfMemory);
-    }
-    status_at(rt, parts, written.races, task.fail)
-}
-
-/// Prints the parts as a SARIF log, with the code in this folder.
-fn print_in(rt: &HostRuntime, parts: &Parts, task: &MergeTask<'_>, root: &[u8]) -> ExitCode {
-    let mut writer = FromWrite::new(io::writer(rt));
-    match write_log(rt, parts, task.apart, root, &mut writer) {
-        Ok(written) => match writer.flush() {
-            Ok(()) => status_of(rt, parts, task, written),
-            Err(_) => tell_replay(rt, ReplayFault::Write),
-        },
-        Err(fault) => tell_triage(rt, fault, &[]),
-    }
-}
-
-/// Prints the parts as a SARIF log.
-pub(crate) fn print_log(rt: &HostRuntime, parts: &Parts, task: &MergeTask<'_>) -> ExitCode {
-    let Some(folder) = task.source else {
-        return print_in(rt, parts, task, b"");
-    };
-    match root_of(rt.alloc(), folder) {
-        Ok(root) => print_in(rt, parts, task, root.as_slice()),
-        Err(_) => tell_replay(rt, ReplayFault::OutOfMemory),
-    }
 }

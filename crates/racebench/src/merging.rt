@@ -3,21 +3,23 @@ ghost use Rattle.std.specs.Prelude.{◌≡◌, ◌<◌, true, false};
 ghost use Rattle.std.specs.Process.{exit_status};
 
 use crate::coding::is_folder;
-use crate::failing::{NO_PART_EVENTS, status_of};
+use crate::failing::{NO_PART_EVENTS, Unjudged, status_of};
 use crate::file_notes::{PART, append_form_notes};
 use crate::input::input_at;
+use crate::kept::Kept;
 use crate::leaving::{
     Decided, Printed, is_any, read_decided, tell_decided, wanted_of, write_decided,
 };
-use crate::logging::print_log;
+use crate::logging::write_log_in;
+use crate::missing::{missing_words, write_missing};
 use crate::notes::are_wanted;
 use crate::quoted::{append_name, append_number};
 use crate::telling::{end, tell_files, tell_replay};
 use crate::telling_paths::tell_folder;
 use crate::telling_triage::tell_triage;
-use calls::triage::{have_events, write_merged_page};
+use calls::triage::{TriageFault, judged_of, write_merged_page};
 use calls::{BenchFault, MergeFault, Parts, read_part, write_merged, write_merged_json};
-use client_scripts::{FromWrite, ReplayFault};
+use client_scripts::{FromWrite, ReplayFault, Sink};
 use program_words::{MergeTask, RacesForm};
 use rapid_text::OutOfMemory;
 use std::io;
@@ -122,52 +124,100 @@ fn take_file(rt: &HostRuntime, parts: &mut Parts, path: &str, file: u32) -> Resu
 }
 
 /// The exit status after `races` races of the parts were printed.
-pub(crate) fn status_at(rt: &HostRuntime, parts: &Parts, races: u64, fail: bool) -> ExitCode
-    ensures plain { fail ≡ false → exit_status result ≡ 0 }
-    ensures races { fail ≡ true → 0 < races → exit_status result ≡ 3 }
-{
-    if !fail || races > 0 {
-        return status_of(rt, fail, races, true, NO_PART_EVENTS);
-    }
-    match have_events(rt.alloc(), parts) {
-        Ok(have) => status_of(rt, fail, races, have, NO_PART_EVENTS),
+fn status_at(rt: &HostRuntime, parts: &Parts, races: u64, fail: bool, missing: &[u8]) -> ExitCode {
+    match judged_of(rt.alloc(), parts, races) {
+        Ok(judged) => {
+            let why = Unjudged {
+                no_events: NO_PART_EVENTS,
+                missing,
+            };
+            status_of(rt, fail, judged, why)
+        }
         Err(_) => tell_replay(rt, ReplayFault::OutOfMemory),
     }
 }
 
-/// Prints the merged report of the parts.
+/// Writes the merged report of the parts. Returns how many races it has.
+fn write_form<K: Sink>(
+    rt: &HostRuntime,
+    parts: &Parts,
+    task: &MergeTask<'_>,
+    decided: &Decided,
+    writer: &mut K,
+) -> Result<u64, TriageFault>
+    requires { K.has_failed writer.old ≡ false }
+{
+    if is_any(wanted_of(task)) {
+        let printed = Printed {
+            apart: task.apart,
+            form: task.form,
+            source: task.source,
+        };
+        return write_decided(rt, parts, decided, wanted_of(task), printed, writer);
+    }
+    match task.form {
+        RacesForm::Sarif => write_log_in(rt, parts, task.apart, task.source, writer),
+        RacesForm::Page => write_merged_page(rt.alloc(), parts, task.apart, writer),
+        RacesForm::Json => in_triage(write_merged_json(rt.alloc(), parts, writer)),
+        _ => in_triage(write_merged(rt.alloc(), parts, task.apart, writer)),
+    }
+}
+
+/// The outcome, in the type of the calls on one trace.
+fn in_triage(written: Result<u64, MergeFault>) -> Result<u64, TriageFault> {
+    match written {
+        Ok(races) => Ok(races),
+        Err(MergeFault::Replay(fault)) => Err(TriageFault::Replay(fault)),
+        Err(_) => Err(TriageFault::Replay(ReplayFault::OutOfMemory)),
+    }
+}
+
+/// Writes the merged report of the parts, which says what is missing in these words.
+fn write_form_missing<K: Sink>(
+    rt: &HostRuntime,
+    parts: &Parts,
+    task: &MergeTask<'_>,
+    decided: &Decided,
+    missing: &[u8],
+    writer: &mut K,
+) -> Result<u64, TriageFault>
+    requires { K.has_failed writer.old ≡ false }
+{
+    if missing.is_empty() {
+        return write_form(rt, parts, task, decided, writer);
+    }
+    let mut kept = Kept::new(rt.alloc());
+    match write_form(rt, parts, task, decided, &mut kept) {
+        Ok(races) => {
+            write_missing(
+                rt.alloc(),
+                task.form,
+                missing,
+                kept.bytes.as_slice(),
+                writer,
+            )?;
+            Ok(races)
+        }
+        // The writer keeps its bytes in memory, so a failed write means that memory ran out.
+        Err(TriageFault::Replay(ReplayFault::Write)) => {
+            Err(TriageFault::Replay(ReplayFault::OutOfMemory))
+        }
+        Err(fault) => Err(fault),
+    }
+}
+
+/// Prints the merged report of the parts. `missing` has what their recordings miss, in words.
 fn print_merged(
     rt: &HostRuntime,
     parts: &Parts,
     task: &MergeTask<'_>,
     decided: &Decided,
-) -> ExitCode {
-    if is_any(wanted_of(task)) {
-        return print_decided(rt, parts, task, decided);
-    }
-    match task.form {
-        RacesForm::Sarif => print_log(rt, parts, task),
-        RacesForm::Page => print_page(rt, parts, task),
-        form => print_lines(rt, parts, task, form),
-    }
-}
-
-/// Prints the merged report without what the options leave out.
-fn print_decided(
-    rt: &HostRuntime,
-    parts: &Parts,
-    task: &MergeTask<'_>,
-    decided: &Decided,
+    missing: &[u8],
 ) -> ExitCode {
     let mut writer = FromWrite::new(io::writer(rt));
-    let printed = Printed {
-        apart: task.apart,
-        form: task.form,
-        source: task.source,
-    };
-    match write_decided(rt, parts, decided, wanted_of(task), printed, &mut writer) {
+    match write_form_missing(rt, parts, task, decided, missing, &mut writer) {
         Ok(races) => match writer.flush() {
-            Ok(()) => status_after(rt, parts, task, decided, races),
+            Ok(()) => status_after(rt, parts, task, decided, races, missing),
             Err(_) => tell_replay(rt, ReplayFault::Write),
         },
         Err(fault) => tell_triage(rt, fault, &[]),
@@ -182,38 +232,11 @@ fn status_after(
     task: &MergeTask<'_>,
     decided: &Decided,
     races: u64,
+    missing: &[u8],
 ) -> ExitCode {
     match tell_decided(rt, parts, decided, wanted_of(task)) {
-        Ok(()) => status_at(rt, parts, races, task.fail),
+        Ok(()) => status_at(rt, parts, races, task.fail, missing),
         Err(_) => tell_replay(rt, ReplayFault::OutOfMemory),
-    }
-}
-
-/// Prints the merged report as a page.
-fn print_page(rt: &HostRuntime, parts: &Parts, task: &MergeTask<'_>) -> ExitCode {
-    let mut writer = FromWrite::new(io::writer(rt));
-    match write_merged_page(rt.alloc(), parts, task.apart, &mut writer) {
-        Ok(races) => match writer.flush() {
-            Ok(()) => status_at(rt, parts, races, task.fail),
-            Err(_) => tell_replay(rt, ReplayFault::Write),
-        },
-        Err(fault) => tell_triage(rt, fault, &[]),
-    }
-}
-
-/// Prints the merged report as text or as JSON.
-fn print_lines(rt: &HostRuntime, parts: &Parts, task: &MergeTask<'_>, form: RacesForm) -> ExitCode {
-    let mut writer = FromWrite::new(io::writer(rt));
-    let written = match form {
-        RacesForm::Json => write_merged_json(rt.alloc(), parts, &mut writer),
-        _ => write_merged(rt.alloc(), parts, task.apart, &mut writer),
-    };
-    match written {
-        Ok(races) => match writer.flush() {
-            Ok(()) => status_at(rt, parts, races, task.fail),
-            Err(_) => tell_replay(rt, ReplayFault::Write),
-        },
-        Err(fault) => tell_merge(rt, fault, 0, &task.parts),
     }
 }
 
@@ -236,7 +259,10 @@ fn merge_read(rt: &HostRuntime, task: &MergeTask<'_>) -> ExitCode {
 /// Reads the parts, and prints the merged report.
 fn merge_decided(rt: &HostRuntime, task: &MergeTask<'_>, decided: &Decided) -> ExitCode {
     match read_parts(rt, &task.parts) {
-        Ok(parts) => print_merged(rt, &parts, task, decided),
+        Ok(parts) => match missing_words(rt.alloc(), &parts) {
+            Ok(missing) => print_merged(rt, &parts, task, decided, missing.as_slice()),
+            Err(_) => tell_replay(rt, ReplayFault::OutOfMemory),
+        },
         Err((fault, file)) => tell_merge(rt, fault, file, &task.parts),
     }
 }

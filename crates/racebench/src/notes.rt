@@ -17,8 +17,11 @@ use std::io::IsTerminal;
 /// The most bytes of a word that a note shows.
 const MAX_SHOWN: usize = 40;
 
-/// The environment variable that requests notes if standard error is no terminal.
+/// The environment variable that requests notes if it is 1, and forbids them if it is 0.
 const ASKED_BY: &str = "RACEBENCH_NOTES";
+
+/// The commands that write no notes unless standard error is a terminal. So does the program without arguments.
+const QUIET: [&str; 3] = ["info", "replay", "threads"];
 
 /// The names of standard input, standard output, and the script of a joint text in notes.
 pub(crate) const STANDARD_INPUT: &str = "standard input";
@@ -31,14 +34,37 @@ const SCRIPT: &str = "the script";
 const CLIENT: &[u8] =
     b"note: a line begins with its client, a number from 1 to 32, as in `1 new A`\n";
 
-/// Whether notes are wanted: standard error is a terminal, or the environment variable `RACEBENCH_NOTES` is 1.
+/// Whether notes are wanted. If the environment variable `RACEBENCH_NOTES` is 1 or 0, it decides. Else they are wanted
+/// on a terminal, and off a terminal except for some commands.
 pub(crate) fn are_wanted(rt: &HostRuntime) -> bool {
-    if rt.stderr().is_terminal() {
-        return true;
-    }
     match env::var(rt, ASKED_BY) {
-        Ok(value) => value.as_str() == "1",
-        Err(_) => false,
+        Ok(value) if value.as_str() == "1" => true,
+        Ok(value) if value.as_str() == "0" => false,
+        _ => rt.stderr().is_terminal() || !is_quiet(rt),
+    }
+}
+
+/// Whether the command writes no notes off a terminal.
+fn is_quiet(rt: &HostRuntime) -> bool {
+    match own_words(rt) {
+        Some(words) => is_quiet_by(words.as_slice()),
+        None => true,
+    }
+}
+
+/// The arguments of the program, with its own name first; None if they are no text, or if memory runs out.
+fn own_words(rt: &HostRuntime) -> Option<Vec<String>> {
+    match env::args(rt) {
+        Ok(words) => words.collect(rt.alloc()).ok(),
+        Err(_) => None,
+    }
+}
+
+/// The same, by the arguments, of which the first is the program's name.
+fn is_quiet_by(words: &[String]) -> bool {
+    match words.get(1) {
+        Some(word) => QUIET.contains(&word.as_str()),
+        None => true,
     }
 }
 

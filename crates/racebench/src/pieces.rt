@@ -1,11 +1,13 @@
 //! Reads a trace of any length in pieces of whole lines.
 ghost use Rattle.std.specs.Prelude.{◌≤◌, length};
 
+use crate::ends::Ends;
 use crate::input::{Input, input_at};
 use crate::marked::tell_mark;
+use calls::triage::Wholeness;
 use client_scripts::{LIMIT, ReadCause, ReplayFault, Source};
 use memchr::memchr;
-use rapid_text::{trim, trim_start};
+use rapid_text::{OutOfMemory, trim, trim_start};
 use std::alloc::Global;
 
 /// How many bytes are read at a time.
@@ -20,6 +22,7 @@ pub(crate) struct Pieces {
     input: Input,
     bytes: Vec<u8>,
     is_ended: bool,
+    ends: Ends,
 }
 
 /// Some lines: where they end, and how many events they have.
@@ -121,6 +124,7 @@ impl Pieces {
             input,
             bytes: Vec::new(alloc),
             is_ended: false,
+            ends: Ends::new(alloc),
         }
     }
 
@@ -155,8 +159,41 @@ impl Pieces {
         if count == 0 {
             return self.end();
         }
+        self.note(before(&chunk, count))?;
         self.bytes.extend_from_slice(before(&chunk, count))?;
         Ok(())
+    }
+
+    // Notes the bytes that were read, for the marks of the recording.
+    fn note(&mut self, bytes: &[u8]) -> Result<(), OutOfMemory> {
+        self.ends.note(*self.bytes.allocator(), bytes)
+    }
+
+    /// What the recording says of itself, as far as it was read.
+    pub(crate) fn wholeness(&self, alloc: Global) -> Result<Wholeness, OutOfMemory> {
+        self.ends.wholeness(alloc)
+    }
+
+    /// Reads the rest of the input, and keeps none of it.
+    pub(crate) fn read_rest(&mut self) -> Result<(), ReplayFault> {
+        for _ in 0..u64::MAX {
+            if self.is_ended || !self.read_past()? {
+                return Ok(());
+            }
+        }
+        Ok(())
+    }
+
+    // Reads some bytes, and keeps none. Returns whether there were any.
+    fn read_past(&mut self) -> Result<bool, ReplayFault> {
+        let mut chunk = [0u8; CHUNK];
+        match self.input.read(&mut chunk) {
+            Ok(count) => {
+                self.note(before(&chunk, count))?;
+                Ok(count > 0)
+            }
+            Err(_) => Err(unread(ReadCause::Device)),
+        }
     }
 
     // Notes that the input has ended.

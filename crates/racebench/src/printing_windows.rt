@@ -3,8 +3,10 @@ ghost use Rattle.std.specs.Prelude.{◌≡◌, false};
 
 use crate::cutting::counts_of;
 use crate::judging_windows::Report;
+use crate::kept::Kept;
 use crate::leaving::{Printed, is_any, wanted_in, write_decided};
 use crate::logging::write_log_in;
+use crate::missing::write_missing;
 use crate::windows::Windows;
 use calls::triage::{TriageFault, write_merged_page};
 use calls::{MergeFault, write_merged, write_merged_json};
@@ -108,6 +110,36 @@ fn write_lines<K: Sink>(
     }
 }
 
+/// Writes the merged report of the windows. If something is missing in the recording, the report says what.
+fn write_marked<K: Sink>(
+    rt: &HostRuntime,
+    windows: &Windows,
+    report: &Report<'_>,
+    writer: &mut K,
+) -> Result<u64, MergeFault>
+    requires { K.has_failed writer.old ≡ false }
+{
+    if report.missing.is_empty() {
+        return write_report(rt, windows, report, writer);
+    }
+    let mut kept = Kept::new(rt.alloc());
+    match write_report(rt, windows, report, &mut kept) {
+        Ok(races) => {
+            let words = report.missing.as_slice();
+            let made = kept.bytes.as_slice();
+            match write_missing(rt.alloc(), report.task.form, words, made, writer) {
+                Ok(()) => Ok(races),
+                Err(fault) => Err(MergeFault::Replay(fault)),
+            }
+        }
+        // The writer keeps its bytes in memory, so a failed write means that memory ran out.
+        Err(MergeFault::Replay(ReplayFault::Write)) => {
+            Err(MergeFault::Replay(ReplayFault::OutOfMemory))
+        }
+        Err(fault) => Err(fault),
+    }
+}
+
 /// Prints the merged report of the windows. Returns how many races it has.
 pub(crate) fn print_report(
     rt: &HostRuntime,
@@ -115,7 +147,7 @@ pub(crate) fn print_report(
     report: &Report<'_>,
 ) -> Result<u64, MergeFault> {
     let mut writer = FromWrite::new(io::writer(rt));
-    match write_report(rt, windows, report, &mut writer) {
+    match write_marked(rt, windows, report, &mut writer) {
         Ok(races) => match writer.flush() {
             Ok(()) => Ok(races),
             Err(_) => Err(MergeFault::Replay(ReplayFault::Write)),

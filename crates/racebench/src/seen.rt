@@ -1,4 +1,4 @@
-//! What `triage` has seen of its inputs. So a caller knows whether nothing was found or nothing was judged.
+//! What `triage` has seen of its inputs besides the trace.
 
 use calls::triage::{Hears, Watch};
 use std::sync::atomic::{AtomicU64, Ordering};
@@ -13,7 +13,6 @@ pub(crate) const BACK: u64 = 2;
 #[derive(Drop)]
 pub(crate) struct Seen<'a, W: Watch> {
     watch: &'a W,
-    events: AtomicU64,
     blockless: AtomicU64,
     codeless: AtomicU64,
     marks: &'a [AtomicU64],
@@ -24,16 +23,10 @@ impl<'a, W: Watch> Seen<'a, W> {
     pub(crate) fn new(watch: &'a W, marks: &'a [AtomicU64]) -> Seen<'a, W> {
         Seen {
             watch,
-            events: AtomicU64::new(0),
             blockless: AtomicU64::new(0),
             codeless: AtomicU64::new(0),
             marks,
         }
-    }
-
-    /// Whether an event was read.
-    pub(crate) fn has_events(&self) -> bool {
-        self.events.load(Ordering::SeqCst) != 0
     }
 
     /// Whether a text of known races was read that has no block `race`.
@@ -54,7 +47,6 @@ impl<'a, W: Watch> Seen<'a, W> {
 
 impl<W: Watch> Watch for Seen<'_, W> {
     fn read(&self, events: u32) {
-        self.events.store(u64::from(events), Ordering::SeqCst);
         self.watch.read(events);
     }
 

@@ -1,9 +1,9 @@
 //! What the program does at `triage`.
 
 use crate::coding::{is_folder, tell_codeless};
-use crate::failing::{NO_TRACE_EVENTS, status_of};
+use crate::failing::{NO_TRACE_EVENTS, Unjudged, status_of};
 use crate::input::input_at;
-use crate::listing::{Listing, list_to};
+use crate::listing::{Listed, Listing, list_to};
 use crate::progress::Progress;
 use crate::seen::Seen;
 use crate::telling::tell_replay;
@@ -43,7 +43,7 @@ fn status_after<W: Watch>(
     rt: &HostRuntime,
     task: &TriageTask<'_>,
     seen: &Seen<'_, W>,
-    races: u64,
+    listed: &Listed,
 ) -> ExitCode {
     if seen.lacks_blocks() && tell_blockless(rt, task.known.unwrap_or("")).is_err() {
         return tell_replay(rt, ReplayFault::OutOfMemory);
@@ -51,8 +51,11 @@ fn status_after<W: Watch>(
     if seen.lacks_code() && tell_codeless(rt, task.source.unwrap_or("")).is_err() {
         return tell_replay(rt, ReplayFault::OutOfMemory);
     }
-    let is_judged = seen.has_events();
-    status_of(rt, task.fail, races, is_judged, NO_TRACE_EVENTS)
+    let why = Unjudged {
+        no_events: NO_TRACE_EVENTS,
+        missing: listed.missing.as_slice(),
+    };
+    status_of(rt, task.fail, listed.judged, why)
 }
 
 /// Prints the report on standard output, and returns the exit status.
@@ -97,9 +100,9 @@ fn list_marked<R: Threads + Sync, W: Watch + Sync>(
     let listed = list_to(rt, &crew, listing, &mut writer);
     watch.end();
     match listed {
-        Ok(races) => match writer.flush() {
+        Ok(listed) => match writer.flush() {
             Ok(()) => match tell_marks(rt, task.triage.unwrap_or(""), marks) {
-                Ok(()) => status_after(rt, task, &seen, races),
+                Ok(()) => status_after(rt, task, &seen, &listed),
                 Err(_) => tell_replay(rt, ReplayFault::OutOfMemory),
             },
             Err(_) => tell_replay(rt, ReplayFault::Write),

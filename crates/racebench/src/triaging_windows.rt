@@ -4,9 +4,10 @@ ghost use Rattle.std.specs.Prelude.{◌<◌};
 ghost use Rattle.std.specs.Process.{exit_status};
 
 use crate::coding::is_folder;
-use crate::failing::{NO_TRACE_EVENTS, status_of};
+use crate::failing::{NO_TRACE_EVENTS, Unjudged, status_of};
 use crate::judging_windows::{Report, Stop, judge_all};
 use crate::leaving::{Decided, read_decided, tell_decided, wanted_in};
+use crate::missing::marked_parts;
 use crate::pieces::pieces_at;
 use crate::printing_windows::print_report;
 use crate::telling::{say, tell_replay, tell_windows};
@@ -14,10 +15,11 @@ use crate::telling_paths::tell_folder;
 use crate::telling_triage::tell_triage;
 use crate::trace_notes::held_note;
 use crate::windows::Windows;
-use calls::triage::TriageFault;
+use calls::triage::{Judged, TriageFault};
 use calls::{BenchFault, MergeFault, Parts};
 use client_scripts::ReplayFault;
 use program_words::TriageTask;
+use std::alloc::Global;
 use std::process::ExitCode;
 use std::thread::Threads;
 
@@ -71,7 +73,18 @@ pub(crate) fn triage_windows<R: Threads + Sync>(
 fn status_after(rt: &HostRuntime, report: &Report<'_>, races: u64) -> ExitCode {
     let task = report.task;
     match tell_decided(rt, &report.parts, report.decided, wanted_in(task)) {
-        Ok(()) => status_of(rt, task.fail, races, report.count > 0, NO_TRACE_EVENTS),
+        Ok(()) => {
+            let judged = Judged {
+                races,
+                has_events: report.count > 0,
+                is_whole: report.missing.is_empty(),
+            };
+            let why = Unjudged {
+                no_events: NO_TRACE_EVENTS,
+                missing: report.missing.as_slice(),
+            };
+            status_of(rt, task.fail, judged, why)
+        }
         Err(_) => tell_replay(rt, ReplayFault::OutOfMemory),
     }
 }
@@ -91,6 +104,7 @@ fn list_windows<R: Threads + Sync>(
         most,
         parts: Parts::new(rt.alloc()),
         count: 0,
+        missing: Vec::new(rt.alloc()),
     };
     list_report(rt, starts, &mut windows, &mut report)
 }
@@ -102,10 +116,25 @@ fn list_report<R: Threads + Sync>(
     windows: &mut Windows,
     report: &mut Report<'_>,
 ) -> ExitCode {
-    match judge_all(rt, starts, windows, report) {
+    let judged = judge_all(rt, starts, windows, report);
+    if let Err(stop) = mark_parts(rt.alloc(), windows, report) {
+        return tell_stop(rt, stop, report);
+    }
+    match judged {
         Ok(()) => print_judged(rt, windows, report),
         Err(stop) => end_stopped(rt, windows, report, stop),
     }
+}
+
+/// If the recording is not whole, notes what is missing, in the report and in each of its parts.
+fn mark_parts(alloc: Global, windows: &Windows, report: &mut Report<'_>) -> Result<(), Stop> {
+    let wholeness = windows.wholeness(alloc)?;
+    let Some(words) = wholeness.words() else {
+        return Ok(());
+    };
+    report.missing.extend_from_slice(words)?;
+    report.parts = marked_parts(alloc, &report.parts, words)?;
+    Ok(())
 }
 
 /// Reports why judging stopped. If the trace is at fault, prints the report up to there first.

@@ -6,6 +6,7 @@ mod one;
 use crate::front::{begun, events_of, read_on, room_of, threads_of, window_of};
 use crate::pieces::{Pieces, Span, before};
 use calls::BenchFault;
+use calls::triage::Wholeness;
 use client_scripts::ReplayFault;
 use rapid_text::OutOfMemory;
 use std::alloc::Global;
@@ -89,6 +90,19 @@ impl Windows {
     /// If the trace begins with a byte order mark, writes a note on it. `path` is that of the trace.
     pub(crate) fn tell_mark(&self, rt: &HostRuntime, path: &str) {
         self.pieces.tell_mark(rt, path);
+    }
+
+    /// What the recording says of itself, as far as it was read.
+    pub(crate) fn wholeness(&self, alloc: Global) -> Result<Wholeness, OutOfMemory> {
+        self.pieces.wholeness(alloc)
+    }
+
+    /// What the whole recording says of itself. If it has marks, reads the rest of it.
+    pub(crate) fn whole_wholeness(&mut self, alloc: Global) -> Result<Wholeness, ReplayFault> {
+        if self.pieces.wholeness(alloc)?.is_marked() {
+            self.pieces.read_rest()?;
+        }
+        Ok(self.pieces.wholeness(alloc)?)
     }
 
     /// How many windows have fewer events than requested although more follow.

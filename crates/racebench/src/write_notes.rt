@@ -73,12 +73,19 @@ fn unmade_cause(rt: &HostRuntime, path: &str) -> Result<&'static [u8], OutOfMemo
     }
 }
 
-/// The cause why no file could be made in this file's folder: makes this file, and removes it.
+/// How many bytes are written to find out whether a disk is full: more than the first line of a log has.
+const PROBE: usize = 4_096;
+
+/// The cause why no file could be made in this file's folder: makes this file, writes into it, and removes it.
 fn cause_by_making(rt: &HostRuntime, made: &str) -> &'static [u8] {
     match File::create_new(rt, made) {
-        Ok(_) => {
+        Ok(mut file) => {
+            let written = file.write_all(&[0u8; PROBE]);
             let _ = fs::remove_file(rt, made);
-            b"its folder may have no hard links"
+            match written {
+                Ok(()) => b"its folder may have no hard links",
+                Err(error) => cause_of(&error),
+            }
         }
         Err(error) => cause_of(&error),
     }
