@@ -1,0 +1,6 @@
+pub mod ApartLemmas
+pub mod CycleLemmas
+pub mod GatherLemmas
+pub mod HeldLemmas
+pub mod RequiredLemmas
+pub mod StayLemmas
