@@ -1,26 +1,29 @@
 """What is compiled once and kept: a folder of files that are named by what they are made of."""
+from __future__ import annotations
+
 import hashlib
 import os
 import stat
 import sys
 import tempfile
+from collections.abc import Callable, Iterable, Iterator
 
 
-def folders():
+def folders() -> Iterator[str]:
     """Folders that may keep files, the best first."""
     home = os.environ.get("XDG_CACHE_HOME") or os.path.join(os.path.expanduser("~"), ".cache")
     yield os.path.join(home, "racebench")
-    yield os.path.join(tempfile.gettempdir(), "racebench-%d" % os.getuid())
+    yield os.path.join(tempfile.gettempdir(), f"racebench-{os.getuid()}")
 
 
-def is_ours(folder):
+def is_ours(folder: str) -> bool:
     """Whether nobody else may write there: what is kept there is linked into programs."""
     about = os.lstat(folder)
     return stat.S_ISDIR(about.st_mode) and about.st_uid == os.getuid() and not about.st_mode & 0o022
 
 
-def folder():
-    """The folder that keeps files, or None where there is none."""
+def folder() -> str | None:
+    """The folder that keeps files, or None if there is none."""
     for path in folders():
         try:
             os.makedirs(path, mode=0o700, exist_ok=True)
@@ -31,7 +34,7 @@ def folder():
     return None
 
 
-def key_of(sources, words):
+def key_of(sources: Iterable[str], words: Iterable[str]) -> str:
     """A number of the contents and of the words."""
     digest = hashlib.sha256()
     for source in sources:
@@ -42,7 +45,9 @@ def key_of(sources, words):
     return digest.hexdigest()[:24]
 
 
-def built(name, sources, words, make, otherwise):
+def built(
+    name: str, sources: Iterable[str], words: Iterable[str], make: Callable[[str], int], otherwise: str
+) -> str | None:
     """The path of a file that `make(path)` makes of the sources by the words; it is made once. It is in the folder
     `otherwise` if nothing can be kept. None if it can't be made."""
     kept = folder()
@@ -50,7 +55,7 @@ def built(name, sources, words, make, otherwise):
         path = os.path.join(otherwise, name)
         return path if make(path) == 0 else None
     stem, end = os.path.splitext(name)
-    path = os.path.join(kept, "%s-%s%s" % (stem, key_of(sources, words), end))
+    path = os.path.join(kept, f"{stem}-{key_of(sources, words)}{end}")
     if os.path.exists(path):
         return path
     file, part = tempfile.mkstemp(prefix="." + stem, suffix=end, dir=kept)
@@ -62,7 +67,7 @@ def built(name, sources, words, make, otherwise):
         os.rename(part, path)
         return path
     except OSError as error:
-        sys.exit("record: %s: %s" % (path, error.strerror))
+        sys.exit(f"record: {path}: {error.strerror}")
     finally:
         if os.path.exists(part):
             os.unlink(part)

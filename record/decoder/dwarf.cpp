@@ -1,6 +1,8 @@
 #include "dwarf.hpp"
 #include "text.hpp"
+#include "types.hpp"
 #include <algorithm>
+#include <cstring>
 #include <fcntl.h>
 #include <limits>
 #include <tuple>
@@ -13,16 +15,6 @@ namespace {
 constexpr int MOST_DEPTH = 200;
 // Rows without a line, one after another, beyond this number are not looked into.
 constexpr int MOST_ROWS = 64;
-
-// The linker moves what it drops to 0 or 1.
-Ranges ranges_of(Dwarf_Die &die) {
-    Ranges found;
-    Dwarf_Addr base = 0, start = 0, end = 0;
-    for (ptrdiff_t at = 0; (at = dwarf_ranges(&die, at, &base, &start, &end)) > 0;) {
-        if (start > 1) found.emplace_back(start, end);
-    }
-    return found;
-}
 
 uint64_t number_in(Dwarf_Die &die, unsigned name) {
     Dwarf_Attribute attribute;
@@ -40,15 +32,21 @@ std::string name_in(Dwarf_Die &die) {
     return name ? text::without_template(name) : "";
 }
 
-bool holds(const Ranges &ranges, Dwarf_Addr place) {
-    return std::any_of(ranges.begin(), ranges.end(),
-                       [place](auto &range) { return range.first <= place && place < range.second; });
-}
-
 std::string inside_scope(const std::string &scope, const std::string &name) {
     return scope.empty() ? name : scope + "::" + name;
 }
 
+}
+
+Unit::Unit(const Dwarf_Die &die, const Dwarf_Die &split) : die(die), top(split.addr ? split : die), known_types(top) {
+    Dwarf_Attribute attribute;
+    const char *found = dwarf_formstring(dwarf_attr(&this->die, DW_AT_comp_dir, &attribute));
+    if (found && text::in_library(std::string(found) + "/")) folder = std::string(found) + "/";
+}
+
+std::string Unit::whole(const char *path) const {
+    if (!path) return "";
+    return folder.empty() || path[0] == '/' ? path : folder + path;
 }
 
 std::vector<std::string> Unit::files() const {
@@ -56,10 +54,7 @@ std::vector<std::string> Unit::files() const {
     size_t count = 0;
     std::vector<std::string> paths;
     if (dwarf_getsrcfiles(&die, &found, &count) != 0) return paths;
-    for (size_t k = 0; k < count; k++) {
-        const char *path = dwarf_filesrc(found, k, nullptr, nullptr);
-        paths.push_back(path ? path : "");
-    }
+    for (size_t k = 0; k < count; k++) paths.push_back(whole(dwarf_filesrc(found, k, nullptr, nullptr)));
     return paths;
 }
 
@@ -155,12 +150,11 @@ std::vector<Frame> Unit::frames(Dwarf_Addr place) {
     Dwarf_Line *row = row_at(place, chain);
     int line = 0;
     if (!row || dwarf_lineno(row, &line) != 0) return {};
-    const char *source = dwarf_linesrc(row, nullptr, nullptr);
-    std::string path = source ? source : "";
+    std::string path = whole(dwarf_linesrc(row, nullptr, nullptr));
     std::vector<Frame> frames;
     if (chain.empty()) frames.push_back({"", text::normal(path), line});
     for (auto body = chain.rbegin(); body != chain.rend(); ++body) {
-        frames.push_back({name_of((*body)->die), text::normal(path), line});
+        frames.push_back({name_of((*body)->die), text::normal(path), line, (*body)->die});
         path = (*body)->file < paths.size() ? paths[(*body)->file] : "";
         line = static_cast<int>((*body)->line);
     }
@@ -169,9 +163,59 @@ std::vector<Frame> Unit::frames(Dwarf_Addr place) {
     return frames;
 }
 
+std::optional<Dwarf_Die> Unit::allocated(Dwarf_Addr place) {
+    std::vector<const Body *> chain = bodies_at(place);
+    for (auto body = chain.rbegin(); body != chain.rend(); ++body) {
+        Dwarf_Die function = types::declared((*body)->die);
+        const char *name = dwarf_diename(&function);
+        std::vector<Dwarf_Die> scopes = types::scopes_of(function);
+        if (!name || strcmp(name, "allocate") != 0 || scopes.empty()) continue;
+        const char *around = dwarf_diename(&scopes[0]);
+        for (const char *allocator : {"__new_allocator<", "new_allocator<", "allocator<"})
+            if (around && strncmp(around, allocator, strlen(allocator)) == 0) return types::parameter_of(scopes[0]);
+    }
+    return std::nullopt;
+}
+
+std::optional<Dwarf_Die> Unit::made_unique(Dwarf_Addr place) {
+    std::vector<const Body *> chain = bodies_at(place);
+    return chain.empty() ? std::nullopt : blocks::made_unique(chain.back()->die);
+}
+
+std::optional<Dwarf_Die> Unit::constructed(Dwarf_Addr place, uint64_t size, Dwarf_Addr outside) {
+    std::vector<const Body *> outer = outside ? bodies_at(outside) : std::vector<const Body *>{};
+    for (const Body *body : bodies_at(place)) {
+        if (std::find(outer.begin(), outer.end(), body) != outer.end()) continue;
+        if (std::optional<Dwarf_Die> found = blocks::constructed(body->die, size)) return found;
+    }
+    return std::nullopt;
+}
+
+// What the library of C++ allocates is no pointer of the program's.
+std::optional<Dwarf_Die> Unit::guessed(Dwarf_Addr place, uint64_t size, bool &passes_on) {
+    passes_on = false;
+    for (const Frame &frame : frames(place)) {
+        if (!frame.die.addr || text::in_cxx_library(frame.path)) return std::nullopt;
+        guesses::Guess guess = guesses::guess_in(guesses::statement_at(frame.path, frame.line));
+        if (std::optional<Dwarf_Die> found = known_types.type_of(guess, frame.die, size)) return found;
+        passes_on = known_types.passes_on(guess, frame.die);
+        if (!passes_on) return std::nullopt;
+    }
+    return std::nullopt;
+}
+
+locals::Name Unit::local_name(Dwarf_Addr place, const locals::Frame &frame, uint64_t at, uint64_t size,
+                              const locals::Uses &uses) {
+    std::vector<const Body *> chain = bodies_at(place);
+    if (chain.empty()) return {"", ""};
+    std::unique_ptr<locals::Locals> &known = locals_of[chain[0]->die.addr];
+    if (!known) known = std::make_unique<locals::Locals>(chain[0]->die, name_of_entry);
+    return known->name(frame, at, size, uses);
+}
+
 Lines::Lines(const std::string &path) {
     int file = open(path.c_str(), O_RDONLY | O_CLOEXEC);
-    Dwarf *debug = file < 0 ? nullptr : dwarf_begin(file, DWARF_C_READ);
+    debug = file < 0 ? nullptr : dwarf_begin(file, DWARF_C_READ);
     Dwarf_CU *unit = nullptr;
     Dwarf_Die die{}, split{};
     while (debug && dwarf_get_units(debug, unit, &unit, nullptr, nullptr, &die, &split) == 0) {
@@ -193,11 +237,44 @@ std::set<std::string> Lines::paths() const {
     return found;
 }
 
-std::vector<Frame> Lines::frames(Dwarf_Addr place) {
+Unit *Lines::unit_at(Dwarf_Addr place) {
     auto after = std::upper_bound(starts.begin(), starts.end(), place,
                                   [](Dwarf_Addr at, const Start &one) { return at < one.start; });
-    if (after == starts.begin() || place >= std::prev(after)->end) return {};
-    return units[std::prev(after)->unit]->frames(place);
+    if (after == starts.begin() || place >= std::prev(after)->end) return nullptr;
+    return units[std::prev(after)->unit].get();
+}
+
+std::vector<Frame> Lines::frames(Dwarf_Addr place) {
+    Unit *unit = unit_at(place);
+    return unit ? unit->frames(place) : std::vector<Frame>{};
+}
+
+std::optional<Dwarf_Die> Lines::allocated(Dwarf_Addr place) {
+    Unit *unit = unit_at(place);
+    return unit ? unit->allocated(place) : std::nullopt;
+}
+
+std::optional<Dwarf_Die> Lines::made_unique(Dwarf_Addr place) {
+    Unit *unit = unit_at(place);
+    return unit ? unit->made_unique(place) : std::nullopt;
+}
+
+std::optional<Dwarf_Die> Lines::constructed(Dwarf_Addr place, uint64_t size, Dwarf_Addr outside) {
+    Unit *unit = unit_at(place);
+    bool is_near = outside && unit_at(outside) == unit;
+    return unit ? unit->constructed(place, size, is_near ? outside : 0) : std::nullopt;
+}
+
+std::optional<Dwarf_Die> Lines::guessed(Dwarf_Addr place, uint64_t size, bool &passes_on) {
+    Unit *unit = unit_at(place);
+    passes_on = false;
+    return unit ? unit->guessed(place, size, passes_on) : std::nullopt;
+}
+
+locals::Name Lines::local_name(Dwarf_Addr place, const locals::Frame &frame, uint64_t at, uint64_t size,
+                               const locals::Uses &uses) {
+    Unit *unit = unit_at(place);
+    return unit ? unit->local_name(place, frame, at, size, uses) : locals::Name{"", ""};
 }
 
 }

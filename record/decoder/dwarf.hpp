@@ -1,23 +1,26 @@
-// Lines and functions of code by its debug information, which elfutils' library libdw reads. The Python decoder's
-// dwarf.py says the same.
+// Lines and functions of code by its debug information, which elfutils' library libdw reads.
 #pragma once
 #include <cstdint>
 #include <memory>
+#include <optional>
 #include <set>
 #include <string>
 #include <unordered_map>
 #include <utility>
 #include <vector>
-#include "libdw.hpp"
+#include <dwarf.h>
+#include <elfutils/libdw.h>
+#include "blocks.hpp"
+#include "locals.hpp"
+#include "variables.hpp"
 
 namespace dwarf {
 
-using Ranges = std::vector<std::pair<Dwarf_Addr, Dwarf_Addr>>;
-
-// Where a place is: the function, the path, the line.
+// Where a place is: the function, the path, the line, and the entry of the function.
 struct Frame {
     std::string function, path;
     int line;
+    Dwarf_Die die{};
 };
 
 // Code of a function, or of one that was put in its place where it was called: there at that line of that file.
@@ -31,24 +34,42 @@ struct Body {
 // A unit of compilation. Its functions are read when code of it is asked for.
 class Unit {
 public:
-    Unit(const Dwarf_Die &die, const Dwarf_Die &split) : die(die), top(split.addr ? split : die) {}
+    Unit(const Dwarf_Die &die, const Dwarf_Die &split);
     std::vector<std::string> files() const;
     // The innermost frame first. What the compiler gave no line is left out.
     std::vector<Frame> frames(Dwarf_Addr place);
+    // The parameter of the allocator of C++ whose code is at a place: its type is what it allocates.
+    std::optional<Dwarf_Die> allocated(Dwarf_Addr place);
+    // The type of what std::make_unique makes, if the place is in its code.
+    std::optional<Dwarf_Die> made_unique(Dwarf_Addr place);
+    // The class of the outermost constructor that a place is in and the other is not, if its objects have this size.
+    std::optional<Dwarf_Die> constructed(Dwarf_Addr place, uint64_t size, Dwarf_Addr outside);
+    // The type that the source names for a block of so many bytes. Whether the caller may know more.
+    std::optional<Dwarf_Die> guessed(Dwarf_Addr place, uint64_t size, bool &passes_on);
+    // The name of so many bytes at an address of a frame of the function at a place.
+    locals::Name local_name(Dwarf_Addr place, const locals::Frame &frame, uint64_t at, uint64_t size,
+                            const locals::Uses &uses);
     mutable Dwarf_Die die;
 
 private:
     void read();
+    std::string whole(const char *path) const;
     void walk(Dwarf_Die &entry, const std::string &scope, std::vector<Body> *around, int depth);
     void walk_body(Dwarf_Die &entry, int tag, std::string scope, std::vector<Body> *around, int depth);
     std::string name_of(Dwarf_Die entry) const;
     std::vector<const Body *> bodies_at(Dwarf_Addr place);
     Dwarf_Line *row_at(Dwarf_Addr place, const std::vector<const Body *> &chain);
     Dwarf_Die top;
+    // The folder of a unit of Rust's library, whose own paths begin there; else empty.
+    std::string folder;
+    blocks::Names known_types;
     bool was_read = false;
     std::vector<Body> bodies;
     std::vector<std::string> paths;
     std::unordered_map<Dwarf_Off, std::string> names;
+    std::function<std::string(Dwarf_Die)> name_of_entry = [this](Dwarf_Die entry) { return name_of(entry); };
+    // The variables of a function, by the place of its entry in memory.
+    std::unordered_map<const void *, std::unique_ptr<locals::Locals>> locals_of;
 };
 
 // The debug information of a file.
@@ -58,12 +79,27 @@ public:
     bool none() const { return units.empty(); }
     std::set<std::string> paths() const;
     std::vector<Frame> frames(Dwarf_Addr place);
+    std::optional<Dwarf_Die> allocated(Dwarf_Addr place);
+    std::optional<Dwarf_Die> made_unique(Dwarf_Addr place);
+    std::optional<Dwarf_Die> constructed(Dwarf_Addr place, uint64_t size, Dwarf_Addr outside);
+    std::optional<Dwarf_Die> guessed(Dwarf_Addr place, uint64_t size, bool &passes_on);
+    // The name of so many bytes of a variable. Empty if it is not known.
+    std::string variable_name(Dwarf_Addr start, uint64_t size) { return variables.name(debug, start, size, false); }
+    // The same of a variable that each thread has, from an offset on in those of a thread.
+    std::string thread_variable_name(Dwarf_Addr offset, uint64_t size) {
+        return variables.name(debug, offset, size, true);
+    }
+    locals::Name local_name(Dwarf_Addr place, const locals::Frame &frame, uint64_t at, uint64_t size,
+                            const locals::Uses &uses);
 
 private:
     struct Start {
         Dwarf_Addr start, end;
         size_t unit;
     };
+    Dwarf *debug = nullptr;
+    variables::Variables variables;
+    Unit *unit_at(Dwarf_Addr place);
     std::vector<std::unique_ptr<Unit>> units;
     std::vector<Start> starts;
 };

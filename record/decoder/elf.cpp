@@ -1,12 +1,11 @@
 #include "elf.hpp"
 #include <algorithm>
 #include <cstdlib>
-#include <cstring>
 #include <cxxabi.h>
-#include <elf.h>
-#include <fstream>
-#include <iterator>
-#include <map>
+#include <fcntl.h>
+#include <gelf.h>
+#include <tuple>
+#include <unistd.h>
 #include <unordered_map>
 
 namespace elf {
@@ -31,61 +30,88 @@ struct Found {
     bool code;
 };
 
-template <class T> bool read(const std::string &image, uint64_t at, T &to) {
-    if (at > image.size() || image.size() - at < sizeof to) return false;
-    memcpy(&to, image.data() + at, sizeof to);
-    return true;
-}
+// A file that libelf reads; closed at its end.
+class File {
+public:
+    explicit File(const std::string &path) : number(open(path.c_str(), O_RDONLY | O_CLOEXEC)) {
+        elf_version(EV_CURRENT);
+        if (number >= 0) elf = elf_begin(number, ELF_C_READ_MMAP, nullptr);
+    }
+    ~File() {
+        if (elf) elf_end(elf);
+        if (number >= 0) close(number);
+    }
+    File(const File &) = delete;
+    File &operator=(const File &) = delete;
+    Elf *elf = nullptr;
 
-// None where this is no file of the kind that is read here.
-std::vector<Elf64_Shdr> sections_of(const std::string &image) {
-    Elf64_Ehdr head;
-    if (!read(image, 0, head) ||
-        memcmp(image.data(),
-               "\x7f"
-               "ELF\x02\x01",
-               6) ||
-        head.e_shentsize != sizeof(Elf64_Shdr))
-        return {};
-    std::vector<Elf64_Shdr> sections(head.e_shnum);
-    for (size_t k = 0; k < sections.size(); k++)
-        if (!read(image, head.e_shoff + k * sizeof(Elf64_Shdr), sections[k])) return {};
-    return sections;
-}
+private:
+    int number;
+};
 
-const Elf64_Shdr *table_of(const std::vector<Elf64_Shdr> &sections, uint32_t kind) {
-    const Elf64_Shdr *last = nullptr;
-    for (const Elf64_Shdr &section : sections)
-        if (section.sh_type == kind) last = &section;
+// The last section of a kind, with its header; none if the file has no such section.
+Elf_Scn *section_of(Elf *elf, uint32_t kind, GElf_Shdr &header) {
+    Elf_Scn *last = nullptr;
+    GElf_Shdr one;
+    for (Elf_Scn *section = elf_nextscn(elf, nullptr); section; section = elf_nextscn(elf, section)) {
+        if (gelf_getshdr(section, &one) && one.sh_type == kind) last = section, header = one;
+    }
     return last;
 }
 
-std::string name_at(const std::string &image, const Elf64_Shdr &names, uint64_t name) {
-    size_t at = names.sh_offset + name, end = image.find('\0', at);
-    std::string whole = image.substr(at, end == std::string::npos ? end : end - at);
-    return whole.substr(0, whole.find('@'));
+// Fills in what is known of a symbol that the file defines. False if the file does not define it.
+bool read_symbol(Elf *elf, const GElf_Sym &symbol, size_t names, Found &found) {
+    if (!symbol.st_shndx || symbol.st_shndx >= SHN_LORESERVE || !symbol.st_size) return false;
+    GElf_Shdr section;
+    if (!gelf_getshdr(elf_getscn(elf, symbol.st_shndx), &section) || !(section.sh_flags & SHF_ALLOC)) return false;
+    const char *name = elf_strptr(elf, names, symbol.st_name);
+    if (!name) return false;
+    std::string whole = name;
+    bool code = section.sh_flags & SHF_EXECINSTR;
+    found = {symbol.st_value, whole.substr(0, whole.find('@')), symbol.st_size, GELF_ST_TYPE(symbol.st_info), code};
+    return true;
 }
 
 // The symbols that the file defines. A stripped file has those of its dynamic table.
-std::vector<Found> raw_symbols(const std::string &image) {
-    std::vector<Elf64_Shdr> sections = sections_of(image);
+std::vector<Found> raw_symbols(const std::string &path) {
+    File file(path);
+    GElf_Shdr header;
     std::vector<Found> found;
-    const Elf64_Shdr *table = table_of(sections, SHT_SYMTAB);
-    if (!table) table = table_of(sections, SHT_DYNSYM);
-    if (!table || table->sh_link >= sections.size()) return found;
-    const Elf64_Shdr &names = sections[table->sh_link];
-    for (uint64_t k = 0; k < table->sh_size / sizeof(Elf64_Sym); k++) {
-        Elf64_Sym symbol;
-        if (!read(image, table->sh_offset + k * sizeof symbol, symbol)) return {};
-        if (!symbol.st_shndx || symbol.st_shndx >= std::min<size_t>(SHN_LORESERVE, sections.size()) || !symbol.st_size)
-            continue;
-        const Elf64_Shdr &section = sections[symbol.st_shndx];
-        if (symbol.st_name >= names.sh_size || !(section.sh_flags & SHF_ALLOC)) continue;
-        bool code = section.sh_flags & SHF_EXECINSTR;
-        found.push_back(
-            {symbol.st_value, name_at(image, names, symbol.st_name), symbol.st_size, symbol.st_info & 15, code});
+    Elf_Scn *table = file.elf ? section_of(file.elf, SHT_SYMTAB, header) : nullptr;
+    if (file.elf && !table) table = section_of(file.elf, SHT_DYNSYM, header);
+    Elf_Data *data = table ? elf_getdata(table, nullptr) : nullptr;
+    if (!data || !header.sh_entsize) return found;
+    GElf_Sym symbol;
+    for (int k = 0; gelf_getsym(data, k, &symbol); k++) {
+        Found one;
+        if (read_symbol(file.elf, symbol, header.sh_link, one)) found.push_back(std::move(one));
     }
     return found;
+}
+
+// Calls what is given for each entry of the tables of symbols, until that says that it has found what it looks for.
+template <class Do> void each_symbol(Elf *elf, Do is_found) {
+    for (uint32_t kind : {SHT_DYNSYM, SHT_SYMTAB}) {
+        GElf_Shdr header;
+        Elf_Scn *table = elf ? section_of(elf, kind, header) : nullptr;
+        Elf_Data *data = table ? elf_getdata(table, nullptr) : nullptr;
+        GElf_Sym symbol;
+        for (int k = 0; data && header.sh_entsize && gelf_getsym(data, k, &symbol); k++) {
+            const char *name = elf_strptr(elf, header.sh_link, symbol.st_name);
+            if (name && is_found(symbol, std::string(name))) return;
+        }
+    }
+}
+
+// The bytes of a symbol in the file.
+std::string content_of(Elf *elf, const GElf_Sym &symbol) {
+    Elf_Scn *section = elf_getscn(elf, symbol.st_shndx);
+    GElf_Shdr header;
+    Elf_Data *data = section && gelf_getshdr(section, &header) ? elf_getdata(section, nullptr) : nullptr;
+    if (!data || !data->d_buf || symbol.st_value < header.sh_addr) return "";
+    uint64_t start = symbol.st_value - header.sh_addr;
+    if (start > data->d_size || symbol.st_size > data->d_size - start) return "";
+    return std::string(static_cast<const char *>(data->d_buf) + start, symbol.st_size);
 }
 
 std::vector<Symbol> table_with(std::vector<Found> found) {
@@ -113,11 +139,48 @@ void tell_apart(std::vector<Symbol> &variables) {
 
 }
 
+bool has_hooks(const std::string &path) {
+    File file(path);
+    bool found = false;
+    each_symbol(file.elf, [&](const GElf_Sym &, const std::string &name) {
+        return found = found || name.rfind("__tsan_init", 0) == 0;
+    });
+    return found;
+}
+
+// record/cc puts the names into a text of this name, each before a line's end.
+std::vector<std::string> bare_objects(const std::string &path) {
+    File file(path);
+    std::string text;
+    each_symbol(file.elf, [&](const GElf_Sym &symbol, const std::string &name) {
+        if (name != "racebench_bare_objects" || !symbol.st_shndx) return false;
+        text = content_of(file.elf, symbol);
+        return true;
+    });
+    std::vector<std::string> names;
+    for (size_t at = 0, end; (end = text.find('\n', at)) != std::string::npos; at = end + 1)
+        names.push_back(text.substr(at, end - at));
+    return names;
+}
+
+OwnVariables own_variables(const std::string &path) {
+    File file(path);
+    GElf_Ehdr head;
+    size_t count = 0;
+    if (!file.elf || !gelf_getehdr(file.elf, &head) || head.e_machine != EM_X86_64) return {0, 0};
+    if (elf_getphdrnum(file.elf, &count) != 0) return {0, 0};
+    GElf_Phdr part;
+    for (size_t k = 0; k < count; k++) {
+        if (!gelf_getphdr(file.elf, static_cast<int>(k), &part) || part.p_type != PT_TLS) continue;
+        uint64_t align = part.p_align ? part.p_align : 1, size = part.p_memsz + align - 1;
+        return {size < part.p_memsz ? 0 : size / align * align, part.p_vaddr};
+    }
+    return {0, 0};
+}
+
 Symbols::Symbols(const std::string &path) {
-    std::ifstream file(path, std::ios::binary);
-    std::string image{std::istreambuf_iterator<char>(file), std::istreambuf_iterator<char>()};
     std::vector<Found> data, code;
-    for (Found &one : raw_symbols(image)) {
+    for (Found &one : raw_symbols(path)) {
         bool variable = one.kind == STT_NOTYPE || one.kind == STT_OBJECT || one.kind == STT_COMMON;
         if (variable && !one.code) data.push_back(one);
         else if (one.kind == STT_FUNC) code.push_back(one);

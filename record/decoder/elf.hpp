@@ -14,6 +14,18 @@ struct Symbol {
     std::string name;
 };
 
+// Whether a program or library was compiled with the hooks: it calls or defines one of their functions.
+bool has_hooks(const std::string &path);
+// The names of the objects without hooks that record/cc linked into a program or library.
+std::vector<std::string> bare_objects(const std::string &path);
+
+// How many bytes the variables take that a program has for each thread, up to where the thread's pointer leads, and
+// where the file has what they begin with. 0 if it has none, or if it is not for x86-64.
+struct OwnVariables {
+    uint64_t size, start;
+};
+OwnVariables own_variables(const std::string &path);
+
 // Of several names of one place the first in byte order counts.
 struct Symbols {
     std::vector<Symbol> variables, functions;

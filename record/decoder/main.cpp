@@ -1,72 +1,124 @@
-// decoder [--max N] [--from N] [--frames N] [--no-free] [--only FILE].. [--numbers FILE] RAW: writes the trace of a
-// raw file on standard output, and on standard error what record/run has to say of it, as lines `fact NAME NUMBER`.
+// decoder: the trace of a raw file on standard output, and what record/run reports of it on standard error, as lines
+// `fact NAME NUMBER`, `loss CAUSE NUMBER`, `lost CAUSE NAME`, and those of deadlocks::print. With --places it answers
+// where places of code are: see answer_places.
 #include <cstdio>
 #include <cstdlib>
-#include <cstring>
+#include <getopt.h>
+#include <iostream>
 #include "trace.hpp"
 
 namespace {
 
-struct Given {
+const char *const USAGE = "decoder [--max N] [--from N] [--frames N] [--no-free] [--raw-names] [--only FILE].. "
+                          "[--trust LIB].. [--cause CAUSE] [--killed] "
+                          "[--numbers FILE] [--all] [--ordered FILE] RAW | decoder --places RAW";
+
+struct Request {
     trace::Options options;
     const char *raw = nullptr, *numbers = nullptr;
+    bool places = false;
 };
 
-bool number_in(const char *word, u64 &to) {
+bool number_in(const char *text, u64 &to) {
     char *end = nullptr;
-    to = strtoull(word, &end, 10);
-    return *word && !*end;
+    to = strtoull(text, &end, 10);
+    return *text && *text != '-' && !*end;
 }
 
-bool read_words(int count, char **words, Given &given) {
-    for (int k = 1; k < count; k++) {
-        u64 number = 0;
-        bool last = k + 1 == count;
-        if (!strcmp(words[k], "--no-free")) given.options.frees = false;
-        else if (!last && !strcmp(words[k], "--max") && number_in(words[k + 1], number))
-            given.options.most = number, k++;
-        else if (!last && !strcmp(words[k], "--from") && number_in(words[k + 1], number))
-            given.options.first = number, k++;
-        else if (!last && !strcmp(words[k], "--only")) given.options.only.push_back(words[++k]);
-        else if (!last && !strcmp(words[k], "--frames") && number_in(words[k + 1], number))
-            given.options.frames = number, k++;
-        else if (!last && !strcmp(words[k], "--numbers")) given.numbers = words[++k];
-        else if (!given.raw && words[k][0] != '-') given.raw = words[k];
-        else return false;
+bool read_option(int option, Request &request) {
+    u64 number = 0;
+    switch (option) {
+    case 'm': return number_in(optarg, request.options.most);
+    case 'f': return number_in(optarg, request.options.first);
+    case 'c':
+        if (!number_in(optarg, number)) return false;
+        request.options.frames = number;
+        return true;
+    case 'n': request.options.frees = false; return true;
+    case 'o': request.options.only.push_back(optarg); return true;
+    case 'e': request.numbers = optarg; return true;
+    case 'r': request.options.raw_names = true; return true;
+    case 'p': request.places = true; return true;
+    case 't': request.options.trusted.push_back(optarg); return true;
+    case 'w': request.options.cause = optarg; return true;
+    case 'k': request.options.killed = true; return true;
+    case 'a': request.options.all = true; return true;
+    case 'd': request.options.ordered = optarg; return true;
+    default: return false;
     }
-    return given.raw;
 }
 
-void tell(const char *name, u64 number) {
+bool read_arguments(int count, char **arguments, Request &request) {
+    static const option known[] = {
+        {"max", required_argument, nullptr, 'm'},    {"from", required_argument, nullptr, 'f'},
+        {"frames", required_argument, nullptr, 'c'}, {"no-free", no_argument, nullptr, 'n'},
+        {"only", required_argument, nullptr, 'o'},   {"numbers", required_argument, nullptr, 'e'},
+        {"places", no_argument, nullptr, 'p'},       {"raw-names", no_argument, nullptr, 'r'},
+        {"trust", required_argument, nullptr, 't'},  {"cause", required_argument, nullptr, 'w'},
+        {"killed", no_argument, nullptr, 'k'},       {"ordered", required_argument, nullptr, 'd'},
+        {"all", no_argument, nullptr, 'a'},          {nullptr, 0, nullptr, 0},
+    };
+    for (int option; (option = getopt_long(count, arguments, "", known, nullptr)) != -1;) {
+        if (!read_option(option, request)) return false;
+    }
+    if (optind + 1 != count) return false;
+    request.raw = arguments[optind];
+    return true;
+}
+
+void print_fact(const char *name, u64 number) {
     fprintf(stderr, "fact %s %llu\n", name, static_cast<unsigned long long>(number));
 }
 
-void decode(const Given &given) {
-    raw::File file(given.raw);
-    FILE *numbers = given.numbers ? fopen(given.numbers, "wb") : nullptr;
-    if (given.numbers && !numbers) throw raw::Wrong(std::string(given.numbers) + ": can't be written");
-    trace::Counts counts = trace::Trace(file, given.options).write(stdout, numbers);
-    if (fflush(stdout) || (numbers && fclose(numbers))) throw raw::Wrong("the trace can't be written");
-    tell("before", counts.before);
-    tell("written", counts.written);
-    tell("left_out", counts.left_out);
-    tell("too_many_threads", counts.too_many_threads);
-    tell("cut_short", counts.cut_short);
-    tell("no_sections", counts.no_sections);
-    tell("not_chosen", counts.not_chosen);
-    tell("stronger", counts.stronger);
+void decode(const Request &request) {
+    raw::File file(request.raw);
+    FILE *numbers = request.numbers ? fopen(request.numbers, "wb") : nullptr;
+    if (request.numbers && !numbers) throw raw::Wrong(std::string(request.numbers) + ": can't be written");
+    trace::Trace trace(file, request.options);
+    trace::Counts counts = trace.write(stdout, numbers);
+    if (!request.options.ordered.empty()) trace.write_ordered();
+    if (fflush(stdout) || ferror(stdout) || (numbers && fclose(numbers)))
+        throw raw::Wrong("the trace can't be written");
+    print_fact("before", counts.before);
+    print_fact("written", counts.written);
+    print_fact("left_out", counts.left_out);
+    print_fact("too_many_threads", counts.too_many_threads);
+    print_fact("threads", counts.threads);
+    print_fact("bytes", counts.bytes);
+    print_fact("cut_short", counts.cut_short);
+    print_fact("no_sections", counts.no_sections);
+    print_fact("by_library", counts.by_library);
+    print_fact("not_chosen", counts.not_chosen);
+    print_fact("stronger", counts.stronger);
+    print_fact("ordered", counts.ordered);
+    print_fact("ordered_parts", counts.ordered_parts);
+    print_fact("polls", counts.polls);
+    trace.losses().print(stderr);
+    deadlocks::print(stderr, trace.deadlock());
+}
+
+// Reads addresses in hexadecimal, one a line. Answers each with its frames, the innermost first, as lines
+// `FUNCTION PLACE`, and then an empty line. A function has no blanks.
+void answer_places(const Request &request) {
+    raw::File file(request.raw);
+    places::Modules modules(file);
+    for (std::string line; std::getline(std::cin, line);) {
+        for (const places::Frame &frame : modules.frames(strtoull(line.c_str(), nullptr, 16)))
+            std::cout << frame.function << ' ' << frame.place << '\n';
+        std::cout << std::endl;
+    }
 }
 
 }
 
-int main(int count, char **words) {
-    Given given;
-    if (!read_words(count, words, given)) {
-        fputs("decoder [--max N] [--from N] [--frames N] [--no-free] [--only FILE].. [--numbers FILE] RAW\n", stderr);
+int main(int count, char **arguments) {
+    Request request;
+    if (!read_arguments(count, arguments, request)) {
+        fprintf(stderr, "%s\n", USAGE);
         return 2;
     }
     try {
-        decode(given);
+        request.places ? answer_places(request) : decode(request);
     } catch (const raw::Wrong &wrong) {
         fprintf(stderr, "record: %s\n", wrong.what());
         return 1;

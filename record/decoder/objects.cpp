@@ -1,15 +1,20 @@
 #include "objects.hpp"
 #include <algorithm>
 #include "text.hpp"
+#include "types.hpp"
 
 namespace objects {
 
-constexpr int PAGE_BITS = 12, PIECE_BITS = 20;
+constexpr int PIECE_BITS = 20;
+// So many places of code are kept at most for a place in a frame.
+constexpr size_t MOST_USES = 16;
 
 void Objects::restart() {
     living.clear();
+    inside.clear();
     next = 0;
     std::fill(known.begin(), known.end(), Found{});
+    std::fill(pages.begin(), pages.end(), Whole{});
 }
 
 // What was known of the pages from `start` to `end` is known no more.
@@ -32,26 +37,99 @@ void Objects::begin(u64 start, u64 size) {
         changed(at->first, its_end);
         at = living.erase(at);
     }
+    cut_inside(start, end);
     changed(start, end);
     living[start] = {size, next++};
 }
 
-void Objects::begin_block(u64 start, u64 size, u64 pc, u32 call) {
-    begin(start, size);
+void Objects::begin_block(const record &one) {
+    begin(one.at, one.size);
     if (names.size() >= next) return;
-    auto known_place = place_of.find({pc, call});
-    if (known_place == place_of.end()) {
-        const std::string &name = modules.place(pc, call);
-        auto number = place_numbers.emplace(name, static_cast<u32>(place_names.size()));
-        if (number.second) place_names.push_back(name), given.push_back(0);
-        known_place = place_of.emplace(places::Key{pc, call}, number.first->second).first;
-    }
-    names.push_back({known_place->second, ++given[known_place->second]});
+    u32 site = site_at({one.pc, one.stack}), place = place_of_site[site];
+    names.push_back({place, ++given[place], site, one.thread, one.size});
 }
 
-void Objects::begin_stack(u64 start, u64 size, u16 thread) {
-    begin(start, size);
-    if (names.size() < next) names.push_back({STACK_PLACE, thread});
+u32 Objects::site_at(const places::Key &key) {
+    auto made = site_of.emplace(key, static_cast<u32>(sites.size()));
+    if (!made.second) return made.first->second;
+    const std::string &name = modules.place(key.pc, key.call);
+    auto number = place_numbers.emplace(name, static_cast<u32>(place_names.size()));
+    if (number.second) place_names.push_back(name), given.push_back(0);
+    sites.push_back({key, {0, 0}, false, false, std::nullopt});
+    place_of_site.push_back(number.first->second);
+    return made.first->second;
+}
+
+void Objects::begin_stack(const record &one) {
+    begin(one.at, one.size);
+    if (names.size() < next) names.push_back({STACK_PLACE, one.thread, 0, one.thread, one.size});
+}
+
+// What was inside there is there no more.
+void Objects::cut_inside(u64 start, u64 end) {
+    if (inside.empty()) return;
+    auto at = inside.upper_bound(start);
+    if (at != inside.begin()) --at;
+    while (at != inside.end() && at->first < end) {
+        u64 first = at->first;
+        Piece piece = at->second;
+        if (piece.end <= start) {
+            ++at;
+            continue;
+        }
+        at = inside.erase(at);
+        if (first < start) inside[first] = {start, piece.thing};
+        if (piece.end > end) inside[end] = piece;
+    }
+}
+
+void Objects::begin_inside(u64 start, u64 end, Thing thing) {
+    if (end <= start) return;
+    cut_inside(start, end);
+    inside[start] = {end, thing};
+    changed(start, end);
+}
+
+// The activation that has more memory than was known; a new one if there is none.
+Thing Objects::same_frame(const record &one) const {
+    auto after = inside.lower_bound(one.at + one.size);
+    if (!one.order || after == inside.begin()) return NOTHING;
+    const Piece &piece = std::prev(after)->second;
+    const Activation *found = activation_of(piece.thing);
+    bool is_same =
+        found && found->frame.end == one.at + one.size && found->body == one.pc && piece.end == found->frame.end;
+    return is_same ? piece.thing : NOTHING;
+}
+
+void Objects::begin_frame(const record &one) {
+    Thing thing = same_frame(one);
+    u64 end = one.at + one.size;
+    if (thing == NOTHING) {
+        thing = next++;
+        if (names.size() < next) {
+            names.push_back({FRAME_PLACE, 0, static_cast<u32>(activations.size()), one.thread, 0});
+            activations.push_back({one.pc, {one.answer, end}, one.thread});
+        }
+    }
+    begin_inside(one.at, end, thing);
+}
+
+void Objects::begin_own_variables(const record &stack) {
+    u64 size = stack.answer ? modules.own_variables() : 0;
+    if (!size || size > stack.answer) return;
+    Thing thing = next++;
+    if (names.size() < next) names.push_back({OWN_PLACE, 0, 0, stack.thread, size});
+    begin_inside(stack.answer - size, stack.answer, thing);
+}
+
+const Activation *Objects::activation_of(Thing thing) const {
+    bool is_frame = thing < names.size() && names[thing].place == FRAME_PLACE;
+    return is_frame ? &activations[names[thing].site] : nullptr;
+}
+
+u64 Objects::place_in(Thing thing, u64 start, u64 address) const {
+    const Activation *frame = activation_of(thing);
+    return frame ? address + BEFORE_END - frame->frame.end : address - start;
 }
 
 void Objects::resize(u64 start, u64 size) {
@@ -66,7 +144,23 @@ Where Objects::living_at(u64 start) const {
     return at == living.end() ? Where{NOTHING, 0} : Where{at->second.thing, at->second.size};
 }
 
+// Pages that no block has alone are kept too, as those of nothing.
+void Objects::find_whole(u64 page, Whole &to) const {
+    u64 start = page << PAGE_BITS, end = start + (1ull << PAGE_BITS);
+    to = {page, 0, ages[page % PAGES], NOTHING};
+    auto piece = inside.lower_bound(end);
+    if (piece != inside.begin() && std::prev(piece)->second.end > start) return;
+    auto after = living.upper_bound(start);
+    if (after == living.begin()) return;
+    auto &block = *std::prev(after);
+    if (block.second.end(block.first) >= end) to.start = block.first, to.thing = block.second.thing;
+}
+
 Where Objects::at(u64 address) {
+    u64 page = address >> PAGE_BITS;
+    Whole &whole = pages[page % WHOLE_PAGES];
+    if (whole.page != page || whole.age != ages[page % PAGES]) find_whole(page, whole);
+    if (whole.thing != NOTHING) return {whole.thing, address - whole.start};
     u64 mixed = address * 0x9e3779b97f4a7c15ull >> 48;
     Found &found = known[mixed % CACHE];
     u32 age = ages[(address >> PAGE_BITS) % PAGES];
@@ -79,6 +173,11 @@ Where Objects::at(u64 address) {
 }
 
 Where Objects::searched(u64 address) {
+    auto behind = inside.upper_bound(address);
+    if (behind != inside.begin() && address < std::prev(behind)->second.end) {
+        auto &[start, part] = *std::prev(behind);
+        return {part.thing, place_in(part.thing, start, address)};
+    }
     auto after = living.upper_bound(address);
     if (after != living.begin()) {
         auto &block = *std::prev(after);
@@ -87,7 +186,7 @@ Where Objects::searched(u64 address) {
     places::Variable variable = modules.variable_at(address);
     if (!variable.name.empty()) {
         auto made = symbols.emplace(variable.start, NOTHING);
-        if (made.second) made.first->second = lasting(variable.name);
+        if (made.second) made.first->second = lasting(variable.name, variable.start);
         return {made.first->second, address - variable.start};
     }
     u64 piece = address >> PIECE_BITS;
@@ -100,8 +199,9 @@ Where Objects::searched(u64 address) {
     return {made.first->second, address & ((1u << PIECE_BITS) - 1)};
 }
 
-Thing Objects::lasting(const std::string &name) {
+Thing Objects::lasting(const std::string &name, u64 symbol) {
     lasting_names.push_back(name);
+    lasting_symbols.push_back(symbol);
     return LASTING + static_cast<Thing>(lasting_names.size() - 1);
 }
 
@@ -118,6 +218,119 @@ std::string Objects::name(Thing thing, u64 place) const {
     else if (names[thing].place == STACK_PLACE) whole = "stack:T" + std::to_string(names[thing].number);
     else whole = "heap:" + place_names[names[thing].place] + "#" + std::to_string(names[thing].number);
     return place ? whole + "+" + std::to_string(place) : whole;
+}
+
+std::string Objects::source_name(Thing thing, u64 place, u64 size) {
+    if (thing < LASTING) {
+        switch (names[thing].place) {
+        case STACK_PLACE: return "";
+        case FRAME_PLACE: return frame_name(thing, place, size);
+        case OWN_PLACE: return own_name(names[thing], place, size);
+        default: return block_name(thing, place, size);
+        }
+    }
+    u64 symbol = lasting_symbols[thing - LASTING];
+    return symbol ? modules.variable_name(symbol, place, size) : "";
+}
+
+void Objects::see_write(Thing thing, const record &one) {
+    if (thing >= names.size() || names[thing].place >= OWN_PLACE || names[thing].thread != one.thread) return;
+    Site &site = sites[names[thing].site];
+    if (!site.written.pc) site.written = {one.pc, one.stack};
+}
+
+const Objects::Site &Objects::site_of_block(const Name &block) {
+    Site &site = sites[block.site];
+    if (site.was_looked_for) return site;
+    site.was_looked_for = true;
+    site.type = modules.allocated(site.key.pc, site.key.call);
+    if (!site.type) site.type = modules.constructed(site.key, site.written, block.size);
+    if (site.type) return site;
+    site.type = modules.guessed(site.key, block.size);
+    site.is_guess = site.type.has_value();
+    return site;
+}
+
+// The type of a block; empty if it is not known, or if it has more bytes.
+std::string Objects::label_of(const Name &block) {
+    const Site &site = site_of_block(block);
+    std::optional<Dwarf_Die> type = site.type ? types::object_type(*site.type) : std::nullopt;
+    if (!type || !types::size_of(*type) || types::size_of(*type) > block.size) return "";
+    std::string label = text::plain(types::label_of(*site.type));
+    return label.empty() || !site.is_guess ? label : label + "?";
+}
+
+// The name of a block or frame without a number: the place and the type of a block, or the function.
+std::string Objects::base_name(Thing thing) {
+    const Name &of = names[thing];
+    if (of.place == FRAME_PLACE) return modules.function_at(activations[of.site].body);
+    std::string label = label_of(of);
+    return "heap:" + place_names[of.place] + (label.empty() ? "" : " " + label);
+}
+
+// Those with one name are counted by their threads, and the only one has no number.
+void Objects::number(const std::vector<Thing> &printed) {
+    std::unordered_map<std::string, u32> all;
+    std::map<std::pair<std::string, u16>, u32> by_thread;
+    std::vector<std::pair<Thing, std::string>> bases;
+    for (Thing thing : printed) {
+        if (thing >= LASTING || names[thing].place == STACK_PLACE || names[thing].place == OWN_PLACE) continue;
+        bases.emplace_back(thing, base_name(thing));
+        all[bases.back().second]++;
+    }
+    for (auto &[thing, base] : bases) {
+        u16 thread = names[thing].thread;
+        u32 count = ++by_thread[{base, thread}];
+        if (all[base] == 1) continue;
+        std::string number = count > 1 ? std::to_string(count) : "";
+        if (thread) number = "T" + std::to_string(thread) + (number.empty() ? "" : "." + number);
+        if (!number.empty()) numbers[thing] = "#" + number;
+    }
+}
+
+std::string Objects::number_of(Thing thing) const {
+    auto found = numbers.find(thing);
+    return found == numbers.end() ? "" : found->second;
+}
+
+// A block of two objects or more is an array. Bytes of two elements have the offset in the block.
+std::string Objects::block_name(Thing thing, u64 place, u64 size) {
+    const Name &block = names[thing];
+    const Site &site = site_of_block(block);
+    std::optional<Dwarf_Die> type = label_of(block).empty() ? std::nullopt : types::object_type(*site.type);
+    u64 each = type ? types::size_of(*type) : 0;
+    std::string name = base_name(thing) + number_of(thing);
+    if (!each || place % each + size > each) return name + (place ? "+" + std::to_string(place) : "");
+    if (block.size >= 2 * each) name += "[" + std::to_string(place / each) + "]";
+    return name + text::plain(types::path_in(*site.type, place % each, size));
+}
+
+void Objects::use(Thing thing, u64 place, u64 pc) {
+    locals::Uses &known = uses[{thing, place}];
+    auto same = std::find_if(known.begin(), known.end(), [pc](auto &one) { return one.first == pc; });
+    if (same != known.end()) same->second++;
+    else if (known.size() < MOST_USES) known.emplace_back(pc, 1);
+}
+
+// If no variable is known there, the offset from the frame's end.
+std::string Objects::frame_name(Thing thing, u64 place, u64 size) {
+    const Activation &of = activations[names[thing].site];
+    std::string function = base_name(thing), number = number_of(thing);
+    auto known = uses.find({thing, place});
+    u64 address = place + of.frame.end - BEFORE_END;
+    locals::Name name =
+        modules.local_name(of.body, of.frame, address, size, known == uses.end() ? locals::Uses{} : known->second);
+    if (!name.variable.empty())
+        return (name.inlined.empty() ? function : text::function_name(name.inlined)) + number + ":" + name.variable;
+    auto offset = static_cast<long long>(place) - static_cast<long long>(BEFORE_END);
+    return "stack:" + function + number + (offset < 0 ? "" : "+") + std::to_string(offset);
+}
+
+// The offset is that from the first of these variables on.
+std::string Objects::own_name(const Name &of, u64 place, u64 size) {
+    std::string name = modules.own_variable_name(place, size), thread = "T" + std::to_string(of.thread);
+    if (!name.empty()) return name + "#" + thread;
+    return "thread:" + thread + (place ? "+" + std::to_string(place) : "");
 }
 
 }

@@ -1,4 +1,5 @@
-// What lies where, as the records go by: blocks and stacks that live, symbols, and the rest in pieces of a megabyte.
+// What lies where, as the records go by: blocks and stacks that live, in these the frames of calls and the variables
+// that each thread has, symbols, and the rest in pieces of a megabyte.
 #pragma once
 #include <map>
 #include <string>
@@ -18,22 +19,45 @@ struct Where {
     u64 place;
 };
 
+// One activation of a function. Its places are counted from so many bytes before the frame's end on.
+struct Activation {
+    u64 body;
+    locals::Frame frame;
+    u16 thread;
+};
+constexpr u64 BEFORE_END = 1ull << 40;
+
 class Objects {
 public:
-    explicit Objects(places::Modules &modules) : modules(modules), known(CACHE), ages(PAGES) {}
+    explicit Objects(places::Modules &modules) : modules(modules), known(CACHE), pages(WHOLE_PAGES), ages(PAGES) {}
     // Before the records go by again.
     void restart();
     // A block that was given back keeps its name until its memory is given out again.
-    void begin_block(u64 start, u64 size, u64 pc, u32 call);
-    void begin_stack(u64 start, u64 size, u16 thread);
+    void begin_block(const record &one);
+    void begin_stack(const record &one);
+    // Memory of an activation of a function, or more of it. The variables that a thread has are below `answer` of its
+    // stack. With raw names there are neither.
+    void begin_frame(const record &one);
+    void begin_own_variables(const record &stack);
     void resize(u64 start, u64 size);
     // The living block that starts at an address, and its length; or nothing.
     Where living_at(u64 start) const;
     Where at(u64 address);
     // What is no memory: one of so many of a kind.
     Thing named(int kind, u64 number);
+    // The name of a thing and an offset in bytes.
     std::string name(Thing thing, u64 place) const;
+    // The name of so many bytes at a place as the source has it. Empty if it is not known.
+    std::string source_name(Thing thing, u64 place, u64 size);
     size_t blocks() const { return names.size(); }
+    // The code of the function whose activation a thing is, and its thread; nothing if it is none.
+    const Activation *activation_of(Thing thing) const;
+    // A block is written by the thread that allocated it: the first such write may be that of a constructor.
+    void see_write(Thing thing, const record &one);
+    // A place in a frame was used, while its function was at `pc`.
+    void use(Thing thing, u64 place, u64 pc);
+    // Numbers the blocks and frames that are printed.
+    void number(const std::vector<Thing> &printed);
 
 private:
     // A block or stack that lives.
@@ -42,9 +66,24 @@ private:
         Thing thing;
         u64 end(u64 start) const { return start + (size ? size : 1); }
     };
-    // A block is the how many-th of its place; a stack is that of a thread, and has no place.
+    // A block is the how many-th of its place; a stack is that of a thread, and has no place. A frame's `site` is the
+    // number of its activation.
     struct Name {
-        u32 place, number;
+        u32 place, number, site;
+        u16 thread;
+        u64 size;
+    };
+    // A part of a frame, or the variables that a thread has.
+    struct Piece {
+        u64 end;
+        Thing thing;
+    };
+    // Where blocks were allocated, where the first of them was written first, and of which type they are, if that was
+    // looked for. A type may be a guess.
+    struct Site {
+        places::Key key, written;
+        bool was_looked_for = false, is_guess = false;
+        std::optional<Dwarf_Die> type;
     };
     // Where an address was found, while nothing began or changed in its page.
     struct Found {
@@ -52,22 +91,52 @@ private:
         u32 age = 0;
         Where where{};
     };
-    static constexpr size_t CACHE = 1 << 16, PAGES = 1 << 16;
-    static constexpr u32 STACK_PLACE = ~0u;
+    // A page that one living block or stack has whole and alone, while nothing began or changed in it.
+    struct Whole {
+        u64 page = ~0ull, start = 0;
+        u32 age = 0;
+        Thing thing = NOTHING;
+    };
+    static constexpr size_t CACHE = 1 << 16, PAGES = 1 << 16, WHOLE_PAGES = 1 << 12;
+    static constexpr int PAGE_BITS = 12;
+    static constexpr u32 STACK_PLACE = ~0u, FRAME_PLACE = ~0u - 1, OWN_PLACE = ~0u - 2;
     void begin(u64 start, u64 size);
+    void begin_inside(u64 start, u64 end, Thing thing);
+    void cut_inside(u64 start, u64 end);
+    Thing same_frame(const record &one) const;
+    u64 place_in(Thing thing, u64 start, u64 address) const;
     void changed(u64 start, u64 end);
     Where searched(u64 address);
-    Thing lasting(const std::string &name);
+    void find_whole(u64 page, Whole &to) const;
+    u32 site_at(const places::Key &key);
+    const Site &site_of_block(const Name &block);
+    std::string base_name(Thing thing);
+    std::string label_of(const Name &block);
+    std::string number_of(Thing thing) const;
+    std::string block_name(Thing thing, u64 place, u64 size);
+    std::string frame_name(Thing thing, u64 place, u64 size);
+    std::string own_name(const Name &of, u64 place, u64 size);
+    Thing lasting(const std::string &name, u64 symbol = 0);
     places::Modules &modules;
     std::map<u64, Living> living;
+    std::map<u64, Piece> inside;
+    std::vector<Activation> activations;
+    std::map<std::pair<Thing, u64>, locals::Uses> uses;
+    // What follows the name of a block or frame that is printed.
+    std::unordered_map<Thing, std::string> numbers;
     Thing next = 0;
     std::vector<Name> names;
     std::vector<std::string> place_names, lasting_names;
+    // Where the symbols are that last; 0 for other things.
+    std::vector<u64> lasting_symbols;
     std::vector<u32> given;
     std::unordered_map<std::string, u32> place_numbers;
-    std::unordered_map<places::Key, u32, places::KeyHash> place_of;
+    std::unordered_map<places::Key, u32, places::KeyHash> site_of;
+    std::vector<Site> sites;
+    std::vector<u32> place_of_site;
     std::unordered_map<u64, Thing> symbols, pieces, others;
     std::vector<Found> known;
+    std::vector<Whole> pages;
     std::vector<u32> ages;
 };
 

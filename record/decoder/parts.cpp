@@ -2,23 +2,43 @@
 
 namespace parts {
 
-// An end that comes again and again is kept once: what is new is sorted into the rest when it has become as many.
-void Cuts::add(u64 end) {
-    if (settled && std::binary_search(ends.begin(), ends.begin() + static_cast<ptrdiff_t>(settled), end)) return;
-    ends.push_back(end);
-    if (ends.size() >= 2 * settled + 64) settle();
+void Cuts::mark(u64 end) {
+    u64 word = end / BITS;
+    if (word >= marks.size()) marks.resize(word + 1 + word / 8);
+    marks[word] |= 1ull << end % BITS;
 }
 
-void Cuts::settle() {
+// An end that comes again and again is kept once: what is new is sorted into the rest when it has become as many.
+void Cuts::add_far(u64 end) {
+    if (settled && std::binary_search(ends.begin(), ends.begin() + static_cast<ptrdiff_t>(settled), end)) return;
+    ends.push_back(end);
+    if (ends.size() < 2 * settled + 64) return;
     std::sort(ends.begin(), ends.end());
     ends.erase(std::unique(ends.begin(), ends.end()), ends.end());
     settled = ends.size();
 }
 
-std::pair<size_t, size_t> Cuts::between(u64 start, u64 end) const {
-    auto first = std::lower_bound(ends.begin(), ends.end(), start);
-    auto last = std::lower_bound(first, ends.end(), std::max(start, end));
-    return {static_cast<size_t>(first - ends.begin()), static_cast<size_t>(last - ends.begin())};
+void Cuts::settle() {
+    for (u64 word = 0; word < marks.size(); word++)
+        for (u64 rest = marks[word]; rest; rest &= rest - 1)
+            ends.push_back(word * BITS + static_cast<u64>(__builtin_ctzll(rest)));
+    marks = {};
+    std::sort(ends.begin(), ends.end());
+    ends.erase(std::unique(ends.begin(), ends.end()), ends.end());
+    ends.shrink_to_fit();
+    find_step();
+}
+
+void Cuts::find_step() {
+    if (ends.size() < 2) return;
+    u64 each = ends[1] - ends[0];
+    for (size_t k = 2; k < ends.size(); k++)
+        if (ends[k] - ends[k - 1] != each) return;
+    step = each;
+}
+
+size_t Cuts::search(u64 place) const {
+    return static_cast<size_t>(std::lower_bound(ends.begin(), ends.end(), place) - ends.begin());
 }
 
 }

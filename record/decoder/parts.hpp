@@ -3,6 +3,7 @@
 #include <algorithm>
 #include <array>
 #include <unordered_map>
+#include <utility>
 #include <vector>
 #include "objects.hpp"
 
@@ -13,13 +14,13 @@ using objects::Thing;
 // Who came to a thing: the first thread, whether there was another, whether one wrote.
 struct Seen {
     u16 first = 0;
-    bool any = false, several = false, written = false, chosen = false;
+    bool any = false, several = false, written = false, chosen = false, ordered = false;
     void see(u16 thread, bool writes) {
         if (!any) any = true, first = thread;
         if (first != thread) several = true;
         if (writes) written = true;
     }
-    bool shared() const { return several && written; }
+    bool shared() const { return several && written && !ordered; }
 };
 
 // A number for each thing. Blocks are many and lie side by side.
@@ -39,21 +40,42 @@ private:
 // The ends of the accesses to one thing, in rising order once they are settled, and the number of its first part.
 class Cuts {
 public:
-    void add(u64 end);
+    void add(u64 end) {
+        u64 word = end / BITS;
+        if (word < marks.size() && marks[word] >> end % BITS & 1) return;
+        end < MARKED ? mark(end) : add_far(end);
+    }
     void settle();
     // The parts from `start` to `end`: the first one, and the one behind the last.
-    std::pair<size_t, size_t> between(u64 start, u64 end) const;
+    std::pair<size_t, size_t> between(u64 start, u64 end) const { return {from(start), from(std::max(start, end))}; }
     u64 at(size_t part) const { return ends[part]; }
     size_t size() const { return ends.size(); }
+    // Whether an end takes a search to be added. Places in frames are that far.
+    static bool is_far(u64 end) { return end >= MARKED; }
+    // Whether all parts have as many bytes, so that the part of a place needs no search.
+    bool is_even() const { return step; }
     size_t first = 0;
 
 private:
+    static constexpr u64 BITS = 64, MARKED = 1 << 26;
+    void mark(u64 end);
+    void add_far(u64 end);
+    void find_step();
+    // The first part that begins at a place or behind it.
+    size_t from(u64 place) const {
+        if (!step || place < ends[0] || place > ends.back()) return search(place);
+        return (place - ends[0] + step - 1) / step;
+    }
+    size_t search(u64 place) const;
     std::vector<u64> ends;
+    // A bit for each end below MARKED, until they are settled.
+    std::vector<u64> marks;
     size_t settled = 0;
+    u64 step = 0;
 };
 
 // An access of more parts than this may give its first ones only, if all accesses have more parts beyond than there is
-// room for: then it gives so many of them as MORE_PARTS says, the most that there is room for. decoding.py has the same.
+// room for: then it gives so many of them as MORE_PARTS says, the most that there is room for.
 constexpr size_t MOST_PARTS = 64, ROOM_BEYOND = 131072;
 constexpr std::array<size_t, 3> MORE_PARTS = {65536, 4096, 512};
 

@@ -58,6 +58,109 @@ Variable Modules::variable_at(u64 address) {
     return {module->base + found->start, library + text::plain(text::with_section(found->name))};
 }
 
+// So many calls around an allocation may be those of a container.
+constexpr int MOST_CALLS = 4;
+
+std::optional<Dwarf_Die> Modules::allocated(u64 pc, u32 call) {
+    for (int calls = 0; calls < MOST_CALLS; calls++) {
+        Module *module = of(pc);
+        std::optional<Dwarf_Die> found;
+        if (module && module->is_hooked) found = lines_of(*module).allocated(pc - 1 - module->base);
+        if (found || !call) return found;
+        pc = file.call(call).site;
+        call = std::min(file.call(call).parent, call - 1);
+    }
+    return std::nullopt;
+}
+
+std::optional<Dwarf_Die> Modules::constructed(const Key &allocated, const Key &written, u64 size) {
+    Module *module = of(allocated.pc);
+    if (!module || !module->is_hooked) return std::nullopt;
+    std::optional<Dwarf_Die> found = lines_of(*module).made_unique(allocated.pc - 1 - module->base);
+    // The places from the write on to the function that allocated.
+    std::vector<u64> places = {written.pc};
+    u32 node = written.call;
+    for (; node && node != allocated.call; node = std::min(file.call(node).parent, node - 1))
+        places.push_back(file.call(node).site);
+    if (found || !written.pc || node != allocated.call) return found;
+    for (auto place = places.rbegin(); !found && place != places.rend(); ++place) {
+        Module *its = of(*place);
+        u64 outside = place == places.rbegin() && its == module ? allocated.pc - 1 - module->base : 0;
+        if (its && its->is_hooked) found = lines_of(*its).constructed(*place - 1 - its->base, size, outside);
+    }
+    return found;
+}
+
+std::optional<Dwarf_Die> Modules::guessed(const Key &allocated, u64 size) {
+    u64 pc = allocated.pc;
+    u32 call = allocated.call;
+    for (int calls = 0; calls < MOST_CALLS; calls++) {
+        Module *module = of(pc);
+        if (!module || !module->is_hooked) return std::nullopt;
+        bool passes_on = false;
+        std::optional<Dwarf_Die> found = lines_of(*module).guessed(pc - 1 - module->base, size, passes_on);
+        if (found || !passes_on || !call) return found;
+        pc = file.call(call).site;
+        call = std::min(file.call(call).parent, call - 1);
+    }
+    return std::nullopt;
+}
+
+// A static of a function that has no name in the debug information. Its symbol is FUNCTION.VARIABLE in C by clang, and
+// FUNCTION(..)::VARIABLE in C++.
+std::string Modules::symbol_function(Module &module, u64 start, const std::string &name) {
+    const elf::Symbol *symbol = elf::Symbols::at(symbols_of(module).variables, start - module.base);
+    std::string whole = symbol ? symbol->name : "";
+    size_t last = whole.rfind("::"), dot = whole.find('.');
+    if (last != std::string::npos)
+        return text::function_name(text::without_parameters(whole.substr(0, last))) + ":" + name;
+    return dot == std::string::npos ? name : text::function_name(whole.substr(0, dot)) + ":" + name;
+}
+
+std::string Modules::variable_name(u64 start, u64 place, u64 size) {
+    Module *module = of(start);
+    std::string name = module ? lines_of(*module).variable_name(start + place - module->base, size) : "";
+    if (name.rfind("?:", 0) == 0) name = symbol_function(*module, start, name.substr(2));
+    if (name.empty() || module->is_program) return name;
+    return text::plain(text::last_part(module->path)) + ":" + name;
+}
+
+Module *Modules::program() {
+    auto found = std::find_if(modules.begin(), modules.end(), [](const Module &one) { return one.is_program; });
+    return found == modules.end() ? nullptr : &*found;
+}
+
+u64 Modules::own_variables() {
+    Module *module = program();
+    if (!own) own = module ? elf::own_variables(module->path) : elf::OwnVariables{0, 0};
+    return own->size;
+}
+
+// With split debug information, gcc counts from the start of the file.
+std::string Modules::own_variable_name(u64 place, u64 size) {
+    Module *module = program();
+    std::string name = module ? lines_of(*module).thread_variable_name(place, size) : "";
+    if (name.empty() && module && own) name = lines_of(*module).thread_variable_name(place + own->start, size);
+    return name.rfind("?:", 0) == 0 ? name.substr(2) : name;
+}
+
+std::string Modules::function_at(u64 body) {
+    auto made = known_functions.emplace(body, "");
+    if (!made.second) return made.first->second;
+    Frames found = frames(body);
+    if (found.empty()) found = without_lines(body);
+    std::string name = found.empty() ? "" : found.back().function;
+    if (name.empty()) name = found.empty() ? "?" : found.back().place;
+    return made.first->second = name;
+}
+
+locals::Name Modules::local_name(u64 body, const locals::Frame &frame, u64 at, u64 size, locals::Uses uses) {
+    Module *module = of(body);
+    if (!module || !module->is_hooked) return {"", ""};
+    for (auto &use : uses) use.first -= module->base + 1;
+    return lines_of(*module).local_name(body - 1 - module->base, frame, at, size, uses);
+}
+
 std::string Modules::short_path(const std::string &path) {
     if (!paths_known) {
         std::set<std::string> all;
@@ -70,7 +173,6 @@ std::string Modules::short_path(const std::string &path) {
     return known == shorter.end() ? path : known->second;
 }
 
-// The frames of a place after a call, in modules with hooks.
 const Frames &Modules::frames(u64 address) {
     auto known = known_frames.find(address);
     return known != known_frames.end() ? known->second : known_frames[address] = found_frames(address);
@@ -83,7 +185,7 @@ Frames Modules::found_frames(u64 address) {
     for (const dwarf::Frame &one : lines_of(*module).frames(address - 1 - module->base)) {
         std::string path = text::fitting(text::plain(short_path(one.path)), text::MOST_PLACE_BYTES);
         found.push_back({text::function_name(one.function), path + ":" + std::to_string(one.line),
-                         text::in_cxx_library(one.path), one.path});
+                         text::in_library(one.path), one.path});
     }
     return found;
 }
@@ -141,6 +243,39 @@ const std::string &Modules::place(u64 pc, u32 call) {
     return found.empty() ? none_known : found[0].place;
 }
 
+// Libraries that need no hooks: those of C and C++, whose functions the recorder knows, and those of compilers. The
+// last four convert letters for the C library.
+static const char *const KNOWN_LIBRARIES[] = {
+    "ld-linux",   "linux-vdso", "libc.",      "libm.",     "libpthread.", "libdl.",   "librt.",
+    "libutil.",   "libresolv.", "libnss_",    "libanl.",   "libcrypt.",   "libnsl.",  "libmvec.",
+    "libstdc++.", "libc++.",    "libc++abi.", "libgcc_s.", "libunwind.",  "libgomp.", "libatomic.",
+    "libubsan.",  "UTF-16.",    "UTF-32.",    "ISO8859",   "UNICODE.",
+};
+
+static bool is_known(const std::string &library, const std::vector<std::string> &trusted) {
+    auto begins = [&library](const std::string &name) { return !name.empty() && library.rfind(name, 0) == 0; };
+    return std::any_of(std::begin(KNOWN_LIBRARIES), std::end(KNOWN_LIBRARIES), begins) ||
+        std::any_of(trusted.begin(), trusted.end(), begins);
+}
+
+std::vector<std::string> Modules::unknown_libraries(const std::vector<std::string> &trusted) const {
+    std::vector<std::string> found;
+    for (const Module &module : modules) {
+        std::string name = text::plain(text::last_part(module.path));
+        if (!module.is_program && !name.empty() && !is_known(name, trusted) && !elf::has_hooks(module.path))
+            found.push_back(name);
+    }
+    return found;
+}
+
+std::vector<std::string> Modules::bare_objects() const {
+    std::vector<std::string> found;
+    for (const Module &module : modules)
+        if (module.is_program || module.is_hooked)
+            for (const std::string &name : elf::bare_objects(module.path)) found.push_back(text::plain(name));
+    return found;
+}
+
 static bool ends_in(const std::string &path, const std::string &file) {
     if (path.size() <= file.size()) return path == file;
     size_t start = path.size() - file.size();
@@ -155,7 +290,7 @@ bool Modules::is_in(u64 pc, u32 call, const std::vector<std::string> &files) {
 
 std::string Modules::location(u64 pc, u32 call, size_t most, const std::string &inside) {
     const Frames &found = ordered_stack(pc, call);
-    if (found.empty() || !most) return place(pc, call);
+    if (found.empty() || !most) return place(pc, call) + (inside == "try" ? " < try" : "");
     std::string whole = joined(found[0].place, " < ", joined(inside, " in ", found[0].function));
     for (size_t k = 1; k < std::min(most, found.size()); k++)
         whole += " < " + joined(found[k].function, " ", found[k].place);

@@ -16,6 +16,8 @@ public:
     explicit File(const std::string &path);
     const head &top() const { return *reinterpret_cast<const head *>(bytes); }
     size_t records() const { return used; }
+    // How many records had no room.
+    u64 lost() const { return top().used > used ? top().used - used : 0; }
     const record &at(size_t number) const { return first[number]; }
     // Records have gone by up to a number: the memory of those long before it is given back, since the file has them.
     void pass(size_t number) const {

@@ -3,26 +3,25 @@
 
 namespace relaxed {
 
-// The memory orders of C++, as the compiler numbers them.
-enum { RELAXED, CONSUME, ACQUIRES, RELEASES };
+using releases::ACQUIRES;
+using releases::CONSUME;
+using releases::RELAXED;
+using releases::RELEASES;
 
-void Relaxed::see(u64 number, const record &one) {
-    if (one.kind == FORK) forks.emplace(one.at, Step{number, one.thread});
-    if (one.kind == JOIN) joins.emplace(one.at, Step{number, one.thread});
-    if (one.kind == FENCE && one.order != RELAXED) {
-        first_fence.emplace(one.thread, number);
-        last_fence[one.thread] = number;
-    }
-    if (one.kind >= ATOMIC_READ && one.kind <= ATOMIC_UPDATE && one.order == RELAXED) there = true;
+void Relaxed::see(const record &one) {
+    bool is_atomic = one.kind >= ATOMIC_READ && one.kind <= ATOMIC_UPDATE;
+    bool releases_alone = one.kind == ATOMIC_UPDATE && one.order == RELEASES;
+    there |= is_atomic && (one.order == RELAXED || releases_alone);
 }
 
-void Relaxed::see_part(u64 number, u16 thread, bool atomic, size_t part) {
+void Relaxed::see_part(u64 number, const record &one, size_t part) {
     Part &seen = parts[part];
-    if (!atomic) {
-        if (seen.plain.size() <= MOST_PLAIN) seen.plain.push_back({number, thread});
+    if (one.kind < ATOMIC_READ || one.kind > ATOMIC_UPDATE) {
+        auto &steps = one.kind == FREED ? seen.freed : seen.plain;
+        if (steps.size() <= MOST_PLAIN) steps.push_back({number, one.thread});
         return;
     }
-    auto made = seen.atomic.emplace(thread, std::make_pair(number, number));
+    auto made = seen.atomic.emplace(one.thread, forks::Ends{number, number});
     made.first->second.second = number;
 }
 
@@ -65,60 +64,34 @@ void Relaxed::see_atomic(u64 number, const record &one, size_t part) {
     seen.any_write = true, seen.writer = one.thread, seen.write = now;
 }
 
-// Whether all that the thread does comes after that event of the other thread, since it was made later by it.
-bool Relaxed::comes_after(u64 thread, u64 number, u64 other) const {
-    while (thread != other) {
-        auto fork = forks.find(thread);
-        if (fork == forks.end() || fork->second.number <= number) return false;
-        thread = fork->second.thread;
-    }
-    return true;
-}
-
-// Whether all that the thread does comes before that event of the other thread, since it was joined before.
-bool Relaxed::comes_before(u64 thread, u64 number, u64 other) const {
-    while (thread != other) {
-        auto join = joins.find(thread);
-        if (join == joins.end() || join->second.number >= number) return false;
-        thread = join->second.thread;
-    }
-    return true;
-}
-
-// Whether a plain access comes before or after all atomic accesses of the other thread by forks and joins alone.
-bool Relaxed::is_ordered(const Step &plain, u16 other, const std::pair<u64, u64> &ends) const {
-    if (plain.number < ends.first) return comes_after(other, plain.number, plain.thread);
-    return plain.thread == other || (plain.number > ends.second && comes_before(other, plain.number, plain.thread));
-}
-
-// Whether no plain access of this part can meet an atomic one.
-bool Relaxed::is_pure(size_t part) {
+// What can meet the atomic accesses of a part: no plain access of a pure one.
+const Relaxed::Part &Relaxed::judged(const forks::Forks &forks, size_t part) {
     Part &seen = parts[part];
-    if (seen.known) return seen.pure;
+    if (seen.known) return seen;
+    auto meets = [&](const forks::Step &step) {
+        auto is_ordered = [&](auto &thread) { return forks.order(step, thread.first, thread.second); };
+        return !std::all_of(seen.atomic.begin(), seen.atomic.end(), is_ordered);
+    };
     seen.known = true;
-    seen.pure = seen.plain.size() <= MOST_PLAIN;
-    for (const Step &plain : seen.plain) {
-        for (auto &thread : seen.atomic) seen.pure = seen.pure && is_ordered(plain, thread.first, thread.second);
+    seen.pure = seen.plain.size() <= MOST_PLAIN && std::none_of(seen.plain.begin(), seen.plain.end(), meets);
+    seen.meets_free = std::any_of(seen.freed.begin(), seen.freed.end(), meets);
+    return seen;
+}
+
+Form Relaxed::form_of(const forks::Forks &forks, u64 number, const record &one, const std::vector<size_t> &of) {
+    bool is_relaxed = one.order == RELAXED || orders.sees_relaxed(number), writes_alone = orders.is_write_alone(number);
+    bool is_ordered = number < ordered.size() && ordered[number], pure = true, meets_free = false;
+    if ((is_relaxed && !is_ordered) || writes_alone) {
+        for (size_t part : of) {
+            const Part &seen = judged(forks, part);
+            pure = pure && seen.pure, meets_free = meets_free || seen.meets_free;
+        }
+        if (pure && writes_alone) return WRITES;
+        if (pure) return meets_free ? READS : NOTHING;
     }
-    return seen.pure;
-}
-
-// A read has the order of a later fence of its thread, and a write that of an earlier one.
-bool Relaxed::meets_fence(u64 number, const record &one) const {
-    auto last = last_fence.find(one.thread), first = first_fence.find(one.thread);
-    bool later = one.kind != ATOMIC_WRITE && last != last_fence.end() && last->second > number;
-    return later || (one.kind != ATOMIC_READ && first != first_fence.end() && first->second < number);
-}
-
-bool Relaxed::is_no_event(u64 number, const record &one, const std::vector<size_t> &of) {
-    bool is_relaxed = one.order == RELAXED;
-    if (is_relaxed && number < ordered.size() && ordered[number]) return false;
-    bool pure = is_relaxed && !meets_fence(number, one) &&
-        std::all_of(of.begin(), of.end(), [this](size_t part) { return is_pure(part); });
-    if (pure) return true;
     bool one_way = one.kind == ATOMIC_UPDATE && one.order >= CONSUME && one.order <= RELEASES;
-    stronger += is_relaxed || one_way;
-    return false;
+    stronger += (one.order == RELAXED && !is_ordered) || one_way;
+    return WHOLE;
 }
 
 }

@@ -1,33 +1,19 @@
 #include "text.hpp"
 #include "elf.hpp"
 #include <algorithm>
-#include <array>
 #include <cstdio>
 #include <unordered_map>
+#include <zlib.h>
 
 namespace text {
-
-static uint32_t crc32(const std::string &bytes) {
-    static const std::array<uint32_t, 256> table = [] {
-        std::array<uint32_t, 256> made{};
-        for (uint32_t k = 0; k < 256; k++) {
-            uint32_t word = k;
-            for (int bit = 0; bit < 8; bit++) word = word & 1 ? word >> 1 ^ 0xedb88320u : word >> 1;
-            made[k] = word;
-        }
-        return made;
-    }();
-    uint32_t sum = 0xffffffffu;
-    for (unsigned char byte : bytes) sum = table[(sum ^ byte) & 255] ^ sum >> 8;
-    return ~sum;
-}
 
 std::string fitting(const std::string &name, size_t most) {
     if (name.size() <= most) return name;
     size_t end = most - 9;
     while (end && (name[end] & 0xc0) == 0x80) end--;
     char number[16];
-    snprintf(number, sizeof number, "~%08x", crc32(name));
+    auto bytes = reinterpret_cast<const Bytef *>(name.data());
+    snprintf(number, sizeof number, "~%08lx", crc32(0, bytes, static_cast<uInt>(name.size())));
     return name.substr(0, end) + number;
 }
 
@@ -81,8 +67,7 @@ static size_t parameters_of(const std::string &name) {
     return name.size();
 }
 
-// A function that C++ writes in full, without its result, its parameters, and what is in angles or braces.
-static std::string without_parameters(std::string name) {
+std::string without_parameters(std::string name) {
     static const std::string nameless = "(anonymous namespace)::";
     for (size_t at; (at = name.find(nameless)) != std::string::npos;) name.erase(at, nameless.size());
     std::string kept;
@@ -122,10 +107,21 @@ std::string with_section(const std::string &name) {
     return "omp.critical:" + (has_end ? section.substr(0, section.size() - after.size()) : section);
 }
 
-bool in_cxx_library(const std::string &path) {
+static bool in_cxx_library(const std::string &path) {
     size_t include = path.find("/include/");
     return include != std::string::npos && path.find("/c++/", include + 8) != std::string::npos;
 }
+
+// The sources of Rust's library are in `rustc/VERSION/library`, in `rustc-VERSION/library` or in `rustlib/src`.
+static bool in_rust_library(const std::string &path) {
+    size_t library = path.find("/library/");
+    if (library == std::string::npos) return path.find("/rustlib/src/") != std::string::npos;
+    std::vector<std::string> parts = parts_of(path.substr(0, library));
+    bool is_version_in_rustc = parts.size() > 1 && parts[parts.size() - 2] == "rustc";
+    return is_version_in_rustc || begins(parts.back(), "rustc-") || path.find("/rustlib/src/") != std::string::npos;
+}
+
+bool in_library(const std::string &path) { return in_cxx_library(path) || in_rust_library(path); }
 
 // Where the ends of a path begin, the shortest first.
 static std::vector<size_t> ends_of(const std::string &path) {

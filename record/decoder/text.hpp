@@ -1,5 +1,4 @@
-// Names as they stand in a trace: what is cut, replaced and left out of them. The Python decoder's places.py says the
-// same.
+// Names as they stand in a trace: what is cut, replaced and left out of them.
 #pragma once
 #include <cstdint>
 #include <map>
@@ -20,9 +19,12 @@ std::string normal(const std::string &path);
 // A part of a name without the arguments of its template.
 std::string without_template(const std::string &name);
 std::string function_name(const std::string &name);
+// A function that C++ writes in full, without its result, its parameters, and what is in angles or braces.
+std::string without_parameters(std::string name);
 // The lock of a critical section of OpenMP that has a name: `omp.critical:NAME`; clang puts `.var` after it.
 std::string with_section(const std::string &name);
-bool in_cxx_library(const std::string &path);
+// Whether a source is of the library of C++ or of Rust.
+bool in_library(const std::string &path);
 // For each path its shortest end that no other path ends in.
 std::map<std::string, std::string> short_paths(const std::set<std::string> &paths);
 std::string last_part(const std::string &path);

@@ -3,16 +3,28 @@
 #pragma once
 #include <cstdio>
 #include <map>
+#include <optional>
 #include <set>
 #include <string>
 #include <unordered_map>
 #include <unordered_set>
 #include <vector>
+#include "deadlocks.hpp"
+#include "forks.hpp"
+#include "leaving.hpp"
+#include "lives.hpp"
+#include "losses.hpp"
+#include "names.hpp"
 #include "objects.hpp"
+#include "operations.hpp"
+#include "ordered.hpp"
+#include "pages.hpp"
 #include "parts.hpp"
 #include "places.hpp"
+#include "polls.hpp"
 #include "raw.hpp"
 #include "relaxed.hpp"
+#include "streams.hpp"
 
 namespace trace {
 
@@ -22,11 +34,20 @@ constexpr u64 NO_LIMIT = UINT64_MAX;
 
 struct Options {
     // The first event that is written, and how many at most.
-    u64 first = 0, most = 1048576;
+    u64 first = 0, most = NO_LIMIT;
     size_t frames = places::MOST_FRAMES;
-    bool frees = true;
+    bool frees = true, raw_names = false;
+    // Whether accesses that can't race are written too, and each look of a loop that polls.
+    bool all = false;
+    // Where the accesses that are left out are named; nowhere if it is empty.
+    std::string ordered;
     // Of variables those that these files access; of all where there is none.
     std::vector<std::string> only;
+    // Libraries that may be without hooks: how their names begin.
+    std::vector<std::string> trusted;
+    // Why records had no room if the disk had some, and whether a signal ended the program.
+    std::string cause = "ROOM";
+    bool killed = false;
 };
 
 // What a record is of: a thing, a place in it, and how many bytes.
@@ -47,6 +68,16 @@ struct LockHash {
     }
 };
 
+// The posts of a semaphore and its waits, in their order. Wait K comes after post K, if no wait came before its post;
+// `ahead` waits need no post. `value` is what the semaphore began with, if that is known.
+struct Counted {
+    u64 posts = 0, waits = 0, ahead = 0, value = 0;
+    u32 made = 0;
+    bool any = false, mixed = false;
+    void see(const record &one);
+    bool is_whole() const { return any && !mixed && made <= 1; }
+};
+
 // What was seen of a lock or semaphore: who has it how often; whether its sections are none, since it is let go by a
 // thread that does not hold it or taken while another does; whether a try was refused; which readers came in. A
 // semaphore that each thread takes and then posts, one at a time, has sections too.
@@ -54,33 +85,36 @@ struct LockSeen {
     u16 holder = 0;
     int64_t times = 0;
     bool uneven = false, tried = false, passes = false, is_lock = false, is_written = false;
+    // Whether a library without hooks takes it: what its sections access is not known.
+    bool by_library = false;
     std::set<u16> readers;
+    Counted counted;
+    streams::Stream stream;
     void see(const record &one);
+    // Whether each wait comes after one post alone.
+    bool is_counted() const { return counted.is_whole() && !is_lock && !tried && (uneven || counted.value > 1); }
+    bool is_stream() const { return stream.is_whole(); }
     // Whether each one that comes has the order that it had.
-    bool is_chain() const { return uneven || (passes && is_lock); }
+    bool is_chain() const { return !is_counted() && !is_stream() && (uneven || by_library || (passes && is_lock)); }
 };
 
 struct Counts {
-    // `cut_short` is how many parts an access has at most, if one has more.
-    u64 before = 0, written = 0, left_out = 0, cut_short = 0, no_sections = 0, not_chosen = 0, stronger = 0;
+    // `cut_short` is how many parts an access has at most, and `cut_accesses` how many have more.
+    u64 before = 0, written = 0, left_out = 0, cut_short = 0, cut_accesses = 0, no_sections = 0, not_chosen = 0;
+    u64 by_library = 0, stronger = 0, threads = 0, bytes = 0;
+    // What can't race: accesses, and parts of variables. Looks of loops that poll.
+    u64 ordered = 0, ordered_parts = 0, polls = 0;
     bool too_many_threads = false;
 };
 
 // Whether a record takes a lock or semaphore, and whether it lets it go.
 bool is_taken(const record &one);
 bool is_let_go(const record &one);
+// Whether a call takes it that waits for nobody, or not for ever.
+bool is_try(const record &one);
 
-// A word of the trace and what it is of: the name of a place in a thing, with a word before it and a thread behind it.
-// Names are made of what is written alone.
-struct Operation {
-    const char *word, *before;
-    objects::Thing thing;
-    u64 place;
-    int thread = -1;
-    // The how many-th meeting at this place it is, from 1 on.
-    u64 meeting = 0;
-};
-using Operations = std::vector<Operation>;
+using operations::Operation;
+using operations::Operations;
 
 // A line of the trace that is ready to be written.
 struct Line {
@@ -93,34 +127,57 @@ bool is_access(const record &one);
 bool is_atomic(int kind);
 bool is_synchronization(int kind);
 bool is_write(const record &one);
+// Whether a record uses a lock, semaphore or barrier that may be destroyed.
+bool is_use(const record &one);
 
 class Trace {
 public:
     Trace(const raw::File &file, const Options &options);
     // Writes the trace, and the number of each event's record if a file for them is given.
     Counts write(FILE *out, FILE *numbers);
+    // What is not in the trace, once it is written.
+    losses::Losses losses() const;
+    // The deadlock that the run ended in, once the trace is written; empty if there is none.
+    std::vector<deadlocks::Wait> deadlock();
+    // Writes which accesses are not, since forks and joins order them, to the file of the options.
+    void write_ordered();
 
 private:
     template <class Do> void each(Do what);
+    template <class Do> void each_written(Do what);
     Resolved resolve(const record &one);
     void find_users();
     void find_shared();
+    void find_lives();
+    Resolved access_of(const record &one, const Resolved &of) const;
     void find_cuts();
     bool gives_more_parts();
     void see_parts();
+    void see_use(const record &one, const objects::Activation &frame, objects::Thing thing, u64 place);
+    void number_things();
     void find_kept();
     void choose();
     void find_relaxed();
+    void leave_out();
+    void find_polls();
+    void restart_locks();
     void see_lock(const record &one, const Resolved &of);
     parts::Span span_of(const Resolved &of);
     bool is_chosen(const record &one);
     void find_operations(const record &one, size_t number, const Resolved &of);
     void find_accesses(const record &one, size_t number, const Resolved &of);
+    void add_atomic(const record &one, const parts::Cuts &ends, relaxed::Form form, const Resolved &of);
+    void add_acquired(size_t number);
+    void add_released(size_t number);
+    void add_use(const Resolved &of);
+    void add_counted(const record &one, const Resolved &of, LockSeen &known);
+    void add_message(const record &one, const Resolved &of, streams::Stream &stream);
     void find_synchronization(const record &one, const Resolved &of);
     void add_states(const Resolved &of, const std::vector<int> &threads, const char *word);
     void add_section(const Resolved &of, bool takes, bool tried, const std::vector<int> &threads);
     void add_meeting(const Resolved &of, u64 meeting, bool comes);
-    std::string name_of(const Operation &operation) const;
+    std::string name_of(const Operation &operation);
+    u64 size_at(objects::Thing thing, u64 place);
     const std::string &location(const record &one);
     Line line_of(const record &one, size_t number, const Operation &operation);
     void write_record(const record &one, size_t number);
@@ -128,11 +185,14 @@ private:
     void open();
     void write_line(const Line &line);
     bool fits(u16 thread, u64 other);
+    void write_mark(const std::string &line);
+    void see_deadlock(const record &one, size_t number, const Resolved &of);
 
     const raw::File &file;
     Options options;
     places::Modules modules;
     objects::Objects things;
+    names::Names names;
     std::unordered_map<u64, parts::Seen> users;
     parts::PerThing<parts::Seen> seen;
     // The cuts of a thing, by their number; 0 is that of none.
@@ -144,12 +204,26 @@ private:
     std::vector<parts::Seen> kept;
     parts::Spans spans;
     std::unordered_map<Lock, LockSeen, LockHash> locks;
-    std::unordered_map<places::Key, std::string, places::KeyHash> locations, free_locations;
+    // Where each thread was at its last record.
+    std::unordered_map<u16, places::Key> last_places;
+    // Locations of frees, of locks by a try, and of all other records.
+    std::unordered_map<places::Key, std::string, places::KeyHash> free_locations, try_locations, locations;
     std::unordered_map<places::Key, bool, places::KeyHash> chosen_places;
+    // The threads of the events that are written, and whether there is a second thread in the recording.
     std::unordered_set<u64> threads;
+    bool has_threads = false, has_uses = false;
     Operations operations;
     std::vector<size_t> written_parts;
+    forks::Forks forks;
+    lives::Lives lives;
     relaxed::Relaxed relaxed;
+    deadlocks::Holders holders;
+    // The last records of a run that ended in a deadlock, each with what it waits for.
+    std::vector<std::pair<const record *, Resolved>> requests;
+    leaving::Leaving leaving;
+    pages::Pages pages;
+    polls::Polls polls;
+    std::optional<ordered::Ordered> ordered;
     // Before the first event that is written: the acquires of locks that are held.
     std::map<std::pair<u16, std::string>, std::vector<Line>> held;
     bool is_open = false;
@@ -163,6 +237,18 @@ template <class Do> void Trace::each(Do what) {
     for (size_t number = 0; number < file.records(); number++) {
         const record &one = file.at(number);
         if (raw::File::happened(one)) what(number, one, resolve(one));
+        file.pass(number);
+    }
+}
+
+// The same without plain accesses of which nothing is written.
+template <class Do> void Trace::each_written(Do what) {
+    things.restart();
+    for (size_t number = 0; number < file.records(); number++) {
+        const record &one = file.at(number);
+        bool is_plain = !one.of && (one.kind == READ || one.kind == WRITE);
+        if (raw::File::happened(one) && (!is_plain || pages.may_have(one.at, one.size)))
+            what(number, one, resolve(one));
         file.pass(number);
     }
 }

@@ -5,9 +5,17 @@
 
 namespace trace {
 
-std::string Trace::name_of(const Operation &operation) const {
+// How many bytes the part at a place has; 1 if no part begins there, as that of a lock.
+u64 Trace::size_at(objects::Thing thing, u64 place) {
+    const parts::Cuts &ends = cuts[cuts_of[thing]];
+    size_t part = ends.between(place, place).first;
+    return part + 1 < ends.size() && ends.at(part) == place ? ends.at(part + 1) - place : 1;
+}
+
+std::string Trace::name_of(const Operation &operation) {
     if (operation.thing == objects::NOTHING) return operation.before + std::to_string(operation.place);
-    std::string name = operation.before + things.name(operation.thing, operation.place);
+    u64 size = size_at(operation.thing, operation.place);
+    std::string name = operation.before + names.of(operation.thing, operation.place, size);
     if (operation.meeting) name += "#" + std::to_string(operation.meeting);
     return operation.thread < 0 ? name : name + ":T" + std::to_string(operation.thread);
 }
@@ -16,12 +24,36 @@ bool is_taken(const record &one) {
     return one.kind == ACQUIRE || one.kind == WRITER || (one.kind == PASS && one.order == WAITED);
 }
 
+bool is_try(const record &one) {
+    if (one.kind == PASS) return is_taken(one) && one.answer == BY_TRY;
+    return (is_taken(one) || one.kind == READER_IN) && (one.order & BY_TRY);
+}
+
 bool is_let_go(const record &one) { return one.kind == RELEASE || (one.kind == PASS && one.order == POSTED); }
 
+// Which waits came before as many posts.
+void Counted::see(const record &one) {
+    any |= one.kind == PASS;
+    if (one.kind == WRITE) {
+        made++, value = one.answer, ahead = std::max(ahead, value);
+    } else if (one.kind == PASS && one.order == POSTED) {
+        posts++;
+    } else if (one.kind == PASS && one.order == WAITED) {
+        waits++;
+        if (waits > posts) ahead = std::max(ahead, waits - posts);
+    } else if (one.kind == PASS) {
+        mixed = true;
+    }
+}
+
 void LockSeen::see(const record &one) {
+    if (one.of == OF_CHANNEL && one.kind != ARRIVED && one.kind != WENT_ON) stream.see(one);
+    else if (!one.of) counted.see(one);
+    if (one.kind == WRITE) return;
     bool takes = is_taken(one), lets_go = is_let_go(one), pass = one.kind == PASS;
     tried |= one.kind == TRIED;
     passes |= pass;
+    by_library |= !pass && (one.order & BY_LIBRARY);
     is_lock |= one.kind == ACQUIRE || one.kind == RELEASE || one.kind == WRITER || one.kind == READER_IN;
     if (one.kind == READER_IN || one.kind == READER_OUT) readers.insert(one.thread);
     bool taken_by_other = times && (holder != one.thread || (pass && takes));
@@ -61,23 +93,85 @@ void Trace::add_meeting(const Resolved &of, u64 meeting, bool comes) {
     operations.push_back({"rel", "", of.thing, of.place, -1, meeting});
 }
 
+// The release of another record that this one acquires: of each its lock, and a variable that it alone writes.
+void Trace::add_acquired(size_t number) {
+    for (const forks::Step &source : relaxed.orders.acquired(number)) {
+        u64 release = relaxed.orders.release(source.number);
+        operations.push_back({"acq", "order:", objects::NOTHING, release});
+        operations.push_back({"r", "sync:order:", objects::NOTHING, release});
+        operations.push_back({"rel", "order:", objects::NOTHING, release});
+    }
+}
+
+void Trace::add_released(size_t number) {
+    u64 release = relaxed.orders.release(number);
+    if (!release) return;
+    operations.push_back({"acq", "order:", objects::NOTHING, release});
+    operations.push_back({"w", "sync:order:", objects::NOTHING, release});
+    operations.push_back({"rel", "order:", objects::NOTHING, release});
+}
+
+// The accesses of `written_parts`, in a lock of the variable: other threads may write it by atomic accesses too.
+void Trace::add_atomic(const record &one, const parts::Cuts &ends, relaxed::Form form, const Resolved &of) {
+    u64 first = ends.at(written_parts[0] - ends.first);
+    bool reads = form == relaxed::READS || (one.kind != ATOMIC_WRITE && form != relaxed::WRITES);
+    bool writes = is_write(one) && form != relaxed::READS;
+    operations.push_back({"acq", "atomic:", of.thing, first});
+    for (size_t part : written_parts) {
+        u64 place = ends.at(part - ends.first);
+        if (reads) operations.push_back({"r", "", of.thing, place});
+        if (writes) operations.push_back({"w", "", of.thing, place});
+    }
+    operations.push_back({"rel", "atomic:", of.thing, first});
+}
+
 void Trace::find_accesses(const record &one, size_t number, const Resolved &of) {
     const parts::Cuts &ends = cuts[cuts_of[of.thing]];
     parts::Span span = span_of(of);
     written_parts.clear();
+    for (size_t part = ends.first + span.from; part < ends.first + span.end; part++) {
+        if (kept[part].shared()) written_parts.push_back(part);
+        if (kept[part].ordered && ordered) ordered->see(part, one, is_write(one));
+    }
+    if (written_parts.empty()) return;
+    if (is_atomic(one.kind)) {
+        relaxed::Form form = relaxed.form_of(forks, number, one, written_parts);
+        if (form != relaxed::NOTHING) add_atomic(one, ends, form, of);
+        add_acquired(number);
+        add_released(number);
+        return;
+    }
+    for (size_t part : written_parts)
+        operations.push_back({is_write(one) ? "w" : "r", "", of.thing, ends.at(part - ends.first)});
+}
+
+// A use of a lock reads its first byte.
+void Trace::add_use(const Resolved &of) {
+    const parts::Cuts &ends = cuts[cuts_of[of.thing]];
+    parts::Span span = span_of({of.thing, of.place, 1});
     for (size_t part = span.from; part < span.end; part++) {
-        if (kept[ends.first + part].shared()) written_parts.push_back(ends.first + part);
+        if (kept[ends.first + part].shared()) operations.push_back({"r", "", of.thing, ends.at(part)});
     }
-    bool atomic = is_atomic(one.kind), reads = one.kind == READ || one.kind == ATOMIC_READ || one.kind == ATOMIC_UPDATE;
-    if (written_parts.empty() || (atomic && relaxed.is_no_event(number, one, written_parts))) return;
-    u64 first = ends.at(written_parts[0] - ends.first);
-    if (atomic) operations.push_back({"acq", "atomic:", of.thing, first});
-    for (size_t part : written_parts) {
-        u64 place = ends.at(part - ends.first);
-        if (reads) operations.push_back({"r", "", of.thing, place});
-        if (is_write(one)) operations.push_back({"w", "", of.thing, place});
-    }
-    if (atomic) operations.push_back({"rel", "atomic:", of.thing, first});
+}
+
+// Wait K of a semaphore comes after post K, counted from the first wait that needs one.
+void Trace::add_counted(const record &one, const Resolved &of, LockSeen &known) {
+    bool posts = one.order == POSTED;
+    u64 number = posts ? ++known.counted.posts : ++known.counted.waits;
+    if (!posts && number <= known.counted.ahead) return;
+    add_meeting(of, posts ? number : number - known.counted.ahead, posts);
+}
+
+// The sends of a stream keep their order, and so do its receives. A receive comes after the send of its last byte.
+void Trace::add_message(const record &one, const Resolved &of, streams::Stream &stream) {
+    bool sends = one.kind == PASS && one.order == POSTED, looks = one.kind == TRIED;
+    const char *chain = sends ? "sync:" : "sync:received:";
+    u64 send = sends ? stream.next_send() : stream.next_receive(one);
+    operations.push_back({"acq", "", of.thing, of.place});
+    operations.push_back({"r", chain, of.thing, of.place});
+    if (!looks) operations.push_back({"w", chain, of.thing, of.place});
+    if (send) operations.push_back({sends ? "w" : "r", "sync:", of.thing, of.place, -1, send});
+    operations.push_back({"rel", "", of.thing, of.place});
 }
 
 // A reader holds a lock of its own, and a writer those of all readers. The state of a lock is written beside it if a
@@ -86,8 +180,11 @@ void Trace::find_synchronization(const record &one, const Resolved &of) {
     LockSeen &known = locks[{of.thing, of.place}];
     bool is_reader = one.kind == READER_IN || one.kind == READER_OUT;
     if (one.kind == ARRIVED || one.kind == WENT_ON) return add_meeting(of, one.answer, one.kind == ARRIVED);
+    if (known.is_counted()) return add_counted(one, of, known);
+    if (known.is_stream()) return add_message(one, of, known.stream);
     if (known.is_chain()) {
-        operations = {{"acq", "", of.thing, of.place}, {"r", "sync:", of.thing, of.place}};
+        operations.push_back({"acq", "", of.thing, of.place});
+        operations.push_back({"r", "sync:", of.thing, of.place});
         if (one.kind != TRIED) operations.push_back({"w", "sync:", of.thing, of.place});
         operations.push_back({"rel", "", of.thing, of.place});
         return;
@@ -105,6 +202,11 @@ void Trace::find_synchronization(const record &one, const Resolved &of) {
 
 void Trace::find_operations(const record &one, size_t number, const Resolved &of) {
     operations.clear();
+    if (one.kind == FENCE) {
+        add_acquired(number);
+        add_released(number);
+    }
+    if (is_use(one) && lives.has_reads(of.thing, of.place)) add_use(of);
     if (one.kind == FORK) operations.push_back({"fork", "T", objects::NOTHING, one.at});
     else if (one.kind == JOIN) operations.push_back({"join", "T", objects::NOTHING, one.at});
     else if (of.there() && is_access(one)) find_accesses(one, number, of);

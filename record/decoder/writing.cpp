@@ -25,6 +25,7 @@ Line Trace::line_of(const record &one, size_t number, const Operation &operation
 
 void Trace::write_line(const Line &line) {
     fwrite(line.text.data(), 1, line.text.size(), out);
+    counts.bytes += line.text.size();
     if (numbers) fwrite(&line.record, sizeof line.record, 1, numbers);
     counts.written++;
 }
@@ -63,15 +64,93 @@ void Trace::write_record(const record &one, size_t number) {
     }
 }
 
+void Trace::restart_locks() {
+    for (auto &lock : locks) {
+        lock.second.counted.posts = lock.second.counted.waits = 0;
+        lock.second.is_written = false;
+        lock.second.stream.restart();
+    }
+}
+
+// Finds the looks of loops that poll before anything is written.
+void Trace::find_polls() {
+    if (!polls.is_wanted()) return;
+    restart_locks();
+    each_written([this](size_t number, const record &one, const Resolved &of) {
+        find_operations(one, number, of);
+        polls.see_event(number, one, operations);
+    });
+    relaxed.stronger = 0;
+}
+
 Counts Trace::write(FILE *to, FILE *to_numbers) {
     out = to;
     numbers = to_numbers;
-    each([this](size_t number, const record &one, const Resolved &of) {
+    write_mark(losses::BEGIN);
+    find_polls();
+    restart_locks();
+    if (!options.ordered.empty()) ordered.emplace(kept.size());
+    each_written([this](size_t number, const record &one, const Resolved &of) {
         find_operations(one, number, of);
-        write_record(one, number);
+        if (polls.is_left_out(number)) counts.polls++;
+        else write_record(one, number);
+        if (file.top().deadlock) see_deadlock(one, number, of);
     });
     counts.stronger = relaxed.stronger;
+    counts.threads = threads.size();
+    write_mark(losses().end());
     return counts;
+}
+
+void Trace::see_deadlock(const record &one, size_t number, const Resolved &of) {
+    holders.see(number, one);
+    if (one.kind == REQUEST) requests.push_back({&one, of});
+}
+
+// Each thread waits for the next one, and the last for the first.
+std::vector<deadlocks::Wait> Trace::deadlock() {
+    std::vector<deadlocks::Wait> found;
+    for (size_t k = 0; k < requests.size(); k++) {
+        const record &one = *requests[k].first;
+        u16 holder = requests[(k + 1) % requests.size()].first->thread;
+        u64 since = holders.since(one.at, holder);
+        std::string lock = name_of({"", "", requests[k].second.thing, requests[k].second.place});
+        std::string held_at = since < file.records() ? modules.place(file.at(since).pc, file.at(since).stack) : "?";
+        found.push_back({one.thread, holder, modules.place(one.pc, one.stack), lock, held_at});
+    }
+    return found;
+}
+
+void Trace::write_ordered() {
+    FILE *to = fopen(options.ordered.c_str(), "w");
+    if (!to) throw raw::Wrong(options.ordered + ": can't be written");
+    ordered->write(to, counts.bytes, [this](const record &one) { return location(one); });
+    if (fclose(to)) throw raw::Wrong(options.ordered + ": can't be written");
+}
+
+void Trace::write_mark(const std::string &line) {
+    fwrite(line.data(), 1, line.size(), out);
+    counts.bytes += line.size();
+}
+
+losses::Losses Trace::losses() const {
+    const head &top = file.top();
+    losses::Losses found;
+    found.add("FROM", counts.before, 0);
+    found.add("ONLY", counts.not_chosen, 0);
+    found.add("PARTS", counts.cut_accesses, 0);
+    found.add("FORK", top.forks, 0);
+    found.add("EXEC", top.programs, 0);
+    std::vector<std::string> objects = modules.bare_objects(), libraries = modules.unknown_libraries(options.trusted);
+    found.add("HOOKS", objects.size(), 0, objects);
+    found.add("LIBRARY", libraries.size(), 0, libraries);
+    found.add(counts.too_many_threads ? "THREADS" : "MAX", counts.left_out, counts.written);
+    found.add("THREADS", top.unrecorded, counts.written);
+    found.add(top.full ? "DISK" : options.cause, file.lost(), counts.written);
+    if (top.deadlock) found.add_uncounted("DEADLOCK", counts.written);
+    if (options.killed) found.add_uncounted("KILLED", counts.written);
+    if (!has_threads) found.add_uncounted("ONE THREAD", counts.written);
+    return found;
 }
 
 }
