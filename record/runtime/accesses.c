@@ -3,6 +3,11 @@
 /* A turn ends after so many accesses, which are drawn below twice `--yield`. Where a turn brought no place of code
  * that is new for its thread, the thread's next one is twice as long, up to so many times. */
 #define LONGEST_TURN 16
+/* For its first accesses a thread gives the token away at the rate of the seed. A short thread would else never be
+ * interrupted. */
+#define YOUNG 4096
+static const u32 young_rates[] = {2, 40, 5};
+static u32 young_in = 40;
 /* Accesses of a turn where nothing is recorded any more. */
 #define UNRECORDED_TURN 65536
 #define SEEN_PLACES 65536
@@ -15,7 +20,8 @@ static __thread struct { u64 pc, at; } last_read[2];
 
 static void begin_turn(int waits) {
     longer = news || waits || !longer ? 1 : longer < LONGEST_TURN ? 2 * longer : longer;
-    left_of_turn = 1 + draw(2 * one_in - 1);
+    u32 rate = tick < YOUNG && young_in < one_in ? young_in : one_in;
+    left_of_turn = 1 + draw(2 * rate - 1);
     left_of_turn *= longer;
     if (is_full && !waits) left_of_turn = UNRECORDED_TURN;
     news = 0;

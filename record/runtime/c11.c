@@ -39,12 +39,12 @@ int thrd_join(thrd_t id, int *value) {
 
 int thrd_detach(thrd_t id) { return c11_answer(pthread_detach((pthread_t)id)); }
 
-int mtx_lock(mtx_t *m) { return c11_answer(lock((pthread_mutex_t *)m, NULL, 0, PC)); }
-int mtx_trylock(mtx_t *m) { return c11_answer(try_lock((pthread_mutex_t *)m, PC)); }
-int mtx_unlock(mtx_t *m) { return c11_answer(unlock((pthread_mutex_t *)m, PC)); }
+int mtx_lock(mtx_t *m) { return c11_answer(lock((pthread_mutex_t *)m, NULL, 0, LOCK_PC)); }
+int mtx_trylock(mtx_t *m) { return c11_answer(try_lock((pthread_mutex_t *)m, LOCK_PC)); }
+int mtx_unlock(mtx_t *m) { return c11_answer(unlock((pthread_mutex_t *)m, LOCK_PC)); }
 int mtx_timedlock(mtx_t *m, const struct timespec *t) {
     REAL(mtx_timedlock, int, mtx_t *, const struct timespec *);
-    return IDLE ? real(m, t) : c11_answer(lock((pthread_mutex_t *)m, t, CLOCK_REALTIME, PC));
+    return IDLE ? real(m, t) : c11_answer(lock((pthread_mutex_t *)m, t, CLOCK_REALTIME, LOCK_PC));
 }
 
 int cnd_signal(cnd_t *c) { return c11_answer(pthread_cond_signal((pthread_cond_t *)c)); }
@@ -53,13 +53,13 @@ int cnd_broadcast(cnd_t *c) { return c11_answer(pthread_cond_broadcast((pthread_
 int cnd_wait(cnd_t *c, mtx_t *m) {
     REAL(cnd_wait, int, cnd_t *, mtx_t *);
     if (IDLE) return real(c, m);
-    return c11_answer(wait_for((pthread_cond_t *)c, (pthread_mutex_t *)m, NULL, 0, PC));
+    return c11_answer(wait_for((pthread_cond_t *)c, (pthread_mutex_t *)m, NULL, 0, LOCK_PC));
 }
 
 int cnd_timedwait(cnd_t *c, mtx_t *m, const struct timespec *t) {
     REAL(cnd_timedwait, int, cnd_t *, mtx_t *, const struct timespec *);
     if (IDLE) return real(c, m, t);
-    return c11_answer(wait_for((pthread_cond_t *)c, (pthread_mutex_t *)m, t, CLOCK_REALTIME, PC));
+    return c11_answer(wait_for((pthread_cond_t *)c, (pthread_mutex_t *)m, t, CLOCK_REALTIME, LOCK_PC));
 }
 
 void call_once(once_flag *o, void (*routine)(void)) { do_once((pthread_once_t *)o, routine, PC); }

@@ -41,6 +41,38 @@ static int note_c_library(struct dl_phdr_info *info, size_t size, void *none) {
     return !!c_library.size;
 }
 
+/* Libraries whose own accesses need no record: those of C, C++ and OpenMP. */
+static const char *const trusted_names[] = {"libc.",       "libstdc++.", "libc++", "libm.",  "libgcc_s.", "libgomp.",
+                                            "libpthread.", "libatomic.", "libdl.", "librt.", "ld-linux"};
+static struct range trusted[MOST_RANGES];
+static u32 trusted_count;
+
+static int note_trusted(struct dl_phdr_info *info, size_t size, void *none) {
+    (void)size, (void)none;
+    const char *slash = strrchr(info->dlpi_name, '/'), *name = slash ? slash + 1 : info->dlpi_name;
+    for (u32 k = 0; k < sizeof trusted_names / sizeof *trusted_names; k++) {
+        if (strncmp(name, trusted_names[k], strlen(trusted_names[k]))) continue;
+        for (int i = 0; i < info->dlpi_phnum && trusted_count < MOST_RANGES; i++) {
+            const ElfW(Phdr) *p = &info->dlpi_phdr[i];
+            if (p->p_type != PT_LOAD || !(p->p_flags & PF_X)) continue;
+            trusted[trusted_count++] = (struct range){info->dlpi_addr + p->p_vaddr, p->p_memsz};
+        }
+    }
+    return 0;
+}
+
+/* Whether code is in a library that has no hooks, and that is not trusted. */
+static int is_foreign(u64 pc) {
+    if (pc - main_start < main_size || is_hooked(pc)) return 0;
+    for (u32 k = 0; k < trusted_count; k++)
+        if (pc - trusted[k].start < trusted[k].size) return 0;
+    return 1;
+}
+
+/* Whether the lock call that this thread is in was made by such a library. */
+static __thread u8 by_library;
+#define LOCK_PC (by_library = !IDLE && is_foreign((u64)__builtin_return_address(0)), PC)
+
 /* A part with hooks has code here. */
 static void note_hooked(u64 pc) {
     u8 was = inside;

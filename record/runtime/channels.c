@@ -46,13 +46,13 @@ static int comes_at_once(int f, u32 channel, short what, int flags) {
         how_ == INTERRUPTED ? (errno = EINTR, -1) : how_ == IN_TURN ? (call) : OUTSIDE(call); \
     })
 
-/* After a call that received, or was told that nothing more comes, or was refused. */
-static ssize_t received(int f, ssize_t n, u64 pc) {
+/* After a call that received, or was told that nothing more comes, or was refused. By flags it may leave the bytes. */
+static ssize_t received_by(int f, ssize_t n, int flags, u64 pc) {
     u32 channel = in_of(f);
     int error = errno;
     if (IDLE) return n;
     if (n >= 0 && channel) {
-        put_record((struct record){.kind = PASS, .at = channel, .of = OF_CHANNEL, .pc = pc, .answer = (u64)n});
+        pass_bytes(f, flags & (MSG_PEEK | MSG_OOB | MSG_TRUNC) ? NO_WAY : WAITED, (u64)n, pc);
         unpark(key_of(channel));
     } else {
         put_answer(ANSWER, n < 0 ? (u64)error : 0, (u64)n, pc);
@@ -61,16 +61,24 @@ static ssize_t received(int f, ssize_t n, u64 pc) {
     return n;
 }
 
+static ssize_t received(int f, ssize_t n, u64 pc) { return received_by(f, n, 0, pc); }
+
+/* The record of what this thread sends. */
+static __thread u64 sending = NO_PLACE;
+
 /* Before a call that sends, which passes although it may be refused. */
 static void sends(int f, u64 pc) {
-    u32 channel = out_of(f);
-    if (channel) pass_of(OF_CHANNEL, channel, pc);
-    else pass_silently(pc);
+    sending = NO_PLACE;
+    if (!out_of(f)) pass_silently(pc);
+    else if (!IDLE) sending = pass_bytes(f, POSTED, 0, pc);
 }
 
+/* After a call, or a part of it, that sent so many bytes. */
 static ssize_t sent(int f, ssize_t n) {
     u32 channel = out_of(f);
-    if (channel && !IDLE) unpark(key_of(channel));
+    if (!channel || IDLE) return n;
+    if (n > 0 && sending != NO_PLACE) records[sending].answer += (u64)n;
+    unpark(key_of(channel));
     return n;
 }
 
@@ -96,10 +104,19 @@ static struct tick_entry *read_expected(int f, u64 pc) {
     return e || !in_of(f) ? e : world_expected(PASS, pc);
 }
 
+/* What a descriptor of signals gave. */
+static void got_signals(const struct signalfd_siginfo *all, ssize_t bytes, u64 pc) {
+    int error = errno;
+    for (ssize_t k = 0; k < bytes / (ssize_t)sizeof *all; k++) got_signal((int)all[k].ssi_signo, pc);
+    errno = error;
+}
+
 static ssize_t read_at(int f, void *to, size_t n, u64 pc) {
+    if (!IDLE && is_known(f) && ends[f].is_signals) maybe_give();
     struct tick_entry *e = following ? read_expected(f, pc) : NULL;
     ssize_t got_bytes = e ? read_again(f, to, n, e) : ON_CHANNEL(f, in_of(f), POLLIN, 0, __real_read(f, to, n));
     received(f, got_bytes, pc), wrote(to, got_bytes > 0 ? (u64)got_bytes : 0, pc);
+    if (is_known(f) && ends[f].is_signals) got_signals(to, got_bytes, pc);
     return got_bytes;
 }
 
@@ -124,7 +141,7 @@ static ssize_t send_pieces(int f, const char *from, size_t n, int flags) {
     size_t there = 0;
     do {
         int how = comes_at_once(f, out_of(f), POLLOUT, 0);
-        if (how == WITHOUT_TURN) return OUTSIDE(real(f, from + there, n - there, flags));
+        if (how == WITHOUT_TURN) return sent(f, OUTSIDE(real(f, from + there, n - there, flags)));
         if (how == INTERRUPTED) return there ? (ssize_t)there : (errno = EINTR, -1);
         ssize_t more = real(f, from + there, n - there, flags | MSG_DONTWAIT);
         if (more < 0 && errno == EAGAIN) let_others();
@@ -178,7 +195,7 @@ static void wrote_address(int there, const void *a, const socklen_t *n, socklen_
         socklen_t room = size_ ? *size_ : 0; \
         static ssize_t(*real) given; \
         if (!real) real = (ssize_t(*) given)next(#name, NULL); \
-        ssize_t bytes = received(f, ON_CHANNEL(f, in_of(f), POLLIN, flags, real passed_on), PC); \
+        ssize_t bytes = received_by(f, ON_CHANNEL(f, in_of(f), POLLIN, flags, real passed_on), flags, PC); \
         goes_over(WRITE, __VA_ARGS__, bytes, PC); \
         wrote_address(bytes >= 0, (address), size_, room, PC); \
         return bytes; \
@@ -237,7 +254,7 @@ ssize_t recv(int f, void *to, size_t n, int g) {
     if (IDLE) return real(f, to, n, g);
     struct tick_entry *e = following && !(g & MSG_PEEK) ? read_expected(f, PC) : NULL;
     ssize_t bytes = e ? read_again(f, to, n, e) : ON_CHANNEL(f, in_of(f), POLLIN, g, real(f, to, n, g));
-    received(f, bytes, PC);
+    received_by(f, bytes, g, PC);
     goes_over(WRITE, ONE(to, n), bytes, PC);
     return bytes;
 }

@@ -64,18 +64,22 @@ static int sleeps(struct waiter *w, const struct timespec *t, clockid_t clock) {
 
 static int end_wait(struct waiter *w, int outcome) {
     remove_waiter(w);
-    int answer = TRIES(EBUSY, try_mutex(w->m), w->m, NULL, 0);
-    put_answer(ACQUIRE, (u64)w->m, (u64)outcome, w->pc);
+    int answer = TRIES_LOCK(try_mutex(w->m), TO_WRITE, w->m, NULL, 0, w->pc);
+    put_lock(ACQUIRE, (u64)w->m, (u64)outcome, w->pc);
     return answer && answer != EBUSY ? answer : outcome;
 }
 
 /* A thread that is cancelled while it waits has its mutex again, as POSIX says. */
 static void end_cancelled_wait(void *w) { end_wait(w, 0); }
 
+/* A wait and a signal read the object, which is written when it is made and when it is destroyed. */
+static void waits_at(pthread_cond_t *c, u64 pc) { accessed(READ, c, 1, pc); }
+
 static int wait_for(pthread_cond_t *c, pthread_mutex_t *m, const struct timespec *t, clockid_t clock, u64 pc) {
     struct waiter w = {c, m, pc, 0, NULL};
     int outcome;
-    put(RELEASE, (u64)m, 0, pc);
+    waits_at(c, pc);
+    put_lock(RELEASE, (u64)m, 0, pc);
     add_waiter(&w);
     unlock_mutex(m);
     unpark(m);
@@ -91,40 +95,44 @@ static int wait_for(pthread_cond_t *c, pthread_mutex_t *m, const struct timespec
 #define CLOCK_OF_COND(c) ((c)->__data.__wrefs & 2 ? CLOCK_MONOTONIC : CLOCK_REALTIME)
 #define WAITED(call) \
     ({ \
-        put(RELEASE, (u64)m, 0, PC); \
+        u64 pc_ = LOCK_PC; \
+        waits_at(c, pc_); \
+        put_lock(RELEASE, (u64)m, 0, pc_); \
         unpark(m); \
         int waited_ = OUTSIDE(call); \
-        put_answer(ACQUIRE, (u64)m, (u64)waited_, PC); \
+        put_lock(ACQUIRE, (u64)m, (u64)waited_, pc_); \
         waited_; \
     })
 
 int pthread_cond_wait(pthread_cond_t *c, pthread_mutex_t *m) {
     REAL_OF(pthread_cond_wait, "GLIBC_2.3.2", int, pthread_cond_t *, pthread_mutex_t *);
     if (IDLE) return real(c, m);
-    return SHARED_COND(c) ? WAITED(real(c, m)) : wait_for(c, m, NULL, 0, PC);
+    return SHARED_COND(c) ? WAITED(real(c, m)) : wait_for(c, m, NULL, 0, LOCK_PC);
 }
 
 int pthread_cond_timedwait(pthread_cond_t *c, pthread_mutex_t *m, const struct timespec *t) {
     REAL_OF(pthread_cond_timedwait, "GLIBC_2.3.2", int, pthread_cond_t *, pthread_mutex_t *, const struct timespec *);
     if (IDLE) return real(c, m, t);
-    return SHARED_COND(c) ? WAITED(real(c, m, t)) : wait_for(c, m, t, CLOCK_OF_COND(c), PC);
+    return SHARED_COND(c) ? WAITED(real(c, m, t)) : wait_for(c, m, t, CLOCK_OF_COND(c), LOCK_PC);
 }
 
 int pthread_cond_clockwait(pthread_cond_t *c, pthread_mutex_t *m, clockid_t k, const struct timespec *t) {
     REAL(pthread_cond_clockwait, int, pthread_cond_t *, pthread_mutex_t *, clockid_t, const struct timespec *);
     if (IDLE) return real(c, m, k, t);
-    return SHARED_COND(c) ? WAITED(real(c, m, k, t)) : wait_for(c, m, t, k, PC);
+    return SHARED_COND(c) ? WAITED(real(c, m, k, t)) : wait_for(c, m, t, k, LOCK_PC);
 }
 
 /* A waiter of another process is woken too. */
 int pthread_cond_signal(pthread_cond_t *c) {
     REAL_OF(pthread_cond_signal, "GLIBC_2.3.2", int, pthread_cond_t *);
+    accessed(READ, c, 1, PC);
     if (!IDLE) keep_turn(), wake_waiters(c, 0);
     return real(c);
 }
 
 int pthread_cond_broadcast(pthread_cond_t *c) {
     REAL_OF(pthread_cond_broadcast, "GLIBC_2.3.2", int, pthread_cond_t *);
+    accessed(READ, c, 1, PC);
     if (!IDLE) keep_turn(), wake_waiters(c, 1);
     return real(c);
 }

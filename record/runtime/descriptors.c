@@ -4,7 +4,7 @@
 #define MOST_DESCRIPTORS 65536
 static struct end {
     u32 reads, writes;
-    u8 is_pipe;
+    u8 is_pipe, is_stream, is_signals, file_lock;
 } ends[MOST_DESCRIPTORS];
 static u32 channels;
 /* A child process has the ends too: what comes through a channel then may not be of this process. */
@@ -16,24 +16,28 @@ static u32 out_of(int f) { return is_known(f) ? ends[f].writes : 0; }
 /* What threads that wait for a channel are parked at. */
 static const void *key_of(u32 channel) { return (const char *)ends + channel; }
 
-/* The channel of a queue, of semaphores, or of what a poll watches: by their kind and their number in the system. */
-enum { QUEUE, MESSAGES, SEMAPHORES, WATCHED };
+/* The channel of a queue, of semaphores, of what a poll watches, of a library that is opened, of a signal, or of a file:
+ * by their kind and their number in the system. */
+enum { QUEUE, MESSAGES, SEMAPHORES, WATCHED, LIBRARY, SIGNAL, NAMED_PIPE, FILE_LOCK };
 static struct numbered {
     u64 kind, number;
     u32 channel;
+    /* What is watched. */
+    int f;
     struct numbered *next;
 } * all_numbered[1024];
 
 /* In the thread's turn. */
-static u32 channel_of(u64 kind, u64 number) {
+static struct numbered *numbered_of(u64 kind, u64 number) {
     struct numbered **first = &all_numbered[((number ^ kind << 20) * 0x9e3779b97f4a7c15ull) >> 54];
     for (struct numbered *n = *first; n; n = n->next)
-        if (n->kind == kind && n->number == number) return n->channel;
+        if (n->kind == kind && n->number == number) return n;
     struct numbered *made = __libc_calloc(1, sizeof *made);
     if (!made) abort();
-    *made = (struct numbered){kind, number, __atomic_add_fetch(&channels, 1, SC), *first};
-    return (*first = made)->channel;
+    *made = (struct numbered){kind, number, __atomic_add_fetch(&channels, 1, SC), -1, *first};
+    return *first = made;
 }
+static u32 channel_of(u64 kind, u64 number) { return numbered_of(kind, number)->channel; }
 
 static void pass_of(int of, u64 at, u64 pc) {
     int error = errno;
@@ -48,17 +52,32 @@ static int gives(int f, u64 pc) {
     return f;
 }
 
-static void set_end(int f, u32 reads, u32 writes, int is_pipe) {
-    if (is_known(f)) ends[f] = (struct end){reads, writes, (u8)is_pipe};
+/* What kind of channel a descriptor is an end of. In a stream each byte comes once, in the order of the sends. */
+enum { NO_STREAM, STREAM, PIPE };
+
+static void set_end(int f, u32 reads, u32 writes, int kind) {
+    if (is_known(f)) ends[f] = (struct end){reads, writes, kind == PIPE, kind != NO_STREAM, 0, 0};
 }
 
-static int gives_two(int answer, int *two, int is_pipe, u64 pc) {
+/* A call sends through a channel, or has received; how many bytes is its answer. Its place. */
+static u64 pass_bytes(int f, int way, u64 bytes, u64 pc) {
+    u32 channel = way == POSTED ? out_of(f) : in_of(f);
+    int error = errno;
+    u8 order = (u8)(is_known(f) && ends[f].is_stream ? way : NO_WAY);
+    u64 place = put_record(
+        (struct record){.kind = PASS, .at = channel, .of = OF_CHANNEL, .pc = pc, .answer = bytes, .order = order});
+    errno = error;
+    return place;
+}
+
+static int gives_two(int answer, int *two, int kind, u64 pc) {
+    int is_pipe = kind == PIPE;
     if (answer || IDLE) return answer;
     wrote(two, 2 * sizeof *two, pc);
     gives(two[0], pc), gives(two[1], pc);
     u32 way = __atomic_add_fetch(&channels, is_pipe ? 1 : 2, SC);
-    set_end(two[0], way, is_pipe ? 0 : way - 1, is_pipe);
-    set_end(two[1], is_pipe ? 0 : way - 1, way, is_pipe);
+    set_end(two[0], way, is_pipe ? 0 : way - 1, kind);
+    set_end(two[1], is_pipe ? 0 : way - 1, way, kind);
     return answer;
 }
 
@@ -68,11 +87,48 @@ static int gives_again(int from, int to, u64 pc) {
     return to;
 }
 
+/* ---- locks of whole files: a lock by the file, of its descriptor ---- */
+
+static u64 number_of_file(int f) {
+    struct stat about;
+    return syscall(SYS_fstat, f, &about) ? 0 : (u64)about.st_ino ^ (u64)about.st_dev << 40;
+}
+
+static void put_file_lock(int kind, int f, u64 pc) {
+    u32 channel = channel_of(FILE_LOCK, number_of_file(f));
+    put_record((struct record){.kind = (u8)kind, .at = channel, .of = OF_CHANNEL, .pc = pc, .size = kind == READER_IN});
+}
+
+/* Before a file is unlocked, or its descriptor is closed. */
+static void unlocks_file(int f, u64 pc) {
+    if (IDLE || !is_known(f) || !ends[f].file_lock) return;
+    put_file_lock(ends[f].file_lock == LOCK_SH ? READER_OUT : RELEASE, f, pc);
+    ends[f].file_lock = 0;
+}
+
+int flock(int f, int what) {
+    REAL(flock, int, int, int);
+    if (IDLE || !is_known(f)) return OUTSIDE(real(f, what));
+    maybe_give();
+    int way = what & ~LOCK_NB, error;
+    if (way == LOCK_UN) unlocks_file(f, PC);
+    int answer = OUTSIDE(real(f, what));
+    error = errno;
+    if (!answer && way != LOCK_UN) {
+        unlocks_file(f, PC);
+        put_file_lock(way == LOCK_SH ? READER_IN : WRITER, f, PC);
+        ends[f].file_lock = (u8)way;
+    }
+    errno = error;
+    return answer;
+}
+
 /* Before a call that closes: who reads to the end comes after it. */
 static void closes(int f, u64 pc) {
     if (IDLE) return;
     maybe_give();
-    if (out_of(f)) pass_of(OF_CHANNEL, out_of(f), pc);
+    unlocks_file(f, pc);
+    if (out_of(f)) pass_bytes(f, POSTED, 0, pc);
     pass_of(OF_DESCRIPTOR, (u64)f, pc);
 }
 
@@ -80,7 +136,7 @@ static void closes(int f, u64 pc) {
 static void closed(int f) {
     if (IDLE || !is_known(f)) return;
     struct end was = ends[f];
-    set_end(f, 0, 0, 0);
+    set_end(f, 0, 0, NO_STREAM);
     if (was.reads) unpark(key_of(was.reads));
     if (was.writes) unpark(key_of(was.writes));
 }
@@ -97,7 +153,23 @@ GIVES(epoll_create, (int n), (n))
 GIVES(epoll_create1, (int g), (g))
 GIVES(creat, (const char *p, mode_t m), (p, m))
 
-#define OPENS(name, before, passed_on) \
+/* A named pipe is a channel by its file. */
+static int opened(int f, int how) {
+    struct stat about;
+    if (f < 0 || IDLE || syscall(SYS_fstat, f, &about) || !S_ISFIFO(about.st_mode)) return f;
+    u32 channel = channel_of(NAMED_PIPE, (u64)about.st_ino ^ (u64)about.st_dev << 40);
+    int way = how & O_ACCMODE;
+    set_end(f, way == O_WRONLY ? 0 : channel, way == O_RDONLY ? 0 : channel, PIPE);
+    return f;
+}
+
+/* To open a named pipe waits for its other end. */
+static int opens_pipe(int folder, const char *path) {
+    struct stat about;
+    return !IDLE && !syscall(SYS_newfstatat, folder, path, &about, 0) && S_ISFIFO(about.st_mode);
+}
+
+#define OPENS(name, folder, before, passed_on) \
     int name(before, int g, ...) { \
         va_list more; \
         va_start(more, g); \
@@ -105,13 +177,17 @@ GIVES(creat, (const char *p, mode_t m), (p, m))
         va_end(more); \
         REAL(name, int, before, int, ...); \
         if (!IDLE) maybe_give(); \
-        return gives(real passed_on, PC); \
+        int error = errno, waits = opens_pipe(folder, p); \
+        errno = error; \
+        int made = gives(waits ? OUTSIDE(real passed_on) : real passed_on, PC); \
+        error = errno, opened(made, g), errno = error; \
+        return made; \
     }
 #define AND ,
-OPENS(open, const char *p, (p, g, m))
-OPENS(open64, const char *p, (p, g, m))
-OPENS(openat, int d AND const char *p, (d, p, g, m))
-OPENS(openat64, int d AND const char *p, (d, p, g, m))
+OPENS(open, AT_FDCWD, const char *p, (p, g, m))
+OPENS(open64, AT_FDCWD, const char *p, (p, g, m))
+OPENS(openat, d, int d AND const char *p, (d, p, g, m))
+OPENS(openat64, d, int d AND const char *p, (d, p, g, m))
 
 int eventfd(unsigned n, int g) {
     REAL(eventfd, int, unsigned, int);
@@ -119,27 +195,38 @@ int eventfd(unsigned n, int g) {
     int f = gives(real(n, g), PC);
     if (f >= 0 && !IDLE) {
         u32 way = __atomic_add_fetch(&channels, 1, SC);
-        set_end(f, way, way, 0);
+        set_end(f, way, way, NO_STREAM);
     }
     return f;
+}
+
+/* What a read of it gives is who sent each signal. */
+int signalfd(int f, const sigset_t *signals, int how) {
+    REAL(signalfd, int, int, const sigset_t *, int);
+    if (IDLE) return real(f, signals, how);
+    access_(READ, signals, 8, PC);
+    int made = gives(real(f, signals, how), PC);
+    if (is_known(made)) ends[made].is_signals = 1;
+    return made;
 }
 
 int pipe(int two[2]) {
     REAL(pipe, int, int *);
     if (!IDLE) maybe_give();
-    return gives_two(real(two), two, 1, PC);
+    return gives_two(real(two), two, PIPE, PC);
 }
 
 int pipe2(int two[2], int g) {
     REAL(pipe2, int, int *, int);
     if (!IDLE) maybe_give();
-    return gives_two(real(two, g), two, 1, PC);
+    return gives_two(real(two, g), two, PIPE, PC);
 }
 
 int socketpair(int d, int t, int p, int two[2]) {
     REAL(socketpair, int, int, int, int, int *);
     if (!IDLE) maybe_give();
-    return gives_two(real(d, t, p, two), two, 0, PC);
+    int is_stream = (t & ~(SOCK_NONBLOCK | SOCK_CLOEXEC)) == SOCK_STREAM;
+    return gives_two(real(d, t, p, two), two, is_stream ? STREAM : NO_STREAM, PC);
 }
 
 int dup(int f) {

@@ -1,10 +1,11 @@
 /* The records: one array in a file that is mapped, so that it is whole however the program ends. */
 
 /* The calls that the hooks saw begin, and the numbers of their nodes, of which the first `known_nodes` are found.
- * Deeper calls than these have the node of the last. They lie outside of the thread's stack, which may be small. */
+ * Deeper calls than these have the node of the last. They lie outside of the thread's stack, which may be small. Of a
+ * frame, `base` is the frame pointer, `end` its end and `from` where it was recorded from; 0 if that is not known. */
 #define CALLS 16384
 struct call {
-    u64 site, body, stack;
+    u64 site, body, stack, return_to, base, end, from;
     u32 node;
 };
 static __thread struct call *calls;
@@ -41,13 +42,21 @@ static void forget_records(void) {
     madvise((void *)start, end / round * round - start, MADV_DONTNEED);
 }
 
+/* Whether a tenth of the file system is free. So many records, 200 MB, may take what there is. */
+#define FIRST_RECORDS (1 << 22)
+static int leaves_a_tenth(void) {
+    struct statfs about;
+    if (records_there < FIRST_RECORDS || fstatfs(raw_file, &about)) return 1;
+    return about.f_bavail >= about.f_blocks / 10;
+}
+
 static int more_records(u64 place) {
     if (head->full) return 0;
     u8 was = inside;
     inside = 1;
     u64 n = records_there + PIECE < head->room ? PIECE : head->room - records_there;
-    if (has_room(head->records_at + records_there * sizeof *records, n * sizeof *records))
-        records_there += n, forget_records();
+    u64 end = head->records_at + records_there * sizeof *records;
+    if (leaves_a_tenth() && has_room(end, n * sizeof *records)) records_there += n, forget_records();
     else head->full = 1, head->whole = records_there;
     inside = was;
     return place < records_there;
@@ -126,18 +135,29 @@ static u64 next_pos(int kind, u64 at, u64 size, u64 pc) {
 /* Whether there is no room for more records. */
 static volatile u8 is_full;
 
+/* The place of the next record, or NO_PLACE where there is no room. */
+static u64 next_place(void) {
+    u64 place = __atomic_fetch_add(&head->used, 1, __ATOMIC_RELAXED);
+    if (place < head->room && (place < records_there || more_records(place))) return place;
+    is_full = 1;
+    return NO_PLACE;
+}
+
 /* Makes a record, in the thread's turn; its place, or NO_PLACE where there is no room. */
 static u64 put_record(struct record r) {
     if (IDLE) return NO_PLACE;
     keep_turn();
     r.pos = next_pos(r.kind, r.at, r.size, r.pc);
     count_record();
-    if (me >= MOST_THREADS) return NO_PLACE;
-    u64 place = __atomic_fetch_add(&head->used, 1, __ATOMIC_RELAXED);
-    if (place >= head->room || (place >= records_there && !more_records(place))) {
-        is_full = 1;
+    look_at_block(&r);
+    if (me >= MOST_THREADS) {
+        __atomic_fetch_add(&head->unrecorded, 1, __ATOMIC_RELAXED);
         return NO_PLACE;
     }
+    note_frame(&r);
+    note_use_of_stack();
+    u64 place = next_place();
+    if (place == NO_PLACE) return NO_PLACE;
     r.stack = stack_now();
     r.thread = (u16)me;
     r.done = 0;
@@ -174,6 +194,7 @@ static int make_calls(void) {
 }
 
 static void end_calls(void) {
+    forget_stack();
     if (calls) munmap(calls, CALLS * sizeof *calls);
     calls = NULL;
     depth = known_nodes = 0;
@@ -185,6 +206,9 @@ void __tsan_func_entry(void *site) {
         calls[depth].site = site_of_call((u64)site);
         calls[depth].body = PC;
         calls[depth].stack = (u64)__builtin_frame_address(0);
+        calls[depth].return_to = (u64)site;
+        calls[depth].base = *(u64 *)__builtin_frame_address(0);
+        calls[depth].end = calls[depth].from = 0;
         if (known_nodes > depth) known_nodes = depth;
     }
     depth++;

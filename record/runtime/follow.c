@@ -127,6 +127,7 @@ static void end_following(void) {
         o->after_there = look_at(o->at, o->size, o->after);
     }
     plan->state = DONE;
+    if (plan->alone) left_of_turn = plan->alone + 1;
     if (plan->held_back) held_back = (u32)plan->standing[plan->held_back - 1].thread;
 }
 

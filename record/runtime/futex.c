@@ -20,7 +20,11 @@ long syscall(long number, ...) {
     long a = va_arg(words, long), b = va_arg(words, long), c = va_arg(words, long);
     long d = va_arg(words, long), e = va_arg(words, long), f = va_arg(words, long);
     va_end(words);
+    if (!IDLE && number == SYS_read) return read_at((int)a, (void *)b, (size_t)c, PC);
+    if (!IDLE && number == SYS_write) return write_at((int)a, (const void *)b, (size_t)c, PC);
+    if (!IDLE && number == SYS_close) return close((int)a);
     int what = (int)b & FUTEX_CMD_MASK, is_private = (int)b & FUTEX_PRIVATE_FLAG;
+    if (makes_process(number)) return note_process(raw_syscall(number, a, b, c, d, e, f));
     if (IDLE || number != SYS_futex) return raw_syscall(number, a, b, c, d, e, f);
     if (what == FUTEX_WAIT || what == FUTEX_WAIT_BITSET) {
         if (is_private && !d && !has_forked) return wait_at((u32 *)a, (u32)c, PC);

@@ -14,17 +14,17 @@ static void meet(int kind, int of, u64 at, u64 round, u64 pc) {
     if (!IDLE) put_record((struct record){.kind = (u8)kind, .at = at, .answer = round, .pc = pc, .of = (u8)of});
 }
 
-/* A semaphore is posted, or a wait for it has returned. */
-static void pass_semaphore(int way, sem_t *s, u64 pc) {
+/* A semaphore is posted, or a wait for it has returned; `how` is BY_TRY if the wait is not for ever. */
+static void pass_semaphore(int way, u64 how, sem_t *s, u64 pc) {
     int error = errno;
-    if (!IDLE) put_record((struct record){.kind = PASS, .at = (u64)s, .pc = pc, .order = (u8)way});
+    if (!IDLE) put_record((struct record){.kind = PASS, .at = (u64)s, .answer = how, .pc = pc, .order = (u8)way});
     errno = error;
 }
 
 /* A try that was refused comes after the wait that took the semaphore, and before the next post. */
-static int passed(int answer, sem_t *s, u64 pc) {
+static int passed(u64 how, int answer, sem_t *s, u64 pc) {
     int error = errno, refused = error == EAGAIN || error == ETIMEDOUT;
-    if (!answer) pass_semaphore(WAITED, s, pc);
+    if (!answer) pass_semaphore(WAITED, how, s, pc);
     else if (!IDLE) put_answer(refused ? TRIED : ANSWER, (u64)s, (u64)error, pc);
     errno = error;
     return answer;
@@ -33,7 +33,7 @@ static int passed(int answer, sem_t *s, u64 pc) {
 int sem_post(sem_t *s) {
     REAL(sem_post, int, sem_t *);
     if (!IDLE) maybe_give();
-    pass_semaphore(POSTED, s, PC);
+    pass_semaphore(POSTED, 0, s, PC);
     int answer = real(s);
     if (!IDLE) unpark(s);
     else if (on) looks_again = LOOKS_AGAIN;
@@ -48,7 +48,7 @@ static int try_semaphore(sem_t *s) {
 int sem_trywait(sem_t *s) {
     REAL(sem_trywait, int, sem_t *);
     if (!IDLE) maybe_give();
-    return passed(real(s), s, PC);
+    return passed(BY_TRY, real(s), s, PC);
 }
 
 /* A wait ends where a handler came that ends what it interrupts. */
@@ -61,9 +61,9 @@ static int still_waits(sem_t *s) {
 static int wait_semaphore(sem_t *s, const struct timespec *t, clockid_t c, u64 pc) {
     maybe_give();
     was_interrupted = 0;
-    int error = TRIES(EAGAIN, still_waits(s), s, t, c);
+    int error = TRIES(EAGAIN, still_waits(s), park(s, t, c), t, c);
     if (error) errno = error;
-    return passed(error ? -1 : 0, s, pc);
+    return passed(t ? BY_TRY : 0, error ? -1 : 0, s, pc);
 }
 
 int sem_wait(sem_t *s) {

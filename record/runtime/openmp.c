@@ -317,9 +317,9 @@ _Bool GOMP_single_start(void) {
 
 /* ---- locks: who waits for one of the library waits in the recorder ---- */
 
-static void hold(void *at) {
+static void hold(void *at, u64 pc) {
     struct meeting *m = meeting_of(at);
-    while (m->who != NOBODY && m->who != me) park(at, NULL, 0);
+    while (m->who != NOBODY && m->who != me) park_for_lock(TO_WRITE, at, NULL, 0, pc);
     m->who = me, m->inside++;
 }
 
@@ -336,15 +336,16 @@ static char one_for_all __asm__("omp.critical"), one_for_atomics __asm__("omp.at
     void name given { \
         static void(*real) given; \
         if (!real) real = (void(*) given)next(#name, NULL); \
-        if (!IDLE) maybe_give(), hold(at); \
+        u64 pc = LOCK_PC; \
+        if (!IDLE) maybe_give(), hold(at, pc); \
         real passed_on; \
-        if (!IDLE) put(ACQUIRE, (u64)(at), 0, PC); \
+        if (!IDLE) put_lock(ACQUIRE, (u64)(at), 0, pc); \
     }
 #define ENDS(name, at, given, passed_on) \
     void name given { \
         static void(*real) given; \
         if (!real) real = (void(*) given)next(#name, NULL); \
-        if (!IDLE) maybe_give(), put(RELEASE, (u64)(at), 0, PC); \
+        if (!IDLE) maybe_give(), put_lock(RELEASE, (u64)(at), 0, LOCK_PC); \
         real passed_on; \
         if (!IDLE) let_go(at); \
     }
@@ -362,10 +363,11 @@ ENDS(omp_unset_nest_lock, lock, (void *lock), (lock))
 #define TESTS(name) \
     int name(void *lock) { \
         REAL(name, int, void *); \
+        u64 pc = LOCK_PC; \
         if (!IDLE) maybe_give(); \
         int got_it = real(lock); \
-        if (got_it && !IDLE) hold(lock); \
-        took(got_it ? 0 : EBUSY, lock, PC); \
+        if (got_it && !IDLE) hold(lock, pc); \
+        took_by(BY_TRY, got_it ? 0 : EBUSY, lock, pc); \
         return got_it; \
     }
 TESTS(omp_test_lock)

@@ -40,17 +40,23 @@ struct standing {
     u64 thread, pos, at, size, kind, pc, kernel_id, value[2], value_there, after[2], after_there, frames;
     struct frame frame[MOST_FRAMES];
 };
+/* An access of a block that was freed, or a second free: by which thread the block was freed, and where. */
+#define MOST_USES 16
+struct use {
+    u64 kind, thread, size, freed_by, pc, freed_at;
+};
 struct plan {
-    /* what record/follow says */
-    u64 magic, threads, steps, forks, ticks, frees, held_back, patience_ms;
+    /* what record/follow says; the thread that did the last access goes on for so many accesses (`alone`) */
+    u64 magic, threads, steps, forks, ticks, frees, held_back, alone, patience_ms;
     u64 threads_at, forks_at, steps_at, ticks_at, needs_at, first_at, modules_at, modules;
     /* what comes back */
     u64 state, step, why, thread, pos, kind, pc, expected, spurious, passed_ticks, last_pc, out_of_order, refused_tries,
-        unused;
+        uses;
     struct standing standing[2];
     u64 at_tick[MOST_TOLD];
+    struct use use[MOST_USES];
 };
-#define PLAN_MAGIC 0x3257464252524352ull
+#define PLAN_MAGIC 0x3357464252524352ull
 
 static struct plan *plan;
 static struct known *known;

@@ -8,16 +8,18 @@ static __thread struct {
 static __thread u32 read_hold_count;
 
 /* After a call that takes the lock, or is refused: then it comes while another thread has the lock. */
-static void put_taken(int kind, int answer, void *at, u64 pc) {
+static void put_taken(int how, int kind, int answer, void *at, u64 pc) {
     int refused = answer == EBUSY || answer == ETIMEDOUT;
     int becomes = !answer ? kind : refused ? TRIED : ANSWER;
     u64 by = (u64)answer;
-    put_record((struct record){.kind = (u8)becomes, .at = (u64)at, .pc = pc, .answer = by, .size = kind == READER_IN});
+    u8 order = order_of_lock(how);
+    put_record((struct record){
+        .kind = (u8)becomes, .at = (u64)at, .pc = pc, .answer = by, .order = order, .size = kind == READER_IN});
 }
 
-static int reads(int answer, void *at, u64 pc) {
+static int reads(int how, int answer, void *at, u64 pc) {
     if (IDLE) return answer;
-    put_taken(READER_IN, answer, at, pc);
+    put_taken(how, READER_IN, answer, at, pc);
     if (answer) return answer;
     for (u32 i = 0; i < read_hold_count; i++)
         if (read_holds[i].lock == at) return read_holds[i].times++, answer;
@@ -36,8 +38,8 @@ static int leaves_read_hold(void *at) {
     return 0;
 }
 
-static int writes(int answer, void *at, u64 pc) {
-    if (!IDLE) put_taken(WRITER, answer, at, pc);
+static int writes(int how, int answer, void *at, u64 pc) {
+    if (!IDLE) put_taken(how, WRITER, answer, at, pc);
     return answer;
 }
 
@@ -57,59 +59,59 @@ static int is_own(pthread_rwlock_t *m) { return m->__data.__cur_writer == syscal
 /* A reader may be let in later than now for many reasons: it tries again. */
 static int read_lock(pthread_rwlock_t *m, const struct timespec *t, clockid_t c, u64 pc) {
     maybe_give();
-    return reads(TRIES(EBUSY, try_reading(m), m, t, c), m, pc);
+    return reads(t ? BY_TRY : 0, TRIES_LOCK(try_reading(m), TO_READ, m, t, c, pc), m, pc);
 }
 
 static int write_lock(pthread_rwlock_t *m, const struct timespec *t, clockid_t c, u64 pc) {
     maybe_give();
-    return writes(TRIES(EBUSY, try_writing(m), m, t, c), m, pc);
+    return writes(t ? BY_TRY : 0, TRIES_LOCK(try_writing(m), TO_WRITE, m, t, c, pc), m, pc);
 }
 
 int pthread_rwlock_tryrdlock(pthread_rwlock_t *m) {
     if (!IDLE) maybe_give();
-    return reads(try_reading(m), m, PC);
+    return reads(BY_TRY, try_reading(m), m, LOCK_PC);
 }
 
 int pthread_rwlock_trywrlock(pthread_rwlock_t *m) {
     if (!IDLE) maybe_give();
-    return writes(try_writing(m), m, PC);
+    return writes(BY_TRY, try_writing(m), m, LOCK_PC);
 }
 
 int pthread_rwlock_rdlock(pthread_rwlock_t *m) {
     REAL(pthread_rwlock_rdlock, int, pthread_rwlock_t *);
-    return IDLE || is_own(m) ? real(m) : read_lock(m, NULL, 0, PC);
+    return IDLE || is_own(m) ? real(m) : read_lock(m, NULL, 0, LOCK_PC);
 }
 
 int pthread_rwlock_wrlock(pthread_rwlock_t *m) {
     REAL(pthread_rwlock_wrlock, int, pthread_rwlock_t *);
-    return IDLE || is_own(m) ? real(m) : write_lock(m, NULL, 0, PC);
+    return IDLE || is_own(m) ? real(m) : write_lock(m, NULL, 0, LOCK_PC);
 }
 
 int pthread_rwlock_timedrdlock(pthread_rwlock_t *m, const struct timespec *t) {
     REAL(pthread_rwlock_timedrdlock, int, pthread_rwlock_t *, const struct timespec *);
-    return IDLE || is_own(m) ? real(m, t) : read_lock(m, t, CLOCK_REALTIME, PC);
+    return IDLE || is_own(m) ? real(m, t) : read_lock(m, t, CLOCK_REALTIME, LOCK_PC);
 }
 
 int pthread_rwlock_timedwrlock(pthread_rwlock_t *m, const struct timespec *t) {
     REAL(pthread_rwlock_timedwrlock, int, pthread_rwlock_t *, const struct timespec *);
-    return IDLE || is_own(m) ? real(m, t) : write_lock(m, t, CLOCK_REALTIME, PC);
+    return IDLE || is_own(m) ? real(m, t) : write_lock(m, t, CLOCK_REALTIME, LOCK_PC);
 }
 
 int pthread_rwlock_clockrdlock(pthread_rwlock_t *m, clockid_t c, const struct timespec *t) {
     REAL(pthread_rwlock_clockrdlock, int, pthread_rwlock_t *, clockid_t, const struct timespec *);
-    return IDLE || is_own(m) ? real(m, c, t) : read_lock(m, t, c, PC);
+    return IDLE || is_own(m) ? real(m, c, t) : read_lock(m, t, c, LOCK_PC);
 }
 
 int pthread_rwlock_clockwrlock(pthread_rwlock_t *m, clockid_t c, const struct timespec *t) {
     REAL(pthread_rwlock_clockwrlock, int, pthread_rwlock_t *, clockid_t, const struct timespec *);
-    return IDLE || is_own(m) ? real(m, c, t) : write_lock(m, t, c, PC);
+    return IDLE || is_own(m) ? real(m, c, t) : write_lock(m, t, c, LOCK_PC);
 }
 
 int pthread_rwlock_unlock(pthread_rwlock_t *m) {
     REAL(pthread_rwlock_unlock, int, pthread_rwlock_t *);
     if (IDLE) return real(m);
     maybe_give();
-    put(leaves_read_hold(m) ? READER_OUT : RELEASE, (u64)m, 0, PC);
+    put_lock(leaves_read_hold(m) ? READER_OUT : RELEASE, (u64)m, 0, LOCK_PC);
     int answer = real(m);
     unpark(m);
     return answer;

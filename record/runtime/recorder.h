@@ -12,23 +12,29 @@
 #include <poll.h>
 #include <pthread.h>
 #include <sched.h>
+#include <search.h>
 #include <semaphore.h>
 #include <signal.h>
+#include <spawn.h>
 #include <stdarg.h>
 #include <stddef.h>
 #include <stdio.h>
 #include <stdlib.h>
 #include <string.h>
 #include <sys/epoll.h>
+#include <sys/file.h>
 #include <sys/eventfd.h>
 #include <sys/mman.h>
 #include <sys/resource.h>
 #include <sys/select.h>
+#include <sys/signalfd.h>
 #include <sys/socket.h>
 #include <sys/stat.h>
+#include <sys/statfs.h>
 #include <sys/syscall.h>
 #include <sys/time.h>
 #include <sys/uio.h>
+#include <sys/un.h>
 #include <sys/wait.h>
 #include <threads.h>
 #include <time.h>
@@ -125,6 +131,9 @@ static void give(void);
 static void let_others(void);
 static int park(const volatile void *at, const struct timespec *until, clockid_t clock);
 static void unpark(const volatile void *at);
+/* deadlocks.c: parks for a lock, to write or to read. */
+enum { TO_WRITE, TO_READ };
+static int park_for_lock(int reads, const volatile void *at, const struct timespec *until, clockid_t clock, u64 pc);
 static void keep_turn(void);
 static void watch(void);
 /* events.c: the records. */
@@ -134,6 +143,11 @@ static void take_back(u64 place);
 static void note_modules(void);
 static void *found(const char *name, const char *version);
 static void *next(const char *name, const char *version);
+/* frames.c: whose memory of a stack is. */
+static void note_stack(void);
+static void forget_stack(void);
+static void note_frame(const struct record *r);
+static void note_use_of_stack(void);
 /* accesses.c */
 static void maybe_give(void);
 /* channels.c, streams.c */

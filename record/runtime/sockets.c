@@ -1,7 +1,9 @@
-/* Connections between sockets of this process: a channel for each way, and one more that connect() passes before
+/* Connections between sockets of this process, by address or by path: a channel for each way, and one more that connect() passes before
  * accept(). Both ends know the two addresses, the connecting end as its own and the other's. */
 
 #define MOST_ADDRESS 32
+/* The byte of an address that says that it is a path, whose letters are mixed into the first ones. */
+#define IS_PATH 20
 struct address {
     u8 bytes[MOST_ADDRESS];
 };
@@ -29,6 +31,12 @@ static int address_of(const struct sockaddr_storage *a, struct address *to) {
         memcpy(to->bytes + 12, &four->sin_addr, 4), memcpy(to->bytes + 16, &four->sin_port, 2);
     } else if (a->ss_family == AF_INET6) {
         memcpy(to->bytes, &six->sin6_addr, 16), memcpy(to->bytes + 16, &six->sin6_port, 2);
+    } else if (a->ss_family == AF_UNIX) {
+        u64 mixed = 0xcbf29ce484222325ull;
+        const char *path = ((const struct sockaddr_un *)a)->sun_path;
+        for (size_t k = 0; k < sizeof((struct sockaddr_un *)0)->sun_path && path[k]; k++)
+            mixed = (mixed ^ (u8)path[k]) * 0x100000001b3ull;
+        memcpy(to->bytes, &mixed, sizeof mixed), to->bytes[IS_PATH] = 1;
     } else {
         return 0;
     }
@@ -78,7 +86,7 @@ static struct connection *connection_to(int f, const struct sockaddr *a, socklen
     if (!c) return NULL;
     c->to = to;
     c->way = __atomic_add_fetch(&channels, 3, SC);
-    set_end(f, c->way, c->way - 1, 0);
+    set_end(f, c->way, c->way - 1, STREAM);
     lock_turns();
     c->next = connections, connections = c;
     unlock_turns();
@@ -110,7 +118,8 @@ int connect(int f, const struct sockaddr *a, socklen_t n) {
     REAL(connect, int, int, const struct sockaddr *, socklen_t);
     if (IDLE) return real(f, a, n);
     struct connection *c = begins_to_connect(f, a, n, PC);
-    give();
+    /* Connections to a path are accepted in the order in which they were made: it is that of turns. */
+    if (!c || !c->to.bytes[IS_PATH]) give();
     int answer = real(f, a, n);
     if (c) has_connected(f, c);
     take();
@@ -122,18 +131,20 @@ int connect(int f, const struct sockaddr *a, socklen_t n) {
 static struct connection *connection_of(const struct address *from, const struct address *to) {
     for (int pending = 1; pending;) {
         pending = 0;
+        struct connection **oldest = NULL;
         lock_turns();
         for (struct connection **at = &connections; *at; at = &(*at)->next) {
             struct connection *c = *at;
             int known = __atomic_load_n(&c->known, SC);
-            if (memcmp(&c->to.bytes[16], &to->bytes[16], 2)) continue;
+            if (memcmp(&c->to.bytes[16], &to->bytes[16], 2) || c->to.bytes[IS_PATH] != to->bytes[IS_PATH]) continue;
+            if (to->bytes[IS_PATH] && memcmp(&c->to, to, sizeof *to)) continue;
             pending |= !known;
-            if (known != 1 || memcmp(&c->from, from, sizeof *from)) continue;
-            *at = c->next;
-            unlock_turns();
-            return c;
+            if (known == 1 && !memcmp(&c->from, from, sizeof *from)) oldest = at;
         }
+        struct connection *found = oldest ? *oldest : NULL;
+        if (found) *oldest = found->next;
         unlock_turns();
+        if (found) return found;
         if (pending) syscall(SYS_sched_yield);
     }
     return NULL;
@@ -149,7 +160,7 @@ static int is_accepted(int f, u64 pc) {
     struct connection *c = there ? connection_of(&from, &to) : NULL;
     inside = 0;
     if (c) {
-        set_end(f, c->way - 1, c->way, 0);
+        set_end(f, c->way - 1, c->way, STREAM);
         pass_of(OF_CHANNEL, c->way - 2, pc);
         __libc_free(c);
     }

@@ -3,7 +3,11 @@
 /* The compiled parts of the program that have hooks, before the head is there. */
 static u64 early_units;
 
-static void stop_in_child(void) { on = 0; }
+static void stop_in_child(void) {
+    on = 0;
+    is_child = 1;
+    if (head) __atomic_fetch_add(&head->forks, 1, SC);
+}
 static void note_fork(void) { has_forked = 1; }
 
 static u64 option(const char *name, u64 otherwise) {
@@ -30,16 +34,32 @@ static int has_first_room(void) {
     return more_records(0);
 }
 
+/* Maps as much room as the limits of the process allow: the address space and the size of a file may have one. */
+#define LEAST_ROOM 65536
+static void *map_room(struct head *wanted, u64 room) {
+    struct rlimit file_size;
+    int is_limited = !getrlimit(RLIMIT_FSIZE, &file_size) && file_size.rlim_cur != RLIM_INFINITY;
+    for (;; room /= 2) {
+        u64 size = lay_out(wanted, room);
+        if (!is_limited || size <= file_size.rlim_cur) {
+            void *p = MAP_FAILED;
+            if (!ftruncate(raw_file, (off_t)size))
+                p = mmap(NULL, size, PROT_READ | PROT_WRITE, MAP_SHARED | MAP_NORESERVE, raw_file, 0);
+            if (p != MAP_FAILED) return p;
+        }
+        if (room <= LEAST_ROOM) return MAP_FAILED;
+    }
+}
+
 /* Maps the file that record/run made. The first process that comes to it has it; its children, and other programs that
  * it starts, find it taken and are not recorded. */
 static int map_file(const char *name) {
     struct head wanted = {0};
     raw_file = name && *name ? (int)syscall(SYS_openat, AT_FDCWD, name, O_RDWR | O_CLOEXEC) : -1;
     if (raw_file < 0) return 0;
-    u64 nothing = 0, size = lay_out(&wanted, option("RACEBENCH_RECORD_ROOM", 1 << 20));
-    if (ftruncate(raw_file, (off_t)size) || !has_room(0, sizeof *head)) return 0;
-    void *p = mmap(NULL, size, PROT_READ | PROT_WRITE, MAP_SHARED | MAP_NORESERVE, raw_file, 0);
-    if (p == MAP_FAILED) return 0;
+    u64 nothing = 0;
+    void *p = map_room(&wanted, option("RACEBENCH_RECORD_ROOM", 1 << 20));
+    if (p == MAP_FAILED || !has_room(0, sizeof *head)) return 0;
     head = p;
     if (!__atomic_compare_exchange_n(&head->magic, &nothing, MAGIC, 0, SC, SC)) return 0;
     lay_out(head, wanted.room);
@@ -61,7 +81,9 @@ static void hide_file(void) {
 static void begin(void) {
     one_in = (u32)option("RACEBENCH_RECORD_YIELD", 40);
     if (!one_in) one_in = 1;
-    chance = (option("RACEBENCH_RECORD_SEED", 1) + 5) * 0x9e3779b97f4a7c15ull | 1;
+    u64 seed = option("RACEBENCH_RECORD_SEED", 1);
+    young_in = young_rates[seed % (sizeof young_rates / sizeof *young_rates)];
+    chance = (seed + 5) * 0x9e3779b97f4a7c15ull | 1;
     __real_pthread_key_create(&last_turn, end_of_thread);
     pthread_setspecific(last_turn, (void *)1);
     pthread_atfork(NULL, note_fork, stop_in_child);
@@ -72,6 +94,7 @@ static void begin(void) {
     note_modules();
     note_program((u64)begin);
     dl_iterate_phdr(note_c_library, NULL);
+    dl_iterate_phdr(note_trusted, NULL);
     start_following(getenv("RACEBENCH_FOLLOW"));
     if (plan) threads = plan->threads > 1 ? (u32)plan->threads : 1;
     on = 1;

@@ -25,6 +25,22 @@ static u32 number_of(pthread_t id) {
     return NOBODY;
 }
 
+/* The place of the thread's variables of its own, which are below it. */
+static u64 thread_pointer(void) {
+#if defined __x86_64__
+    u64 pointer;
+    __asm__("mov %%fs:0, %0" : "=r"(pointer));
+    return pointer;
+#else
+    return 0;
+#endif
+}
+
+static void put_stack(u64 size) {
+    put_record((struct record){
+        .kind = STACK, .at = stack_start, .size = size > UINT_MAX ? UINT_MAX : (u32)size, .answer = thread_pointer()});
+}
+
 /* The stack is a variable of the thread's own. */
 static void own_stack(void) {
     pthread_attr_t attributes;
@@ -40,7 +56,8 @@ static void own_stack(void) {
     inside = was;
     if (!there) return;
     stack_start = (u64)at, stack_size = n;
-    put(STACK, (u64)at, n, 0);
+    note_stack();
+    put_stack(n);
 }
 
 /* A thread that was not made by pthread_create has a number and no fork. */
@@ -82,6 +99,7 @@ static void end_of_thread(void *round) {
     __real_pthread_sigmask(SIG_SETMASK, &all, NULL);
     if (me < MOST_THREADS) {
         if (on && !in_library[me]) take(), leave_robust_mutexes();
+        forget_stack();
         gone[me] = 1;
         unpark(&gone[me]);
         give();

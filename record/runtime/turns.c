@@ -7,6 +7,8 @@ static volatile u64 progress;
 static u32 waiting[MOST_THREADS], waiting_count;
 static u32 parked[MOST_THREADS], parked_count;
 static const volatile void *parked_at[MOST_THREADS];
+/* Whether a parked thread looks again by itself: after a time, or at a descriptor. */
+static u8 wakes_itself[MOST_THREADS];
 static volatile u32 woken[MOST_THREADS];
 /* The numbers of the threads in the system. */
 static pid_t kernel_ids[MOST_THREADS];
@@ -259,6 +261,7 @@ static int park(const volatile void *at, const struct timespec *until, clockid_t
     lock_turns();
     __atomic_store_n(&woken[me], 0, __ATOMIC_SEQ_CST);
     parked_at[me] = at;
+    wakes_itself[me] = until || awaited >= 0;
     parked[parked_count++] = me;
     if (holder == me) hand_on();
     unlock_turns();

@@ -16,6 +16,7 @@ static void look(u64 looks, int asleep, int runs_long) {
     }
     if (idle && looks >= LOOKS_BEFORE_RESCUE && !waiting_count && parked_count && !following) {
         head->forced += holder != NOBODY;
+        look_for_deadlock();
         rescue();
         return;
     }

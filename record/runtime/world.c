@@ -11,11 +11,9 @@ WAITS(int, nanosleep, (const struct timespec *t, struct timespec *rest), (t, res
 WAITS(int, clock_nanosleep, (clockid_t c, int g, const struct timespec *t, struct timespec *rest), (c, g, t, rest))
 WAITS(int, usleep, (useconds_t t), (t))
 WAITS(unsigned, sleep, (unsigned t), (t))
-WAITS(int, system, (const char *c), (c))
 WAITS(int, pclose, (FILE * f), (f))
 WAITS(int, pause, (void), ())
 WAITS(int, sigsuspend, (const sigset_t *s), (s))
-WAITS(int, flock, (int f, int what), (f, what))
 WAITS(int, thrd_sleep, (const struct timespec *t, struct timespec *rest), (t, rest))
 
 /* Those that write what came, when it has come. One that found nothing is no tick: a program may ask again and again,
@@ -35,10 +33,12 @@ AWAITS(pid_t, waitpid, (pid_t p, int *status, int g), (p, status, g), FILLED(sta
 AWAITS(pid_t, wait3, (int *status, int g, struct rusage *usage), (status, g, usage), ENDED)
 AWAITS(pid_t, wait4, (pid_t p, int *status, int g, struct rusage *usage), (p, status, g, usage), ENDED)
 AWAITS(int, waitid, (idtype_t of, id_t id, siginfo_t *info, int g), (of, id, info, g), FILLED(info, !answer))
-AWAITS(int, sigwait, (const sigset_t *s, int *number), (s, number), FILLED(number, !answer))
-AWAITS(int, sigwaitinfo, (const sigset_t *s, siginfo_t *info), (s, info), FILLED(info, answer > 0))
+AWAITS(int, sigwait, (const sigset_t *s, int *number), (s, number),
+       (got_signal(answer ? 0 : *number, PC), FILLED(number, !answer)))
+AWAITS(int, sigwaitinfo, (const sigset_t *s, siginfo_t *info), (s, info),
+       (got_signal(answer, PC), FILLED(info, answer > 0)))
 AWAITS(int, sigtimedwait, (const sigset_t *s, siginfo_t *info, const struct timespec *t), (s, info, t),
-       FILLED(info, answer > 0))
+       (got_signal(answer, PC), FILLED(info, answer > 0)))
 
 int sched_yield(void) {
     if (!IDLE) give_and_take();
@@ -49,10 +49,21 @@ void thrd_yield(void) { sched_yield(); }
 
 /* ---- calls that ask for some of many descriptors: they read what they are asked for, and write what is there ---- */
 
+/* A call says that something is there to be received: it comes after who sent it. */
+static void found_there(int f, int is_there, u64 pc) {
+    if (IDLE || !in_of(f)) return;
+    if (!is_there) return (void)pass_silently(pc);
+    put_record((struct record){.kind = TRIED, .at = in_of(f), .of = OF_CHANNEL, .pc = pc});
+}
+#define IS_THERE (POLLIN | POLLPRI | POLLRDHUP | POLLHUP | POLLERR)
+
 static void reads_polled(const struct pollfd *f, nfds_t n, u64 pc) { access_(READ, f, n * sizeof *f, pc); }
 
 static void wrote_polled(const struct pollfd *f, nfds_t n, int answer, u64 pc) {
+    int error = errno;
     for (nfds_t i = 0; i < n; i++) wrote(&f[i].revents, answer < 0 ? 0 : sizeof f[i].revents, pc);
+    for (nfds_t i = 0; i < n; i++) found_there(f[i].fd, answer > 0 && (f[i].revents & IS_THERE), pc);
+    errno = error;
 }
 
 int ppoll(struct pollfd *f, nfds_t n, const struct timespec *t, const sigset_t *s) {
@@ -79,6 +90,10 @@ static void reads_selected(const struct selected *all) {
 static int wrote_selected(const struct selected *all, int answer) {
     for (int k = 0; k < 3; k++)
         if (all->of[k]) wrote(all->of[k], answer < 0 ? 0 : all->size, all->pc);
+    int error = errno;
+    for (int f = 0; answer > 0 && all->of[0] && f < (int)(8 * all->size); f++)
+        if (FD_ISSET(f, all->of[0])) found_there(f, 1, all->pc);
+    errno = error;
     return answer;
 }
 
@@ -144,20 +159,30 @@ static int find_event(const struct epoll_event *now, int there, struct tick_entr
 }
 
 /* What a poll gives back with an event was given to it before: who gets it comes after. */
-static u32 watched(int f, const struct epoll_event *e) { return channel_of((u64)f << 8 | WATCHED, e->data.u64); }
+static struct numbered *watched(int f, const struct epoll_event *e) {
+    return numbered_of((u64)f << 8 | WATCHED, e->data.u64);
+}
 
 int epoll_ctl(int f, int what, int of, struct epoll_event *e) {
     REAL(epoll_ctl, int, int, int, int, struct epoll_event *);
     if (IDLE) return real(f, what, of, e);
     maybe_give();
-    if (e && what != EPOLL_CTL_DEL) meet(ARRIVED, OF_CHANNEL, watched(f, e), 1, PC);
+    if (e && what != EPOLL_CTL_DEL) {
+        struct numbered *one = watched(f, e);
+        one->f = of;
+        meet(ARRIVED, OF_CHANNEL, one->channel, 1, PC);
+    }
     return real(f, what, of, e);
 }
 
 static int polled(int f, const struct epoll_event *all, int n, u64 pc) {
     int error = errno;
     wrote(all, n > 0 ? (u64)n * sizeof *all : 0, pc);
-    for (int i = 0; i < n; i++) meet(WENT_ON, OF_CHANNEL, watched(f, &all[i]), 1, pc);
+    for (int i = 0; i < n; i++) {
+        struct numbered *one = watched(f, &all[i]);
+        meet(WENT_ON, OF_CHANNEL, one->channel, 1, pc);
+        found_there(one->f, (all[i].events & IS_THERE) != 0, pc);
+    }
     errno = error;
     return n;
 }
@@ -239,7 +264,3 @@ DRAWS(1, int, rand, (void), ())
 DRAWS(1, long, random, (void), ())
 DRAWS(1, void, srand, (unsigned n), (n))
 DRAWS(1, void, srandom, (unsigned n), (n))
-DRAWS(2, double, drand48, (void), ())
-DRAWS(2, long, lrand48, (void), ())
-DRAWS(2, long, mrand48, (void), ())
-DRAWS(2, void, srand48, (long n), (n))
