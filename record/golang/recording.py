@@ -1,0 +1,242 @@
+"""Recording a Go program: it runs with a log, and the decoder writes the trace."""
+
+# mypy: disallow-untyped-calls=False
+import argparse
+import os
+import shutil
+import struct
+import subprocess
+import sys
+import tempfile
+import threading
+import time
+from dataclasses import dataclass, field
+from typing import IO
+
+import running
+from golang import building
+
+HEAD = struct.Struct("<16Q")
+MAGIC = 0x32304F4745434152
+# Places of the head's numbers, in the order of recorder.c.
+APPENDED, LOST, STOP_AT = 3, 5, 8 * 15
+# Numbers that mean that there is no limit.
+NO_LIMIT = (1 << 63) - 1
+MOST_ROOM = 1 << 36
+MOST_EVENTS, MOST_BYTES, MOST_THREADS = 1_048_576, 268_435_456, 256
+# The status if the recording is not whole.
+NOT_WHOLE = 4
+# So many seconds are between two looks whether a program has begun.
+LOOK = 0.005
+
+
+def say(text: str) -> None:
+    running.say("record/run", text)
+
+
+def program_of(word: str) -> str | None:
+    """The file that a word runs."""
+    path: str = running.path_of(word)
+    return path if "/" in path else shutil.which(path)
+
+
+def root_of(word: str) -> str | None:
+    """The GOROOT of a program that record/go built; None if it is another program."""
+    path = program_of(word)
+    return building.root_of(path) if path else None
+
+
+def surroundings(given: argparse.Namespace, path: str) -> dict[str, str]:
+    """What a recorded program has in its environment. A garbage collection would depend on time, so it comes only when
+    half of the memory is used."""
+    room = given.room if given.room < MOST_ROOM else ""
+    debug = [word for word in os.environ.get("GODEBUG", "").split(",") if word and "asyncpreemptoff" not in word]
+    half = os.sysconf("SC_PAGE_SIZE") * os.sysconf("SC_PHYS_PAGES") // 2
+    usual = {} if "GOGC" in os.environ or "GOMEMLIMIT" in os.environ else {"GOGC": "off", "GOMEMLIMIT": str(half)}
+    ours = {
+        "RACEBENCH_GO_LOG": path,
+        "RACEBENCH_GO_SEED": str(given.seed),
+        "RACEBENCH_GO_YIELD": str(getattr(given, "yield")),
+        "RACEBENCH_GO_ROOM": str(room),
+        "GODEBUG": ",".join([*debug, "asyncpreemptoff=1"]),
+    }
+    return {**os.environ, **usual, **ours}
+
+
+def head_of(file: IO[bytes]) -> tuple[int, ...]:
+    data = os.pread(file.fileno(), HEAD.size, 0)
+    return HEAD.unpack(data) if len(data) == HEAD.size else (0,) * 16
+
+
+def stop_recording_after(seconds: float, file: IO[bytes]) -> None:
+    """So many seconds after the first record no more are kept. The program goes on."""
+
+    def stop() -> None:
+        while not head_of(file)[APPENDED]:
+            time.sleep(LOOK)
+        time.sleep(seconds)
+        os.pwrite(file.fileno(), (1).to_bytes(8, "little"), STOP_AT)
+
+    threading.Thread(target=stop, daemon=True).start()
+
+
+def run(given: argparse.Namespace, file: IO[bytes], path: str) -> int:
+    def begun() -> None:
+        if given.seconds:
+            stop_recording_after(given.seconds, file)
+
+    words = [running.path_of(given.program), *given.args]
+    return int(running.run(words, surroundings(given, path), sys.stderr, begun=begun)[0])
+
+
+def decoder_words(given: argparse.Namespace, status: int) -> list[str]:
+    limited = not given.stream and given.max < NO_LIMIT
+    words = [f"-max={given.max if limited else NO_LIMIT}", f"-from={given.first}", f"-frames={given.frames}"]
+    words += [f"-threads={0 if given.stream else MOST_THREADS}", f"-cause={'FOR' if given.seconds else 'ROOM'}"]
+    flags = {"-lossy": limited, "-slots": given.slots, "-killed": status < 0}
+    return words + [flag for flag, wanted in flags.items() if wanted] + [f"-only={file}" for file in given.only]
+
+
+@dataclass
+class Facts:
+    """What the decoder counted, and why the trace is not whole, if it is not."""
+
+    counts: dict[str, int] = field(default_factory=dict)
+    losses: dict[str, int] = field(default_factory=dict)
+
+
+def facts_of(text: str) -> Facts:
+    """What the decoder says; the rest of it is said here."""
+    facts = Facts()
+    for line in text.splitlines():
+        word, _, rest = line.partition(" ")
+        if word == "fact":
+            name, count = rest.split(" ")
+            facts.counts[name] = int(count)
+        elif word == "loss":
+            name, count = rest.split("=")
+            facts.losses[name] = int(count)
+        else:
+            print(line, file=sys.stderr)
+    return facts
+
+
+def decoded(given: argparse.Namespace, file: IO[bytes], root: str, status: int) -> Facts | None:
+    """Writes the trace on standard output; what the decoder counted, or None if it did not write all of it."""
+    with tempfile.TemporaryDirectory(prefix="record") as folder:
+        decoder = building.decoder_of(building.go_of(root), folder)
+        number = file.fileno()
+        words = [
+            decoder,
+            *decoder_words(given, status),
+            program_of(given.program) or given.program,
+            f"/dev/fd/{number}",
+        ]
+        done = subprocess.run(
+            words, stderr=subprocess.PIPE, pass_fds=[number], preexec_fn=running.be_deaf, check=False
+        )
+    facts = facts_of(done.stderr.decode(errors="replace"))
+    if done.returncode:
+        say("the trace was not written whole" + (f": signal {-done.returncode}" if done.returncode < 0 else ""))
+        return None
+    return facts
+
+
+def counted(facts: dict[str, int], name: str, text: str) -> list[str]:
+    return [f"{facts[name]} {text}"] if facts.get(name) else []
+
+
+def left_out(given: argparse.Namespace, facts: Facts) -> list[str]:
+    """What of the run is not in the trace."""
+    reasons = {"DISK": "less than a tenth of the disk is free", "FOR": "--for", "ROOM": "--room"}
+    lost = [
+        f"{facts.losses[cause]} records left out ({why})" for cause, why in reasons.items() if cause in facts.losses
+    ]
+    held = "events before the first that is wanted left out (--from); the locks that were held there are taken first"
+    counts, files = facts.counts, ", ".join(given.only)
+    killed = (
+        ["a signal ended the program: what came after its last record is not known"]
+        if "KILLED" in facts.losses
+        else []
+    )
+    return [
+        *lost,
+        *counted(counts, "before", held),
+        *counted(counts, "left_out", f"events left out after the first {counts['written']} (--max)"),
+        *counted(counts, "not_chosen", f"parts of variables left out, which no line of {files} accesses (--only)"),
+        *counted(counts, "cut_short", "parts of accesses left out, of accesses with more than 64 parts"),
+        *killed,
+        *counted(counts, "others", "other programs that record/go built were started, and are not recorded"),
+        *counted(counts, "clashes", "records came at the same time as another, so the trace may be wrong"),
+        *counted(counts, "most_calls", "calls are missing in locations: the program has too many different stacks"),
+    ]
+
+
+def orders(counts: dict[str, int]) -> list[str]:
+    """Where the trace has more order than the program forces."""
+    senders = "channels have several senders: their messages keep the order of this run (--slots gives Go's model)"
+    lent = "goroutines have the number of one that ended, without an order between the two: races may be hidden; "
+    return [
+        *counted(counts, "many_senders", senders),
+        *counted(counts, "no_sections", "locks were let go by another goroutine; their sections keep their order"),
+        *counted(counts, "lent", lent + "without --max none is lent so"),
+    ]
+
+
+def tell(given: argparse.Namespace, facts: Facts) -> None:
+    counts = facts.counts
+    for line in [*left_out(given, facts), *orders(counts)]:
+        say(line)
+    if counts.get("short"):
+        say(f"the trace has more than {MOST_THREADS} threads: read it with `racebench triage --windows`")
+    elif counts["written"] > MOST_EVENTS or counts["bytes"] > MOST_BYTES:
+        say("the trace is too long to be read at once: read it with `racebench triage --windows`")
+    if not counts["written"]:
+        options = counts.get("before") or counts.get("left_out") or counts.get("not_chosen")
+        none = "no event was recorded: the program starts no goroutine, or its goroutines share nothing"
+        say("no event was written: the options leave out all of them" if options else none)
+    forced = counts.get("forced", 0)
+    say(f"recorded {counts['written']} events, {counts.get('switches', 0)} turns, {forced} taken by force")
+
+
+def log_of(given: argparse.Namespace, file: IO[bytes], path: str) -> int:
+    """Runs the program; its status. There is no log if it wrote none."""
+    status = run(given, file, path)
+    say(running.ending(status))
+    head = head_of(file)
+    if head[0] != MAGIC or not head[APPENDED]:
+        where = tempfile.gettempdir()
+        raise running.Unrunnable(f"nothing was recorded: the program ended early, or {where} has no room for the log")
+    if given.raw:
+        with open(given.raw, "wb") as kept:
+            file.seek(0)
+            shutil.copyfileobj(file, kept)
+    return status
+
+
+def record(given: argparse.Namespace, root: str) -> int:
+    """Records a Go program by the options of record/run; the status of the command."""
+    if given.clock:
+        say("--clock: a Go program can't be followed, so it has no clock")
+        return 2
+    try:
+        if given.raw:
+            running.look_before_writing(given.raw)
+        file, path = running.nameless_file()
+        with file:
+            status = log_of(given, file, path)
+            facts = decoded(given, file, root, status)
+    except (building.NoGo, running.Unrunnable) as why:
+        say(str(why))
+        return 1
+    except OSError as error:
+        say(f"{error.filename or 'the trace was not written'}: {error.strerror}")
+        return 1
+    if facts is None:
+        return 1
+    tell(given, facts)
+    if given.status and status:
+        return status if status > 0 else 128 - status
+    if not facts.counts["written"]:
+        return 1
+    return NOT_WHOLE if facts.losses and not given.partial else 0
