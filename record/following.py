@@ -1,78 +1,232 @@
-"""A followed run: the program is run by a plan, and what came of it is read."""
+"""A followed run: the program runs by a plan, and this module reads what came of it."""
 import contextlib
+import math
 import os
 import re
+import signal
 import struct
+import subprocess
 import sys
 import tempfile
-from collections import namedtuple
+import time
+from types import FrameType
+from typing import Dict, IO, Iterator, List, NamedTuple, Optional, Sequence, TextIO, Tuple
 
 import clocks
 import plans
+import raw as raw_file
 import running
 
 NOT_FOLLOWING, FOLLOWING, STANDS, DEPARTED, DONE = range(5)
 OTHER_CODE, MISSED, WOULD_WAIT, HANGS, ENDED, OTHER_OUTCOME, OTHER_WORLD = range(1, 8)
 
-Standing = namedtuple("Standing", "thread at size kind pc value after frames")
+# Freed memory is filled, and given out again late, so that its use after a free shows. Allocated memory is filled too.
+FILLED_HEAP = "glibc.malloc.perturb=85:glibc.malloc.tcache_count=0"
+# Seconds that a program has to end after it got the signal that this command got.
+GRACE = 2
+
+Words = Tuple[int, int]
+
+
+class Standing(NamedTuple):
+    """A thread that stands before its access: what it accesses and where, with its stack."""
+
+    thread: int
+    at: int
+    size: int
+    kind: int
+    pc: int
+    value: Optional[Words]
+    after: Optional[Words]
+    frames: List[Tuple[int, int]]
+
+
+class Use(NamedTuple):
+    """An access of a freed block, or a second free of it: who did it where, and who freed the block where."""
+
+    kind: int
+    thread: int
+    size: int
+    freed_by: int
+    pc: int
+    freed_at: int
 
 
 class OtherProgram(Exception):
     """The program, the witness or the clock is of another recording."""
 
 
+class OutOfTime(Exception):
+    """The time for following is over."""
+
+
+class Interrupted(Exception):
+    """A signal asked this command to end. What its program came to meanwhile says nothing."""
+
+    def __init__(self, number: int) -> None:
+        super().__init__(f"ended by {signal.Signals(number).name}")
+        self.number = number
+
+
+def end_by(number: int) -> int:
+    """Ends this process by the signal that asked for it; a status, if that does not end it."""
+    signal.signal(number, signal.SIG_DFL)
+    os.kill(os.getpid(), number)
+    return 128 + number
+
+
+class Settings(NamedTuple):
+    """How programs are followed: the program and its arguments, the most seconds of a run, the command that runs beside
+    it, whether the heap is filled, whether each run reads standard input from its beginning, whether its standard
+    error goes nowhere, and a file that keeps the raw records."""
+
+    words: List[str]
+    timeout: int
+    beside: Optional[str] = None
+    filled_heap: bool = True
+    rewinds: bool = False
+    is_quiet: bool = False
+    records: Optional[IO[bytes]] = None
+
+
 class Result:
     """What the run left in the plan's file."""
 
-    def __init__(self, data, plan, rows, status, timed_out):
-        words = plans.HEAD.unpack_from(data)
-        (
-            self.state,
-            self.step,
-            self.why,
-            self.thread,
-            self.pos,
-            self.kind,
-            self.pc,
-            self.expected,
-            self.spurious,
-            self.passed,
-            self.last_pc,
-            self.early,
-            self.refused_tries,
-            _,
-        ) = words[16:]
+    def __init__(self, data: bytes, plan: plans.Plan, rows: List[plans.Row], status: int, timed_out: bool) -> None:
+        # Whether the program hung in a deadlock after the schedule.
+        self.is_deadlock = False
+        words = plans.HEAD.unpack_from(data)[plans.WORDS_IN :]
+        self.state, self.step, self.why, self.thread = words[:4]
+        self.pos, self.kind, self.pc, self.expected = words[4:8]
+        self.spurious, self.passed, self.last_pc, self.early, self.refused_tries, self.use_count = words[8:]
         self.plan, self.rows, self.status, self.timed_out = plan, rows, status, timed_out
         self.standing = [self.stand(data, k) for k in range(2)]
-        self.at_tick = struct.unpack_from("<%dQ" % plans.TOLD, data, plans.HEAD.size + 2 * plans.STANDING.size)
+        told = plans.HEAD.size + 2 * plans.STANDING.size
+        self.at_tick = struct.unpack_from(f"<{plans.TOLD}Q", data, told)
+        self.uses = self.read_uses(data, told + 8 * plans.TOLD)
         self.stands = self.state in (STANDS, DONE) or (self.state == DEPARTED and all(one.pc for one in self.standing))
 
     @staticmethod
-    def stand(data, k):
+    def stand(data: bytes, k: int) -> Standing:
         words = plans.STANDING.unpack_from(data, plans.HEAD.size + k * plans.STANDING.size)
         thread, _, at, size, kind, pc, _, low, high, there, after_low, after_high, after_there, count = words[:14]
-        frames = [words[14 + 2 * i : 16 + 2 * i] for i in range(min(count, plans.FRAMES))]
+        frames = [(words[14 + 2 * i], words[15 + 2 * i]) for i in range(min(count, plans.FRAMES))]
         value, after = (low, high) if there else None, (after_low, after_high) if after_there else None
         return Standing(thread, at, size, kind, pc, value, after, frames)
 
+    def read_uses(self, data: bytes, start: int) -> List[Use]:
+        """The first uses of freed blocks, as far as the plan has room for them."""
+        count = min(self.use_count, plans.USES)
+        return [Use(*plans.USE.unpack_from(data, start + k * plans.USE.size)) for k in range(count)]
+
     @property
-    def is_same_memory(self):
+    def is_same_memory(self) -> bool:
         first, second = self.standing
         return first.at < second.at + second.size and second.at < first.at + first.size
 
     @property
-    def event(self):
+    def event(self) -> Optional[int]:
         """The event of the first step that was not done."""
         return self.rows[self.step][3] if self.step < len(self.rows) else None
 
 
-def check_program(clock, words):
+def check_program(clock: clocks.Clock, words: Sequence[str]) -> None:
     """The program has to be the one that was recorded: its code is what a run is compared by."""
     path = clocks.program_of(words[0])
     if not path or not os.path.exists(path):
-        raise running.Unrunnable("%s: No such file or directory" % words[0])
+        recorded_in = clock.words.get("cwd", "")
+        where = f" (recorded in {recorded_in})" if recorded_in not in ("", os.getcwd()) else ""
+        raise running.Unrunnable(f"{words[0]}: No such file or directory{where}")
     if clocks.digest_of(path) != clock.words["program"]:
-        raise OtherProgram("%s is another program than the one that was recorded" % words[0])
+        raise OtherProgram(f"{words[0]} is another program than the one that was recorded")
+
+
+class Runner:
+    """Runs programs, and ends them if this command has to end."""
+
+    def __init__(self) -> None:
+        self.number = 0
+        # When no other run begins, by the clock of time.monotonic().
+        self.end: Optional[float] = None
+        self.started: Optional["subprocess.Popen[bytes]"] = None
+
+    def take_signals(self) -> None:
+        """From now on a signal that asks to end is noted, and is passed on to the program that runs."""
+        for number in running.ENDING:
+            if signal.getsignal(number) != signal.SIG_IGN:
+                signal.signal(number, self.note)
+
+    def note(self, number: int, frame: Optional[FrameType]) -> None:
+        self.number = number
+        if self.started:
+            self.started.send_signal(number)
+
+    def look(self) -> None:
+        """Ends the work if a signal came, or if its time is over."""
+        if self.number:
+            raise Interrupted(self.number)
+        if self.end is not None and time.monotonic() >= self.end:
+            raise OutOfTime
+
+    def wait(self, seconds: int) -> Tuple[int, bool]:
+        """The program's status, and whether its time was over."""
+        assert self.started
+        try:
+            for _ in range(seconds):
+                with contextlib.suppress(subprocess.TimeoutExpired):
+                    return self.started.wait(GRACE if self.number else 1), False
+                if self.number:
+                    break
+            return self.started.wait(0), False
+        except subprocess.TimeoutExpired:
+            self.started.kill()
+            return self.started.wait(), True
+        finally:
+            self.started = None
+
+    def run(self, surroundings: Dict[str, str], out: IO[bytes], settings: Settings) -> Tuple[int, bool]:
+        """Runs a program, with the command beside it; as `wait`."""
+        self.look()
+        words = [running.path_of(settings.words[0]), *settings.words[1:]]
+        if settings.rewinds:
+            os.lseek(0, 0, os.SEEK_SET)
+        parent, blocked = os.getpid(), signal.pthread_sigmask(signal.SIG_BLOCK, running.ENDING)
+        try:
+            self.started = subprocess.Popen(
+                words,
+                stdout=out,
+                stderr=subprocess.DEVNULL if settings.is_quiet else None,
+                env=surroundings,
+                preexec_fn=lambda: running.prepare(parent, blocked),
+            )
+        except OSError as error:
+            raise running.Unrunnable(running.why_not_begun(words[0], error)) from None
+        finally:
+            signal.pthread_sigmask(signal.SIG_SETMASK, blocked)
+        left = settings.timeout if self.end is None else math.ceil(self.end - time.monotonic())
+        with beside(settings.beside, self.started.pid):
+            ended = self.wait(max(1, min(settings.timeout, left)))
+        self.look()
+        return ended
+
+
+@contextlib.contextmanager
+def beside(command: Optional[str], program: int) -> Iterator[None]:
+    """Runs a command of the shell beside a program, whose number is in RACEBENCH_PROGRAM; what it started ends with the
+    program."""
+    if not command:
+        yield
+        return
+    surroundings = dict(os.environ, RACEBENCH_PROGRAM=str(program))
+    client = subprocess.Popen(
+        command, shell=True, stdin=subprocess.DEVNULL, stdout=sys.stderr, env=surroundings, start_new_session=True
+    )
+    try:
+        yield
+    finally:
+        with contextlib.suppress(ProcessLookupError):
+            os.killpg(client.pid, signal.SIGKILL)
+        client.wait()
 
 
 GDB = ["set breakpoint pending on", "set debuginfod enabled off", "break racebench_race_stands", "run", "info threads"]
@@ -80,18 +234,19 @@ GDB = ["set breakpoint pending on", "set debuginfod enabled off", "break raceben
 PLAIN = re.compile(r"[\w./=,:@%+-]+", re.ASCII)
 
 
-def gdb_of(ran, surroundings):
+def gdb_of(words: List[str], surroundings: Dict[str, str]) -> Tuple[List[str], Dict[str, str]]:
     """The words that run a program under gdb, and the environment for them."""
-    if all(map(PLAIN.fullmatch, ran)):
+    if all(map(PLAIN.fullmatch, words)):
         first = "set startup-with-shell off"
     else:
         shell = surroundings.get("SHELL")
-        first = "set environment SHELL " + shell if shell else "unset environment SHELL"
+        first = f"set environment SHELL {shell}" if shell else "unset environment SHELL"
         surroundings = dict(surroundings, SHELL="/bin/sh")
-    return ["gdb", "-q", *(word for one in [first, *GDB] for word in ("-ex", one)), "--args", *ran], surroundings
+    commands = [word for one in [first, *GDB] for word in ("-ex", one)]
+    return ["gdb", "-q", *commands, "--args", *words], surroundings
 
 
-def keyboard():
+def keyboard() -> Optional[TextIO]:
     """Where gdb takes its commands from if standard input was the witness, or None for standard input."""
     try:
         return None if sys.stdin.isatty() else open("/dev/tty", encoding="utf-8")
@@ -99,24 +254,51 @@ def keyboard():
         return None
 
 
-def followed(plan, then, words, seed, timeout, gdb=False, out=sys.stderr, source=None, records=None):
-    """Runs the program by the plan; the result. Nothing is left of its files, unless one is given for the raw
-    records."""
-    clock = plan.clock
-    file = records or running.nameless_file()[0]
-    path = "/proc/%d/fd/%d" % (os.getpid(), file.fileno())
-    with contextlib.nullcontext() if records else file, tempfile.TemporaryFile(prefix="record") as planned:
-        rows = plan.write(planned, then)
-        plan_path = "/proc/%d/fd/%d" % (os.getpid(), planned.fileno())
-        surroundings = running.environment(
-            path, seed, clock.words["yield"], clock.words["room"], RACEBENCH_FOLLOW=plan_path
-        )
-        ran = [running.path_of(words[0])] + words[1:]
-        if gdb:
-            status, timed_out = running.run(*gdb_of(ran, surroundings), None, None, source)
-        else:
-            status, timed_out = running.run(ran, surroundings, out, timeout)
-        if not os.fstat(file.fileno()).st_size and not gdb:
-            raise OtherProgram("%s was not recorded: it has no recorder, or there is no room in TMPDIR" % words[0])
+def surroundings_of(
+    plan: plans.Plan, seed: int, records: IO[bytes], planned: IO[bytes], filled: bool
+) -> Dict[str, str]:
+    """The environment of a followed run."""
+    paths = [f"/proc/{os.getpid()}/fd/{file.fileno()}" for file in (records, planned)]
+    words = plan.clock.words
+    found: Dict[str, str] = running.environment(
+        paths[0], seed, words["yield"], words["room"], RACEBENCH_FOLLOW=paths[1]
+    )
+    if filled:
+        found["GLIBC_TUNABLES"] = ":".join(filter(None, (found.get("GLIBC_TUNABLES"), FILLED_HEAP)))
+    return found
+
+
+def followed(
+    runner: Runner, plan: plans.Plan, order: plans.Order, seed: int, settings: Settings, out: IO[bytes]
+) -> Result:
+    """Runs the program by the plan, and prints on `out` what it prints. Nothing of its files is left, but for that of
+    the settings."""
+    records = settings.records or running.nameless_file()[0]
+    try:
+        with tempfile.TemporaryFile(prefix="record") as planned:
+            rows = plan.write(planned, order)
+            surroundings = surroundings_of(plan, seed, records, planned, settings.filled_heap)
+            status, timed_out = runner.run(surroundings, out, settings)
+            if not os.fstat(records.fileno()).st_size:
+                raise OtherProgram(
+                    f"{settings.words[0]} was not recorded: it has no recorder, or there is no room in TMPDIR"
+                )
+            planned.seek(0)
+            result = Result(planned.read(), plan, rows, status, timed_out)
+            result.is_deadlock = raw_file.words_of(records).deadlock > 0
+            return result
+    finally:
+        if records is not settings.records:
+            records.close()
+
+
+def in_gdb(plan: plans.Plan, order: plans.Order, seed: int, settings: Settings, source: Optional[TextIO]) -> Result:
+    """The same under gdb, which takes its commands from `source`."""
+    file, _ = running.nameless_file()
+    with file, tempfile.TemporaryFile(prefix="record") as planned:
+        rows = plan.write(planned, order)
+        surroundings = surroundings_of(plan, seed, file, planned, settings.filled_heap)
+        words = [running.path_of(settings.words[0]), *settings.words[1:]]
+        status, timed_out = running.run(*gdb_of(words, surroundings), None, None, source)
         planned.seek(0)
         return Result(planned.read(), plan, rows, status, timed_out)

@@ -2,62 +2,91 @@
 the run is compared with. runtime/plan.c has the same structures."""
 import struct
 from array import array
+from typing import IO, Dict, Iterable, List, NamedTuple, Set, Tuple
 
+import clocks
 import raw as raw_file
 
 EVENT, STAND, LAST = range(3)
-HEAD = struct.Struct("<30Q")
-FRAMES, TOLD = 64, 64
-STANDING = struct.Struct("<14Q%dQ" % (2 * FRAMES))
+WORDS_IN, WORDS_OUT = 17, 14
+HEAD = struct.Struct(f"<{WORDS_IN + WORDS_OUT}Q")
+FRAMES, TOLD, USES = 64, 64, 16
+STANDING = struct.Struct(f"<{14 + 2 * FRAMES}Q")
+USE = struct.Struct("<6Q")
 STEP = struct.Struct("<IIQQQQQQQ")
-MAGIC = 0x3257464252524352
-# The orders in which the two accesses are done, and who is held back then: nobody, the thread of A, that of B.
+NUMBER = struct.Struct("<Q")
+# Where the number of the thread's next step is in a step.
+NEXT_AT = 24
+MAGIC = 0x3357464252524352
+# For so many accesses a thread goes on alone, if nothing else is wanted.
+ALONE = 1000
+
+
+class Order(NamedTuple):
+    """The accesses that the plan does, in their order; the thread that is held back afterwards, 1 for that of A and 2
+    for that of B; whether the thread of the last access goes on alone; and its name in a text."""
+
+    accesses: str
+    held_back: int
+    goes_alone: bool
+    name: str
+
+
 ORDERS = {
-    "first": ("ab", 0),
-    "second": ("ba", 0),
-    "first-a": ("ab", 2),
-    "first-b": ("ab", 1),
-    "second-a": ("ba", 2),
-    "second-b": ("ba", 1),
-    "far-first": ("a", 2),
-    "far-second": ("b", 1),
-    "stop": ("", 0),
+    "first": Order("ab", 0, False, "A first"),
+    "second": Order("ba", 0, False, "B first"),
+    "a-a": Order("a", 0, True, "A first (A goes on)"),
+    "a-b": Order("ab", 0, True, "A first (B goes on)"),
+    "b-b": Order("b", 0, True, "B first (B goes on)"),
+    "b-a": Order("ba", 0, True, "B first (A goes on)"),
+    "first-a": Order("ab", 2, False, "A first (without B)"),
+    "first-b": Order("ab", 1, False, "A first (without A)"),
+    "second-a": Order("ba", 2, False, "B first (without B)"),
+    "second-b": Order("ba", 1, False, "B first (without A)"),
+    "far-first": Order("a", 2, False, "A first (B waits)"),
+    "far-second": Order("b", 1, False, "B first (A waits)"),
+    "stop": Order("", 0, False, "no access"),
 }
+Witness = Tuple[List[int], Dict[int, str]]
+Pair = Tuple[int, int]
+# A step as a row: its thread, type, clock and event.
+Row = Tuple[int, int, int, int]
 
 
 class BadWitness(Exception):
     """Why a witness is none of this recording."""
 
 
-def read_witness(file, clock):
+def read_witness(file: Iterable[str], clock: clocks.Clock) -> Witness:
     """The events of a witness, as `racebench witness` prints it, with their lines."""
-    events, lines = [], {}
+    events: List[int] = []
+    lines: Dict[int, str] = {}
     for line in file:
         number, _, text = line.rstrip("\n").partition("  ")
         if not number.isdigit() or not clock.is_line(int(number), text):
-            raise BadWitness("this is no witness of the recording's trace: %r" % line.rstrip("\n")[:120])
+            raise BadWitness(f"this is no witness of the recording's trace: {line.rstrip(chr(10))[:120]!r}")
         events.append(int(number))
         lines[int(number)] = text
     return events, lines
 
 
-def check_pair(clock, events, pair):
+def check_pair(clock: clocks.Clock, events: List[int], pair: Pair) -> None:
     """Both events have to be next in their threads after the schedule."""
     there = set(events)
     threads = {clock.record(event).thread: event for event in pair}
-    next_ones = {}
+    next_ones: Dict[int, int] = {}
     for event in range(max(pair) + 1):
         thread = clock.record(event).thread
         if thread in threads and event not in there:
             next_ones.setdefault(thread, event)
     if len(threads) < 2 or any(next_ones.get(thread) != event for thread, event in threads.items()):
-        raise BadWitness("this is a witness of another race than %d %d" % pair)
+        raise BadWitness(f"this is a witness of another race than {pair[0]} {pair[1]}")
 
 
-def places_of(clock, events, lines):
+def places_of(clock: clocks.Clock, events: List[int], lines: Dict[int, str]) -> Dict[int, int]:
     """For each record the place of the event where it is done: the last, and of a try that was refused the last
     read."""
-    last = {}
+    last: Dict[int, int] = {}
     for place, event in enumerate(events):
         is_read = lines[event].split("|", 2)[1].startswith("r(")
         if is_read or clock.record_of[event] not in last or clock.record(event).kind != raw_file.KINDS["TRIED"]:
@@ -65,12 +94,14 @@ def places_of(clock, events, lines):
     return last
 
 
-def steps_of(clock, events, lines, pair):
+def steps_of(clock: clocks.Clock, witness: Witness, pair: Pair) -> Tuple[List[int], int]:
     """Events of one record are one step; the records of the pair are none. Also how many records have events of others
     in between: of a record of the pair also before its access that is in the pair."""
+    events, lines = witness
     ends = {clock.record_of[event] for event in pair}
     last = places_of(clock, events, lines)
-    steps, split = [], 0
+    steps: List[int] = []
+    split = 0
     for place, event in enumerate(events):
         record, is_last = clock.record_of[event], last[clock.record_of[event]] == place
         is_part = last[record] > place or (record in ends and lines[event].split("|", 2)[1].startswith(("r(", "w(")))
@@ -84,10 +115,16 @@ class Needs:
     """For each step the steps that have to be done before: the writer of what it reads, what was read or written
     before what it writes, the release before an acquire, the fork, the last of a thread that is joined."""
 
-    def __init__(self, clock, events, lines, steps):
+    def __init__(self, clock: clocks.Clock, witness: Witness, steps: List[int]) -> None:
+        events, lines = witness
         number = {clock.record_of[event]: place for place, event in enumerate(steps)}
-        self.writer, self.readers, self.release, self.fork, self.last, self.begun = {}, {}, {}, {}, {}, set()
-        self.of = [set() for _ in steps]
+        self.writer: Dict[str, int] = {}
+        self.readers: Dict[str, Dict[str, int]] = {}
+        self.release: Dict[str, int] = {}
+        self.fork: Dict[str, int] = {}
+        self.last: Dict[str, int] = {}
+        self.begun: Set[str] = set()
+        self.of: List[Set[int]] = [set() for _ in steps]
         for event in events:
             step = number.get(clock.record_of[event])
             if step is not None:
@@ -96,7 +133,7 @@ class Needs:
                 self.of[step] |= self.before(thread, word, name) - {step}
                 self.note(step, thread, word, name)
 
-    def before(self, thread, word, name):
+    def before(self, thread: str, word: str, name: str) -> Set[int]:
         found = {self.fork[thread]} if thread in self.fork and thread not in self.begun else set()
         if word in ("r", "w") and name in self.writer:
             found.add(self.writer[name])
@@ -105,7 +142,7 @@ class Needs:
         last = {"acq": self.release, "join": self.last}.get(word, {})
         return found | ({last[name]} if name in last else set())
 
-    def note(self, step, thread, word, name):
+    def note(self, step: int, thread: str, word: str, name: str) -> None:
         self.begun.add(thread)
         self.last[thread] = step
         if word == "r":
@@ -117,82 +154,100 @@ class Needs:
             (self.release if word == "rel" else self.fork)[name] = step
 
 
-class Plan:
-    def __init__(self, clock, witness, pair, patience):
-        self.clock, self.pair, self.patience = clock, pair, patience
-        self.events, self.lines = witness
-        self.steps, self.split = steps_of(clock, self.events, self.lines, pair)
-        self.needs = Needs(clock, self.events, self.lines, self.steps).of
-        self.threads = max([*clock.ticks, *(child for _, _, child in clock.forks), 0]) + 1
+class Steps:
+    """The steps of a schedule, packed once for all orders of a race: only what comes after them differs."""
 
-    def rows(self, order):
-        """The steps, then both threads come to stand, and then their accesses are done in that order."""
-        found = [(self.clock.record(event), EVENT, event) for event in self.steps]
-        found += [(self.clock.record(event), STAND, event) for event in self.pair]
-        last = [self.pair["ab".index(letter)] for letter in order]
-        rows = [
-            (record.thread, kind, record.pos, event)
-            for record, kind, event in found + [(self.clock.record(event), EVENT, event) for event in last]
-        ]
+    def __init__(self, rows: List[Row], needs: List[Set[int]]) -> None:
+        self.rows, self.flat = rows, array("Q")
+        self.packed = bytearray()
+        self.first: Dict[int, int] = {}
+        self.last: Dict[int, int] = {}
+        following: Dict[int, int] = {}
+        next_steps = [0] * len(rows)
+        for place in range(len(rows) - 1, -1, -1):
+            thread = rows[place][0]
+            next_steps[place], following[thread] = following.get(thread, 0), place
+            self.last.setdefault(thread, place)
+        self.first = following
+        for place, row in enumerate(rows):
+            wanted = sorted(needs[place])
+            self.packed += STEP.pack(*row, next_steps[place], len(self.flat), len(wanted), 0, 0)
+            self.flat.extend(wanted)
+
+    def before(self, tail: List[Row]) -> Tuple[bytes, Dict[int, int]]:
+        """All steps if these rows come after them, and the first step of each thread."""
+        end = len(self.rows) + len(tail)
+        first_of_tail: Dict[int, int] = {}
+        packed_tail: List[bytes] = []
+        for place in range(len(tail) - 1, -1, -1):
+            row = tail[place]
+            next_step = first_of_tail.get(row[0], end)
+            packed_tail.append(STEP.pack(*row, next_step, len(self.flat), 0, 0, 0))
+            first_of_tail[row[0]] = len(self.rows) + place
+        packed = bytearray(self.packed)
+        for thread, place in self.last.items():
+            NUMBER.pack_into(packed, place * STEP.size + NEXT_AT, first_of_tail.get(thread, end))
+        return bytes(packed) + b"".join(reversed(packed_tail)), {**first_of_tail, **self.first}
+
+
+class Plan:
+    """A schedule of a recording, up to a pair of accesses. `alone` is how long a thread goes on alone after them."""
+
+    def __init__(self, clock: clocks.Clock, witness: Witness, pair: Pair, patience: int, alone: int = ALONE) -> None:
+        self.clock, self.pair, self.patience, self.alone = clock, pair, patience, alone
+        self.events, self.lines = witness
+        self.steps, self.split = steps_of(clock, witness, pair)
+        self.needs = Needs(clock, witness, self.steps).of
+        self.threads = max([*clock.ticks, *(child for _, _, child in clock.forks), 0]) + 1
+        records = ((clock.record(event), event) for event in self.steps)
+        self.packed = Steps([(record.thread, EVENT, record.pos, event) for record, event in records], self.needs)
+
+    def tail(self, accesses: str) -> List[Row]:
+        """After the steps both threads come to stand, and then their accesses are done in that order."""
+        last = [self.pair["ab".index(letter)] for letter in accesses]
+        kinds = [(STAND, event) for event in self.pair] + [(EVENT, event) for event in last]
+        records = [(self.clock.record(event), kind, event) for kind, event in kinds]
+        rows = [(record.thread, kind, record.pos, event) for record, kind, event in records]
         return rows + ([(self.clock.record(last[-1]).thread, LAST, 0, last[-1])] if last else [])
 
-    def tables(self, rows):
-        """The parts behind the head: threads, forks, steps, needs, first steps, ticks, modules."""
-        known, ticks = [], array("Q")
+    def ticks(self) -> Tuple[bytes, bytes]:
+        """Where the ticks of each thread are, and the ticks."""
+        known: List[bytes] = []
+        ticks = array("Q")
         for thread in range(self.threads):
             mine = self.clock.ticks.get(thread, array("Q"))
             known.append(struct.pack("<QQ", len(ticks) // 3, len(mine) // 3))
             ticks.extend(mine)
-        following, first = [len(rows)] * len(rows), [len(rows)] * self.threads
-        for place in range(len(rows) - 1, -1, -1):
-            following[place], first[rows[place][0]] = first[rows[place][0]], place
-        flat, steps = array("Q"), []
-        for place, row in enumerate(rows):
-            mine = sorted(self.needs[place]) if place < len(self.needs) else []
-            steps.append(STEP.pack(*row, following[place], len(flat), len(mine), 0, 0))
-            flat.extend(mine)
-        forks = [struct.pack("<QQQ", *fork) for fork in self.clock.forks]
+        return b"".join(known), ticks.tobytes()
+
+    def tables(self, tail: List[Row]) -> List[bytes]:
+        """The parts behind the head: threads, forks, steps, needs, first steps, ticks, modules."""
+        known, ticks = self.ticks()
+        steps, first_of = self.packed.before(tail)
+        end = len(self.packed.rows) + len(tail)
+        first = array("Q", [first_of.get(thread, end) for thread in range(self.threads)])
+        forks = b"".join(struct.pack("<QQQ", *fork) for fork in self.clock.forks)
         start = raw_file.WORDS.size
         modules = self.clock.raw[start : start + self.clock.head.module_count * raw_file.MODULE.size]
-        first = array("Q", first)
-        return [
-            b"".join(known),
-            b"".join(forks),
-            b"".join(steps),
-            flat.tobytes(),
-            first.tobytes(),
-            ticks.tobytes(),
-            modules,
-        ]
+        return [known, forks, steps, self.packed.flat.tobytes(), first.tobytes(), ticks, modules]
 
-    def write(self, file, then):
-        order, held_back = ORDERS[then]
-        rows = self.rows(order)
-        parts, places, end = self.tables(rows), [], HEAD.size + 2 * STANDING.size + 8 * TOLD
+    def write(self, file: IO[bytes], order: Order) -> List[Row]:
+        """Writes the plan for an order; its rows."""
+        tail = self.tail(order.accesses)
+        rows = self.packed.rows + tail
+        parts, places, end = self.tables(tail), [], HEAD.size + 2 * STANDING.size + 8 * TOLD + USES * USE.size
         for part in parts:
             places.append(end)
             end += len(part)
         threads_at, forks_at, steps_at, needs_at, first_at, ticks_at, modules_at = places
         frees, modules = int(self.clock.words["free"]), self.clock.head.module_count
-        head = HEAD.pack(
-            MAGIC,
-            self.threads,
-            len(rows),
-            len(self.clock.forks),
-            len(parts[5]) // 24,
-            frees,
-            held_back,
-            self.patience,
-            threads_at,
-            forks_at,
-            steps_at,
-            ticks_at,
-            needs_at,
-            first_at,
-            modules_at,
-            modules,
-            *[0] * 14
-        )
-        file.write(head.ljust(places[0], b"\0") + b"".join(parts))
+        alone = self.alone if order.goes_alone else 0
+        counts = [self.threads, len(rows), len(self.clock.forks), len(parts[5]) // 24, frees]
+        how = [order.held_back, alone, self.patience]
+        where = [threads_at, forks_at, steps_at, ticks_at, needs_at, first_at, modules_at, modules]
+        head = HEAD.pack(MAGIC, *counts, *how, *where, *[0] * WORDS_OUT)
+        file.write(head.ljust(places[0], b"\0"))
+        for part in parts:
+            file.write(part)
         file.flush()
         return rows
