@@ -5,6 +5,9 @@ tick.
 The file: `RBCLOCK1`, the size of the words (4 bytes) and the words as JSON; for each event the number of its record
 (8 bytes) and the CRC-32 of its line (4 bytes); then the raw records. All numbers are little-endian.
 """
+from __future__ import annotations
+
+import argparse
 import hashlib
 import json
 import os
@@ -12,11 +15,14 @@ import shutil
 import struct
 import zlib
 from array import array
+from typing import IO, Any, Protocol
 
 import raw as raw_file
 import running
 
 MAGIC = b"RBCLOCK1"
+# How the first and the last line of a trace begin, which are no events.
+MARK = b"recording|"
 SIZE = struct.Struct("<I")
 
 
@@ -27,28 +33,38 @@ class Bad(Exception):
 class Kept:
     """A file that the trace is written to, with the checksums of its lines."""
 
-    def __init__(self, out):
+    def __init__(self, out: IO[bytes]) -> None:
         self.out, self.whole, self.lines = out, hashlib.sha256(), array("I")
 
-    def write(self, line):
+    def write(self, line: bytes) -> None:
         self.whole.update(line)
-        self.lines.append(zlib.crc32(line[:-1]))
+        if not line.startswith(MARK):
+            self.lines.append(zlib.crc32(line[:-1]))
         self.out.write(line)
 
 
-def digest_of(path):
+def digest_of(path: str) -> str:
     with open(path, "rb") as file:
         return hashlib.sha256(file.read()).hexdigest()
 
 
-def program_of(word):
+def program_of(word: str) -> str | None:
     """The file that a word runs, or None."""
     path = running.path_of(word)
     return shutil.which(path) if "/" not in path else path
 
 
-def write(given, recorded, kept):
+class Recorded(Protocol):
+    """A recording: its raw file, the head of that, and for each event the number of its record."""
+
+    file: IO[bytes]
+    head: Any
+    record_of: Any
+
+
+def write(given: argparse.Namespace, recorded: Recorded, kept: Kept) -> None:
     """Writes the clock of a trace that was written to `kept`."""
+    program = program_of(given.program)
     main = next((path for _, _, path, is_main in recorded.head.modules if is_main), "")
     words = {
         "argv": [given.program] + given.args,
@@ -59,7 +75,7 @@ def write(given, recorded, kept):
         "seed": given.seed,
         "trace": kept.whole.hexdigest(),
         "events": len(kept.lines),
-        "program": digest_of(program_of(given.program)),
+        "program": digest_of(program) if program else "",
         "main": digest_of(main) if os.path.exists(main) else "",
     }
     text = json.dumps(words).encode()
@@ -67,23 +83,29 @@ def write(given, recorded, kept):
         file.write(MAGIC + SIZE.pack(len(text)) + text)
         recorded.record_of.tofile(file)
         kept.lines.tofile(file)
-        file.write(recorded.raw)
+        raw_file.write_compact(recorded.file, file)
 
 
-def read_words(file, path):
+def read_words(file: IO[bytes], path: str) -> dict[str, Any]:
     begin = file.read(len(MAGIC) + SIZE.size)
     if len(begin) < len(MAGIC) + SIZE.size or not begin.startswith(MAGIC):
-        raise Bad("%s is no clock of record/run --clock" % path)
+        raise Bad(f"{path} is no clock of record/run --clock")
     try:
-        return json.loads(file.read(SIZE.unpack(begin[len(MAGIC) :])[0]))
+        words: dict[str, Any] = json.loads(file.read(SIZE.unpack(begin[len(MAGIC) :])[0]))
     except ValueError:
-        raise Bad("%s is cut or damaged" % path) from None
+        raise Bad(f"{path} is cut or damaged") from None
+    return words
 
 
 class Clock:
     """A recording as it is followed: of each event its thread and clock, and of each thread the ticks that it made."""
 
-    def __init__(self, path):
+    def __init__(self, path: str) -> None:
+        self.ticks: dict[int, array[int]] = {}
+        self.forks: list[tuple[int, int, int]] = []
+        self.of: dict[int, raw_file.Record] = {}
+        # The number of the last record of a free, or -1.
+        self.last_free = -1
         try:
             with open(path, "rb") as file:
                 self.words = read_words(file, path)
@@ -94,12 +116,14 @@ class Clock:
             self.head = raw_file.Head(self.raw)
             self.read_records()
         except OSError as error:
-            raise Bad("%s: %s" % (path, error.strerror)) from None
+            raise Bad(f"{path}: {error.strerror}") from None
         except (struct.error, ValueError, KeyError, TypeError, IndexError):
-            raise Bad("%s is cut or damaged" % path) from None
+            raise Bad(f"{path} is cut or damaged") from None
 
-    def read_records(self):
-        events, self.ticks, self.forks, self.of = set(self.record_of), {}, [], {}
+    def read_records(self) -> None:
+        events = set(self.record_of)
+        # The looks of loops that poll: those between the first and the last are no events, and are done in their turn.
+        looks: set[tuple[int, int, int]] = set()
         if not self.head.there or len(self.raw) < self.head.records_at + self.head.used * raw_file.RECORD.size:
             raise ValueError
         for number, record in raw_file.all_records(self.raw, self.head):
@@ -107,24 +131,30 @@ class Clock:
                 self.of[number] = record
             if record.kind == raw_file.KINDS["FORK"]:
                 self.forks.append((record.thread, record.pos, record.at))
+            if record.kind == raw_file.KINDS["FREED"]:
+                self.last_free = number
+            if record.kind in LOOKS and number in events:
+                looks.add((record.thread, record.at, record.pc))
             if record.kind not in NO_TICKS:
-                self.put_tick(record, 128 if number in events else 0)
+                is_event = number in events or (record.thread, record.at, record.pc) in looks
+                self.put_tick(record, 128 if is_event else 0)
         if events - self.of.keys():
             raise ValueError
 
-    def put_tick(self, record, flag):
+    def put_tick(self, record: raw_file.Record, flag: int) -> None:
         mine, end = self.ticks.setdefault(record.thread, array("Q")), 3 * (record.pos >> 16)
         if end > len(mine):
             mine.extend([0] * (end - len(mine)))
         mine[end - 3 : end] = array("Q", (record.pc << 16 | flag | record.kind, record.at, record.answer))
 
-    def record(self, event):
+    def record(self, event: int) -> raw_file.Record:
         return self.of[self.record_of[event]]
 
-    def is_line(self, event, line):
+    def is_line(self, event: int, line: str) -> bool:
         """Whether this is the event's line in the trace."""
         text = line.encode("utf-8", "surrogateescape")
         return 0 <= event < len(self.lines) and zlib.crc32(text) == self.lines[event]
 
 
-NO_TICKS = tuple(raw_file.KINDS[name] for name in "ALLOCATED FREED RESIZED STACK".split())
+LOOKS = raw_file.KINDS["ATOMIC_READ"], raw_file.KINDS["TRIED"]
+NO_TICKS = tuple(raw_file.KINDS[name] for name in "ALLOCATED FREED RESIZED STACK FRAME REQUEST".split())

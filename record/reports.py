@@ -4,12 +4,20 @@ XML.
 Of each report the accesses are kept, and of each access whether it reads or writes and its calls: function, path,
 line.
 """
+from __future__ import annotations
+
 import re
 import xml.etree.ElementTree as trees
 from collections import Counter
+from collections.abc import Iterator
 
-# Calls in these are none of the program: the sanitizer's own, and what C++ has in its headers.
-NOT_THE_PROGRAMS = re.compile(r"libsanitizer/|sanitizer_common/|/compiler-rt/|<null>|/include/(.*/)?c\+\+/")
+# A call of a stack: its function, its path and its line; 0 if the line is not known.
+Call = tuple[str, str, int]
+
+# Calls in these are none of the program: the sanitizer's own, and those of the libraries of C++ and of Rust.
+NOT_THE_PROGRAMS = re.compile(
+    r"libsanitizer/|sanitizer_common/|/compiler-rt/|<null>|/include/(.*/)?c\+\+/|/rustlib/src/|/rustc[-/][^/]+/library/"
+)
 TSAN_HEAD = re.compile(r"WARNING: ThreadSanitizer: (.+?) \(pid=\d+\)")
 TSAN_ACCESS = re.compile(
     r"  (?:Previous )?(?:atomic )?(read|write) of size \d+ at 0x[0-9a-f]+ by (.+?)(?: \(.*\))?:$", re.IGNORECASE
@@ -38,14 +46,12 @@ class Unreadable(Exception):
 
 
 class Access:
-    def __init__(self, word, thread):
-        self.word, self.thread, self.calls = (
-            {"load": "read", "store": "write"}.get(word.lower(), word.lower()),
-            thread or "",
-            [],
-        )
+    def __init__(self, word: str, thread: str | None) -> None:
+        self.word = {"load": "read", "store": "write"}.get(word.lower(), word.lower())
+        self.thread = thread or ""
+        self.calls: list[Call] = []
 
-    def places(self):
+    def places(self) -> list[Call]:
         """The calls in the program's own code, the innermost first."""
         return [call for call in self.calls if call[2] and not NOT_THE_PROGRAMS.search(call[1])]
 
@@ -53,10 +59,11 @@ class Access:
 class Report:
     """A data race that a tool told of, and the line where its report begins."""
 
-    def __init__(self, kind, line):
-        self.kind, self.line, self.accesses, self.variable, self.ended = kind, line, [], "", False
+    def __init__(self, kind: str, line: int) -> None:
+        self.kind, self.line, self.variable, self.ended = kind, line, "", False
+        self.accesses: list[Access] = []
 
-    def name_variable(self, text):
+    def name_variable(self, text: str) -> None:
         found = VARIABLE.search(text)
         if found and not self.variable:
             self.variable = re.split(r"[.\[+]", next(part for part in found.groups() if part))[0]
@@ -65,11 +72,13 @@ class Report:
 class Reports:
     """What was read: the reports, how many there were of what is no data race, and what was cut."""
 
-    def __init__(self):
-        self.all, self.others, self.cut = [], Counter(), ""
+    def __init__(self) -> None:
+        self.all: list[Report] = []
+        self.others: Counter[str] = Counter()
+        self.cut = ""
 
 
-def function_end(text):
+def function_end(text: str) -> int:
     """Where the function of a frame ends, before the blank and the path: both may have blanks. Arguments follow a name
     without a blank. Without arguments, a name has no blank."""
     if " /" in text:
@@ -86,15 +95,19 @@ def function_end(text):
     return text.find(" ")
 
 
-def tsan_call(text):
+def tsan_call(text: str) -> Call:
     found = TSAN_PLACE.match(TSAN_MODULE.sub("", text))
     end = function_end(found[1]) if found else -1
-    return (found[1][:end], found[1][end + 1 :], int(found[2])) if end > 0 else (text.split(" ")[0], "<null>", 0)
+    if not found or end <= 0:
+        return text.split(" ")[0], "<null>", 0
+    return found[1][:end], found[1][end + 1 :], int(found[2])
 
 
-def read_tsan(lines):
+def read_tsan(lines: list[str]) -> Reports:
     """ThreadSanitizer's text: a report begins with its warning and ends with its summary."""
-    found, report, access = Reports(), None, None
+    found = Reports()
+    report: Report | None = None
+    access: Access | None = None
     for number, line in enumerate(lines, start=1):
         head = TSAN_HEAD.search(line)
         if head:
@@ -115,9 +128,11 @@ def read_tsan(lines):
     return found
 
 
-def read_valgrind(lines):
+def read_valgrind(lines: list[str]) -> Reports:
     """Helgrind's and DRD's text. A report ends with an empty line behind its last access; one that has none is cut."""
-    found, report, access = Reports(), None, None
+    found = Reports()
+    report: Report | None = None
+    access: Access | None = None
     for number, whole in enumerate(lines, start=1):
         part = VALGRIND_LINE.match(whole)
         if not part:
@@ -139,15 +154,16 @@ def read_valgrind(lines):
     return found
 
 
-def xml_calls(stack):
+def xml_calls(stack: trees.Element) -> Iterator[Call]:
     for frame in stack.findall("frame"):
         folder, name, line = frame.findtext("dir", ""), frame.findtext("file", ""), frame.findtext("line", "0")
         yield frame.findtext("fn", "???"), (folder + "/" if folder else "") + name, int(line) if line.isdigit() else 0
 
 
-def xml_report(error, line):
+def xml_report(error: trees.Element, line: int) -> Report:
     """The report of an `error`: each text that tells of an access, with the stack behind it."""
-    report, access = Report("data race", line), None
+    report = Report("data race", line)
+    access: Access | None = None
     report.ended = True
     for part in error:
         text = part.findtext("text", "") if part.tag in ("xwhat", "xauxwhat") else part.text or ""
@@ -162,7 +178,7 @@ def xml_report(error, line):
     return report
 
 
-def read_xml(text):
+def read_xml(text: str) -> Reports:
     """Valgrind's XML as far as it is whole. Texts that define words of their own are not read."""
     if re.search(r"<!(DOCTYPE|ENTITY)", text):
         raise Unreadable("this XML defines entities, and valgrind's does not")
@@ -175,18 +191,18 @@ def read_xml(text):
     except trees.ParseError as error:
         for _, element in parser_events(parser):
             take_error(found, element)
-        found.cut = "the XML is cut or damaged: %s" % error
+        found.cut = f"the XML is cut or damaged: {error}"
     return found
 
 
-def parser_events(parser):
+def parser_events(parser: trees.XMLPullParser) -> Iterator[tuple[str, trees.Element]]:
     try:
         yield from parser.read_events()
     except trees.ParseError:
         return
 
 
-def take_error(found, element):
+def take_error(found: Reports, element: trees.Element) -> None:
     if element.tag != "error":
         return
     kind = element.findtext("kind", "?")
@@ -196,7 +212,7 @@ def take_error(found, element):
         found.others[kind] += 1
 
 
-def read(text):
+def read(text: str) -> Reports:
     """The reports in a text of one of the tools."""
     if re.search(r"<valgrindoutput>|<protocoltool>", text):
         found = read_xml(text)
@@ -208,5 +224,5 @@ def read(text):
         raise Unreadable("this is no report of ThreadSanitizer, Helgrind or DRD")
     cut = [report for report in found.all if not report.ended or not report.accesses]
     if cut and not found.cut:
-        found.cut = "the report that begins in line %d is cut" % cut[0].line
+        found.cut = f"the report that begins in line {cut[0].line} is cut"
     return found

@@ -1,4 +1,6 @@
 """Running a program that was compiled for recording: its raw file, its environment, its end."""
+from __future__ import annotations
+
 import ctypes
 import errno
 import os
@@ -7,6 +9,7 @@ import signal
 import subprocess
 import sys
 import tempfile
+from typing import IO, Any, Callable, Iterable, Mapping, Sequence
 
 import raw as raw_file
 
@@ -20,14 +23,14 @@ BUILT = os.path.join(os.path.dirname(os.path.dirname(os.path.realpath(__file__))
 KEYS, REQUESTS = (signal.SIGINT, signal.SIGQUIT), (signal.SIGTERM, signal.SIGHUP)
 ENDING = KEYS + REQUESTS
 # The signals that asked this script to end while its program ran.
-passed_on = []
+passed_on: list[int] = []
 
 
 class Unrunnable(Exception):
     """Why nothing was run or recorded."""
 
 
-def nameless_file():
+def nameless_file() -> tuple[IO[bytes], str]:
     """A file for the records without a name, so nothing is left however the run ends. The program opens it by this
     process."""
     try:
@@ -38,7 +41,7 @@ def nameless_file():
     return file, "/proc/%d/fd/%d" % (os.getpid(), file.fileno())
 
 
-def open_standard_files(command):
+def open_standard_files(command: str) -> None:
     """Opens nothing in place of each standard file that is closed: else another file would get its number, and what is
     said would go there. Without standard output the command ends."""
     for number in range(3):
@@ -53,7 +56,7 @@ def open_standard_files(command):
         sys.exit(1)
 
 
-def prepare(parent, blocked):
+def prepare(parent: int, blocked: Iterable[int]) -> None:
     """In the child: the same addresses at each run, if the system allows it; and the child ends with this process, also
     if that has ended by now. A signal that came meanwhile is the child's from here on."""
     C_LIBRARY.personality(NO_RANDOM_ADDRESSES)
@@ -65,7 +68,7 @@ def prepare(parent, blocked):
     signal.pthread_sigmask(signal.SIG_SETMASK, blocked)
 
 
-def look_before_writing(path):
+def look_before_writing(path: str) -> None:
     """Refuses a file that can't be written before the program runs, since its run may be long."""
     folder, code = os.path.dirname(path) or ".", 0
     if os.path.isdir(path):
@@ -80,28 +83,35 @@ def look_before_writing(path):
         raise Unrunnable("%s: %s" % (path, os.strerror(code)))
 
 
-def why_not_begun(program, error):
+def why_not_begun(program: str, error: OSError) -> str:
     """Why a program could not be run; a source or a trace in its place is none."""
     is_file = os.path.isfile(program) and not os.access(program, os.X_OK)
     return "%s: %s%s" % (program, error.strerror, "; it is not a program: record/cc makes one" if is_file else "")
 
 
-def path_of(program):
+def path_of(program: str) -> str:
     return program if "/" in program or not os.path.exists(program) else "./" + program
 
 
-def environment(raw, seed, one_in, room, **more):
+def environment(raw: str, seed: int, one_in: int, room: int, **more: str) -> dict[str, str]:
     return dict(
         os.environ,
         RACEBENCH_RECORD=raw,
         RACEBENCH_RECORD_SEED=str(seed),
         RACEBENCH_RECORD_YIELD=str(one_in),
         RACEBENCH_RECORD_ROOM=str(room),
-        **more
+        **more,
     )
 
 
-def run(words, surroundings, out, patience=None, source=None, begun=None):
+def run(
+    words: Sequence[str],
+    surroundings: Mapping[str, str],
+    out: Any,
+    patience: float | None = None,
+    source: Any = None,
+    begun: Callable[[], None] | None = None,
+) -> tuple[int, bool]:
     """Runs a program; its status, and whether it was ended since its time was over. A key that ends it (control-C)
     does not end this script, and a signal that asks this script to end is passed on. `begun` is called when the program
     has begun: a thread that was there before could keep `prepare` from its end."""
@@ -126,26 +136,26 @@ def run(words, surroundings, out, patience=None, source=None, begun=None):
         return started.wait(), True
 
 
-def take_signals(started):
+def take_signals(started: subprocess.Popen[bytes]) -> None:
     for number in KEYS:
         signal.signal(number, signal.SIG_IGN)
     for number in REQUESTS:
         signal.signal(number, lambda number, _: pass_on(started, number))
 
 
-def pass_on(started, number):
+def pass_on(started: subprocess.Popen[bytes], number: int) -> None:
     passed_on.append(number)
     started.send_signal(number)
 
 
-def be_deaf():
+def be_deaf() -> None:
     """In a child that works up what there is after a signal ended the program: more of that kind, as a whole group of
     processes gets it, do not end it."""
     for number in passed_on:
         signal.signal(number, signal.SIG_IGN)
 
 
-def ending(status):
+def ending(status: int) -> str:
     """How a program ended, in words."""
     if status >= 0:
         return "the program ended with status %d" % status
@@ -156,12 +166,11 @@ def ending(status):
     return "the program ended by signal %d%s" % (-status, name)
 
 
-def look_at(file, program):
+def look_at(file: IO[bytes], program: str) -> None:
     """Looks whether the raw file of a run has records of a program with hooks."""
     if not os.fstat(file.fileno()).st_size:
         raise Unrunnable("%s was not compiled with record/cc or record/c++, or started nothing that was" % program)
-    file.seek(0)
-    head = raw_file.Words(file.read(raw_file.HEAD_SIZE))
+    head = raw_file.words_of(file)
     if not head.there or not head.used:
         raise Unrunnable("nothing was recorded: the folder for the records, %s, has no room" % tempfile.gettempdir())
     if not head.units:
@@ -171,16 +180,16 @@ def look_at(file, program):
         )
 
 
-def racebench_of(given):
+def racebench_of(given: str | None) -> str | None:
     """The program racebench: the one that is given, the one of $RACEBENCH, the one that was built beside this folder,
     or the one in PATH; None if there is none."""
     return given or os.environ.get("RACEBENCH") or (BUILT if os.access(BUILT, os.X_OK) else shutil.which("racebench"))
 
 
-def told(error):
+def told(error: OSError) -> str:
     """An error of the system, in words."""
     return "%s: %s" % (error.filename, error.strerror) if error.filename and error.strerror else str(error)
 
 
-def say(command, text):
+def say(command: str, text: str) -> None:
     print("%s: %s" % (command, text), file=sys.stderr)

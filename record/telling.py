@@ -1,6 +1,11 @@
 """What a followed run is told by: where both threads stand, where the run departed, how the program ended."""
-import signal
+from __future__ import annotations
 
+import signal
+from typing import Iterator
+
+import clocks
+import following
 import places
 import raw as raw_file
 from following import DEPARTED, HANGS, MISSED, OTHER_CODE, OTHER_OUTCOME, OTHER_WORLD, WOULD_WAIT
@@ -25,120 +30,115 @@ GONE = "departed"
 
 
 class Telling:
-    def __init__(self, clock):
-        self.clock = clock
-        self.modules = places.Modules(clock.head.modules, clock.head.calls)
+    """Texts about followed runs of one recording."""
 
-    def line(self, *addresses):
+    def __init__(self, clock: clocks.Clock) -> None:
+        self.clock = clock
+        self.places = places.Places(clock.raw[: clock.head.records_at])
+
+    def line(self, *addresses: int) -> str:
         """The line of the first of the addresses that has one."""
         for address in addresses:
-            frames = self.modules.frames(address) if address else []
+            frames = self.places.frames(address) if address else []
             if frames:
-                return frames[0][1].decode("utf-8", "replace")
+                return frames[0][1]
         return "a place without a line"
 
-    def kind(self, number):
+    def kind(self, number: int) -> str:
         return WORDS_OF.get(number & 127, "hook")
 
-    def a_kind(self, number):
+    def a_kind(self, number: int) -> str:
         word = self.kind(number)
-        return ("an " if word[0] in "aeiou" else "a ") + word
+        return f"an {word}" if word[0] in "aeiou" else f"a {word}"
 
-    def place_of(self, standing):
+    def place_of(self, standing: following.Standing) -> str:
         return self.line(standing.pc, *(address for frame in standing.frames for address in frame))
 
-    def title(self, result):
-        places_now = ["T%d at %s" % (one.thread, self.place_of(one)) for one in result.standing]
-        return "the race stands: " + ", ".join(places_now)
+    def title(self, result: following.Result) -> str:
+        places_now = [f"T{one.thread} at {self.place_of(one)}" for one in result.standing]
+        return f"the race stands: {', '.join(places_now)}"
 
-    def frames(self, standing):
+    def frames(self, standing: following.Standing) -> list[str]:
         """The stack of a thread that stands, the innermost frame first."""
-        found = []
-        for address in [standing.pc] + [site for _, site in standing.frames]:
-            found += self.modules.frames(address)
-        return [(name + b" " + place).decode("utf-8", "replace") for name, place, _, _ in found]
+        addresses = [standing.pc, *(site for _, site in standing.frames)]
+        found = [frame for address in addresses for frame in self.places.frames(address)]
+        return [f"{function} {place}" for function, place in found]
 
-    def stands(self, result):
+    def stands(self, result: following.Result) -> Iterator[str]:
         """The lines of both threads at their accesses."""
         yield self.title(result)
         for letter, one in zip("AB", result.standing):
-            text = "  %s: T%d, %s of %d bytes at %x" % (letter, one.thread, self.kind(one.kind), one.size, one.at)
-            text += ", which hold %s" % value_of(one.value, one.size) if one.value else ""
-            yield text + (", afterwards %s" % value_of(one.after, one.size) if one.after else "")
-            yield from ("    #%d %s" % pair for pair in enumerate(self.frames(one)))
+            size = "1 byte" if one.size == 1 else f"{one.size} bytes"
+            text = f"  {letter}: T{one.thread}, {self.kind(one.kind)} of {size} at {one.at:x}"
+            text += f", which hold {value_of(one.value, one.size)}" if one.value else ""
+            yield text + (f", afterwards {value_of(one.after, one.size)}" if one.after else "")
+            yield from (f"    #{number} {frame}" for number, frame in enumerate(self.frames(one)))
         if not result.is_same_memory:
             yield "the two accesses are of different memory here"
 
-    def reason(self, result):
-        where, patience = self.line(result.pc), result.plan.patience
+    def reason(self, result: following.Result) -> str:
+        where, thread = self.line(result.pc), f"T{result.thread}"
         if result.timed_out:
             return "the program did not come so far in time (--timeout)"
         expected = result.expected
-        wanted = "%s at %s" % (self.a_kind(expected), self.line(expected >> 16)) if expected else "its end"
-        came = "T%d came to %s at %s, where the recording has %s" % (
-            result.thread,
-            self.a_kind(result.kind),
-            where,
-            wanted,
-        )
-        world = "T%d: a call at %s that waits for the world was not answered as in the recording" % (
-            result.thread,
-            where,
-        )
+        wanted = f"{self.a_kind(expected)} at {self.line(expected >> 16)}" if expected else "its end"
         return {
-            OTHER_CODE: came,
-            MISSED: "T%d went past it, at %s" % (result.thread, where),
-            WOULD_WAIT: "T%d has to wait at %s" % (result.thread, self.line(result.pc, result.last_pc)),
-            HANGS: "nothing happened for %d ms, and T%d did not come" % (patience, result.thread),
-            OTHER_OUTCOME: "T%d: a compare-and-swap at %s came out otherwise" % (result.thread, where),
-            OTHER_WORLD: world,
+            OTHER_CODE: f"{thread} came to {self.a_kind(result.kind)} at {where}, where the recording has {wanted}",
+            MISSED: f"{thread} went past it, at {where}",
+            WOULD_WAIT: f"{thread} has to wait at {self.line(result.pc, result.last_pc)}",
+            HANGS: f"nothing happened for {result.plan.patience} ms, and {thread} did not come",
+            OTHER_OUTCOME: f"{thread}: a compare-and-swap at {where} came out otherwise",
+            OTHER_WORLD: f"{thread}: a call at {where} that waits for the world was not answered as in the recording",
         }.get(result.why, "the program ended")
 
-    def departed(self, result):
+    def departed(self, result: following.Result) -> Iterator[str]:
         """The lines of a run that is not that of the schedule."""
         yield self.departure(result)
         for thread, mine in sorted(self.clock.ticks.items()):
             at = 3 * result.at_tick[thread] if thread < len(result.at_tick) else len(mine)
             if result.state == DEPARTED and at < len(mine):
-                yield "  T%d stands before %s at %s" % (thread, self.a_kind(mine[at]), self.line(mine[at] >> 16))
+                yield f"  T{thread} stands before {self.a_kind(mine[at])} at {self.line(mine[at] >> 16)}"
 
-    def departure(self, result):
+    def departure(self, result: following.Result) -> str:
         event, pair = result.event, result.plan.pair
         if event is None:
-            return "departed at the end of the schedule: " + self.reason(result)
+            return f"departed at the end of the schedule: {self.reason(result)}"
         line = result.plan.lines.get(event) or ("the access A" if event == pair[0] else "the access B")
-        step = "(step %d of %d)" % (result.step, len(result.rows))
-        return "departed at event %d  %s %s: %s" % (event, line, step, self.reason(result))
+        step = f"(step {result.step} of {len(result.rows)})"
+        return f"departed at event {event}  {line} {step}: {self.reason(result)}"
 
     @staticmethod
-    def liberties(result):
+    def liberties(result: following.Result) -> Iterator[str]:
         """What a run by itself may not do."""
-        if result.plan.split:
-            yield "%d accesses of the schedule have others between their parts; each was done whole" % result.plan.split
+        split = result.plan.split
+        if split:
+            yield f"{split} accesses of the schedule have others between their parts; each was done whole"
         if result.refused_tries:
-            yield "%d try-locks were refused as in the recording, though the lock was free" % result.refused_tries
+            yield f"{result.refused_tries} try-locks were refused as in the recording, though the lock was free"
         if result.spurious:
-            yield "%d waits woke without a signal, as the schedule wants" % result.spurious
+            yield f"{result.spurious} waits woke without a signal, as the schedule wants"
         if result.early:
-            yield "%d events came earlier than in the schedule, which nothing forbids" % result.early
+            yield f"{result.early} events came earlier than in the schedule, which nothing forbids"
 
 
-def value_of(words, size):
+def value_of(words: tuple[int, int], size: int) -> str:
     low, high = words
     if size > 8:
-        return "0x%016x%016x.." % (high, low)
-    return "0x%x" % (low & ((1 << 8 * size) - 1))
+        return f"0x{high:016x}{low:016x}.."
+    return f"{low & ((1 << 8 * size) - 1):#x}"
 
 
-def ending(result):
+def ending(result: following.Result) -> str:
     """How the program ended after the race."""
     if result.state == DEPARTED:
         return GONE
     if result.timed_out:
         return "hangs"
+    if result.is_deadlock:
+        return "hangs in a deadlock"
     if result.status >= 0:
-        return "status %d" % result.status
+        return f"status {result.status}"
     try:
-        return "signal %d (%s)" % (-result.status, signal.Signals(-result.status).name)
+        return f"signal {-result.status} ({signal.Signals(-result.status).name})"
     except ValueError:
-        return "signal %d" % -result.status
+        return f"signal {-result.status}"
