@@ -1,0 +1,24 @@
+/* The end of a pipe says that data are there. The racy twin writes its data after it sends. */
+#include "pair.h"
+static int ends[2];
+static int data, seen;
+
+THREAD(sends) {
+    IF_CLEAN(data = 1;)
+    close(ends[1]);
+    IF_RACY(data = 1;) /* RACE */
+    return argument;
+}
+
+THREAD(receives) {
+    char byte;
+    need(read(ends[0], &byte, 1) == 0);
+    seen = data; /* RACE */
+    return argument;
+}
+
+int main(void) {
+    need(!pipe(ends));
+    run_both(sends, receives);
+    return seen == 9;
+}

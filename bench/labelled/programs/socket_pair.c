@@ -1,0 +1,24 @@
+/* A message of a socket pair says that data are there. The racy twin writes its data after it sends. */
+#include "pair.h"
+static int ends[2];
+static int data, seen;
+
+THREAD(sends) {
+    IF_CLEAN(data = 1;)
+    need(send(ends[1], "x", 1, 0) == 1);
+    IF_RACY(data = 1;) /* RACE */
+    return argument;
+}
+
+THREAD(receives) {
+    char byte;
+    need(recv(ends[0], &byte, 1, 0) == 1);
+    seen = data; /* RACE */
+    return argument;
+}
+
+int main(void) {
+    need(!socketpair(AF_UNIX, SOCK_STREAM, 0, ends));
+    run_both(sends, receives);
+    return seen == 9;
+}
