@@ -1,12 +1,25 @@
 #!/usr/bin/env python3
 """Writes the inputs of the benchmark into a folder. Everything random comes from one seed, so each run makes the
-same bytes. A number behind the folder divides all sizes, to see quickly that everything runs."""
+same bytes."""
+import argparse
 import os
 import random
 import subprocess
-import sys
 
-DIVISOR = int(sys.argv[2]) if __name__ == "__main__" and len(sys.argv) > 2 else 1
+
+def read_options():
+    parser = argparse.ArgumentParser(description=__doc__)
+    parser.add_argument("folder", metavar="FOLDER", help="where the inputs go")
+    parser.add_argument(
+        "divisor", metavar="N", type=int, nargs="?", default=1, help="divide all sizes, to see quickly that all runs"
+    )
+    options = parser.parse_args()
+    if options.divisor < 1:
+        parser.error("N is at least 1")
+    return options
+
+
+DIVISOR = read_options().divisor if __name__ == "__main__" else 1
 
 
 def sized(count):
@@ -43,7 +56,7 @@ def guarded_trace(events, threads, seed):
 def loose_trace(events, threads, seed):
     """The same, and at the end T0 and T1 take each lock once and then no more: T0 writes 999 of the variables, and T1
     reads them. One candidate each, the last two accesses of the variable."""
-    end = [f"T{t}|{op}(L{l})|end" for t in (0, 1) for l in range(100) for op in ("acq", "rel")]
+    end = [f"T{t}|{op}(L{lock})|end" for t in (0, 1) for lock in range(100) for op in ("acq", "rel")]
     for x in range(999):
         end += [f"T0|w(V{x})|loose", f"T1|r(V{x})|loose"]
     return guarded_trace(max(events - len(end), 0), threads, seed) + end
@@ -124,8 +137,8 @@ def write_trace(folder, name, lines):
 
 
 def write_traces(folder):
-    """Traces alone, for `info`: how it grows with the events and the threads, where many pairs are candidates for races,
-    where none is, and where one event has many partners in other threads."""
+    """Traces alone, for `info`: how it grows with the events and the threads, where many pairs are candidates for
+    races, where none is, and where one event has many partners in other threads."""
     os.makedirs(folder, exist_ok=True)
     for threads in (4, 64):
         for events in (EVENTS // 8, EVENTS):
@@ -158,22 +171,32 @@ def free_places(events, threads):
     """Accesses of 1,000 variables at 200 places, one in twenty a write, that nothing orders."""
     chance = random.Random(7)
     kinds = "r" * 19 + "w"
-    return [f"T{chance.randrange(threads)}|{chance.choice(kinds)}(x{chance.randrange(1_000)})|p{chance.randrange(200)}" for _ in range(events)]
+    return [
+        f"T{chance.randrange(threads)}|{chance.choice(kinds)}(x{chance.randrange(1_000)})|p{chance.randrange(200)}"
+        for _ in range(events)
+    ]
 
 
 def shared_places(events, threads):
-    """Reads and writes of 256 variables at 200 places, under no lock: nearly all pairs are forced, since most reads see another thread's write."""
+    """Reads and writes of 256 variables at 200 places, under no lock: nearly all pairs are forced, since most reads
+    see another thread's write."""
     chance = random.Random(9)
-    return [f"T{chance.randrange(threads)}|{chance.choice('rw')}(x{chance.randrange(256)})|p{chance.randrange(200)}" for _ in range(events)]
+    return [
+        f"T{chance.randrange(threads)}|{chance.choice('rw')}(x{chance.randrange(256)})|p{chance.randrange(200)}"
+        for _ in range(events)
+    ]
 
 
 def scattered_places(events, threads):
-    """Sections of 64 locks, each with four accesses of any of 4,096 variables: nearly each access is of a class of its own."""
+    """Sections of 64 locks, each with four accesses of any of 4,096 variables: nearly each access is of a class of its
+    own."""
     chance = random.Random(10)
     lines = []
     while len(lines) + 6 <= events:
         thread, lock = chance.randrange(threads), chance.randrange(64)
-        accesses = [f"T{thread}|{chance.choice('rw')}(x{chance.randrange(4_096)})|p{chance.randrange(200)}" for _ in range(4)]
+        accesses = [
+            f"T{thread}|{chance.choice('rw')}(x{chance.randrange(4_096)})|p{chance.randrange(200)}" for _ in range(4)
+        ]
         lines += [f"T{thread}|acq(l{lock})|p", *accesses, f"T{thread}|rel(l{lock})|p"]
     return lines
 
@@ -184,13 +207,16 @@ def scattered_widely(events, threads):
     lines = []
     while len(lines) + 6 <= events:
         thread, lock = chance.randrange(threads), chance.randrange(64)
-        accesses = [f"T{thread}|{chance.choice('rw')}(x{chance.randrange(4_096)})|p{chance.randrange(1_400)}" for _ in range(4)]
+        accesses = [
+            f"T{thread}|{chance.choice('rw')}(x{chance.randrange(4_096)})|p{chance.randrange(1_400)}" for _ in range(4)
+        ]
         lines += [f"T{thread}|acq(l{lock})|p", *accesses, f"T{thread}|rel(l{lock})|p"]
     return lines
 
 
 def own_locks(events, threads):
-    """Each thread takes one of 16 locks of its own before each write of one variable, or lets it go: nearly each write is under other locks."""
+    """Each thread takes one of 16 locks of its own before each write of one variable, or lets it go: nearly each write
+    is under other locks."""
     chance = random.Random(11)
     held = [set() for _ in range(threads)]
     lines = []
@@ -203,7 +229,8 @@ def own_locks(events, threads):
 
 
 def nested_locks(events):
-    """One thread takes a fourth of the events' number of locks, which another took before, and then writes in turn with it."""
+    """One thread takes a fourth of the events' number of locks, which another took before, and then writes in turn
+    with it."""
     locks = range(events // 4)
     lines = [f"T0|{word}(l{lock})|p" for lock in locks for word in ("acq", "rel")]
     lines += [f"T1|acq(l{lock})|p" for lock in locks]
@@ -211,13 +238,16 @@ def nested_locks(events):
 
 
 def compared_locks(held, written):
-    """Two threads hold so many locks each, and write one variable at so many places each; half of the pairs are ordered."""
+    """Two threads hold so many locks each, and write one variable at so many places each; half of the pairs are
+    ordered."""
     locks = [[f"{side}{lock}" for lock in range(held)] for side in "ab"]
     lines = [f"T2|{word}({lock})|p" for lock in locks[0] + locks[1] for word in ("acq", "rel")]
     lines += [f"T{thread}|acq({lock})|p" for thread in range(2) for lock in locks[thread]]
     lines += [f"T0|w(x)|p{place}" for place in range(written)]
     lines += ["T0|acq(m)|p", "T0|rel(m)|p", "T1|acq(m)|p", "T1|rel(m)|p"]
-    return lines + [f"T1|w(x)|q{place}" for place in range(written)] + [f"T0|w(x)|r{place}" for place in range(written)]
+    return (
+        lines + [f"T1|w(x)|q{place}" for place in range(written)] + [f"T0|w(x)|r{place}" for place in range(written)]
+    )
 
 
 def told_to_all(events, threads):
@@ -294,7 +324,8 @@ def dropped(rows, order):
 
 
 def write_refused(folder):
-    """Scripts whose last line is refused, so that they are read whole and no call is made: how long the reading takes."""
+    """Scripts whose last line is refused, so that they are read whole and no call is made: how long the reading
+    takes."""
     end = ["0 list"]
     for lines in (sized(400_000), sized(4_000_000)):
         write(folder, f"read_list_{lines}", ["T1|w(x)|1"], ["1 list"] * lines + end)
@@ -315,21 +346,31 @@ def write_proposals(folder):
 
 
 def write_edits(folder):
-    """The last event of a long schedule taken off and appended again, and two neighbours exchanged again and again, at the
-    end of the schedule and in its middle; and schedules without an event over a trace of as many variables as events."""
+    """The last event of a long schedule taken off and appended again, and two neighbours exchanged again and again, at
+    the end of the schedule and in its middle; and schedules without an event over a trace of as many variables as
+    events.
+    """
     for events in (EVENTS // 8, EVENTS):
         trace = [f"T{i % 2}|w(V{i})|1" for i in range(events)]
         grow = ["1 new A"] + [f"1 add A {i}" for i in range(events)]
         last = events - 1
         write(folder, f"replay_retract_{events}", trace, grow + ["1 back A", f"1 add A {last}"] * sized(50_000))
         write(folder, f"replay_swap_at_the_end_{events}", trace, grow + [f"1 swap A {last - 1}"] * sized(100_000))
-        write(folder, f"replay_swap_in_the_middle_{events}", trace, grow + [f"1 swap A {events // 2}"] * sized(100_000))
+        write(
+            folder, f"replay_swap_in_the_middle_{events}", trace, grow + [f"1 swap A {events // 2}"] * sized(100_000)
+        )
     for rows in (EVENTS, sized(500_000)):
-        write(folder, f"replay_empty_rows_{rows}", [f"T1|w(V{i})|1" for i in range(EVENTS)], [f"1 new S{i}" for i in range(rows)])
+        write(
+            folder,
+            f"replay_empty_rows_{rows}",
+            [f"T1|w(V{i})|1" for i in range(EVENTS)],
+            [f"1 new S{i}" for i in range(rows)],
+        )
 
 
 def write_batches(folder):
-    """Batches of 8 commands, each made and taken back, and the same commands singly; these fill the log, so there are half as many."""
+    """Batches of 8 commands, each made and taken back, and the same commands singly; these fill the log, so there are
+    half as many."""
     trace = [f"T1|w(V{i})|1" for i in range(8)]
     commands = ["new A"] + [f"add A {i}" for i in range(7)]
     batched = [f"1 batch {' ; '.join(commands)}", "1 undo"]
@@ -342,7 +383,12 @@ def write_batches(folder):
 def write_scripts(folder):
     """Scripts on a bench, each at two sizes, so that one sees how the cost grows."""
     writes = ["T1|w(x)|1"] * EVENTS
-    write(folder, f"replay_grow_{MOST_EVENTS}", ["T1|w(x)|1"] * MOST_EVENTS, ["1 new A"] + [f"1 add A {i}" for i in range(MOST_EVENTS - 1)])
+    write(
+        folder,
+        f"replay_grow_{MOST_EVENTS}",
+        ["T1|w(x)|1"] * MOST_EVENTS,
+        ["1 new A"] + [f"1 add A {i}" for i in range(MOST_EVENTS - 1)],
+    )
     for events in (EVENTS // 8, EVENTS):
         grow = ["1 new A"] + [f"1 add A {i}" for i in range(events)]
         write(folder, f"replay_grow_{events}", writes, grow)
@@ -367,8 +413,8 @@ def seat_calls(client, row, calls):
 
 
 def write_seats(folder):
-    """Scripts for threads: of each client on a schedule of its own, and of all clients on one; and the same calls by one
-    client alone, in turn."""
+    """Scripts for threads: of each client on a schedule of its own, and of all clients on one; and the same calls by
+    one client alone, in turn."""
     os.makedirs(folder, exist_ok=True)
     write_trace(folder, "trace", ["T1|w(x)|1"])
     for rows in ("own_rows", "one_row"):
@@ -389,7 +435,7 @@ def write_sessions(folder):
 
 
 def main():
-    folder = sys.argv[1]
+    folder = read_options().folder
     os.makedirs(folder, exist_ok=True)
     write_traces(os.path.join(folder, "info"))
     write_pairs(os.path.join(folder, "explain"))
