@@ -9,6 +9,7 @@ from typing import Any
 from .checked import Mistake, named, paired
 from .layout import Layout
 from .mirror import Mirror
+from .reach import Aim
 from .row import Row
 from .session import Session
 from .sheet import Sheet
@@ -29,6 +30,7 @@ class Bench:
         self.layouts: dict[Sheet, tuple[int, Layout]] = {}
         self.witnesses: dict[tuple[int, int], array[int]] = {}
         self.needs: dict[tuple[int, ...], dict[int, int]] = {}  # of an aim, as its witness has them
+        self.aims: dict[tuple[int, ...], Aim] = {}
         self.decided: list[str] = []  # words of `triage` that leave out races
         self.questions = False  # whether the program answers lines that begin with `?`
 
@@ -87,6 +89,15 @@ class Bench:
         if pair not in self.witnesses:
             raise Mistake("no such witness")
         return self._sheet(("witness", *pair), self.witnesses[pair]), None
+
+    def aim(self, pair: tuple[int, ...]) -> Aim | None:
+        """What a pair needs, if its witness is known and the trace's reads have their writers."""
+        if len(pair) != 2 or (pair[0], pair[1]) not in self.witnesses or not self.trace.is_connected:
+            return None
+        if pair not in self.aims:
+            self.aims.clear()  # each takes as much memory as its witness
+            self.aims[pair] = Aim(self.trace, (pair[0], pair[1]), self.witnesses[pair[0], pair[1]])
+        return self.aims[pair]
 
     async def check(self, name: str) -> bool:
         """Whether the program shows the schedule as it is drawn."""

@@ -148,6 +148,13 @@ class Requests:
     async def do_back(self, request: Told) -> Told:
         return await steps.back(self._shown(request))
 
+    async def do_back_to(self, request: Told) -> Told:
+        return await steps.back_to(self._shown(request), counted(request["length"]))
+
+    async def do_reach(self, request: Told) -> Told:
+        """Whether the aim of the page can still be reached from the schedule."""
+        return steps.reach(self.bench, named(request["name"]), self._aim(request))
+
     async def do_new(self, request: Told) -> Told:
         return await steps.one(self.bench, f"new {named(request['name'])}")
 
@@ -180,6 +187,8 @@ class Requests:
             thread = trace.thread[until]
             if request.get("thread", thread) != thread:
                 raise Mistake(f"{until} is an event of {trace.threads.text(thread)}")
+        if until is not None and request.get("aim"):
+            return await steps.run_to_aim(self.bench, named(request["name"]), until, self._aim(request))
         return await steps.Run(self.bench, named(request["name"])).to(thread, until)
 
     async def do_undo(self, request: Told) -> Told:

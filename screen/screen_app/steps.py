@@ -8,6 +8,7 @@ from collections.abc import Sequence
 
 from .bench import Bench
 from .causes import Causes, dependent
+from .reach import Bar, Loss, loss_of, reach_of
 from .shown import Shown
 from .text import Told, clean
 
@@ -104,8 +105,68 @@ def swaps(name: str, places: Sequence[int]) -> str:
     return line if len(places) == 1 else "batch " + line
 
 
+async def run_to_aim(bench: Bench, name: str, until: int, pair: tuple[int, ...]) -> Told:
+    """Runs a thread to an event, and stops before one after which the aim can't be reached."""
+    trace, aim = bench.trace, bench.aim(pair)
+    thread, end = trace.thread[until], trace.index(until) + 1
+    sheet = bench.sheet(name)
+    done = sheet.counts[thread]
+    if aim is None or end - done > MOST:
+        return await Run(bench, name).to(thread, until)
+    count, bar, is_searched = reach_of(aim, sheet.events, thread, end)
+    if count == end - done:
+        return await Run(bench, name).to(thread, until)
+    events = trace.events_of[thread]
+    told = await Run(bench, name).to(thread, events[done + count - 1]) if count else nothing_added()
+    if told["added"] < count:
+        return told
+    return {**told, "stop": {**trace.told(events[done + count]), **barred(bench, None if is_searched else bar)}}
+
+
+def nothing_added() -> Told:
+    return {"added": 0, "entries": [], "answer": "nothing to add"}
+
+
+def barred(bench: Bench, bar: Bar | None) -> Told:
+    """Why a step would lead away from the aim: another event has to come first, or no way is found."""
+    if bar is None:
+        return {"code": "way", "said": "no way to the aim was found after it"}
+    return {"code": "aim", "said": "the aim needs another event first", "about": bench.trace.told(bar.needed)}
+
+
+def reach(bench: Bench, name: str, pair: tuple[int, ...]) -> Told:
+    """Whether the schedule can still grow to one that shows the aim; how long it was while it could."""
+    aim = bench.aim(pair)
+    sheet = bench.sheet(name)
+    lost: Loss | None = loss_of(aim, sheet.events) if aim else None
+    if lost is None:
+        return {}
+    about = {} if lost.bar is None else {key: bench.trace.told(event) for key, event in lost.bar._asdict().items()}
+    return {"lost": {"length": lost.length, "left": len(sheet) - lost.length, **about}}
+
+
 async def back(shown: Shown) -> Told:
     return shown.told(await shown.say(f"back {shown.name}"))
+
+
+async def back_to(shown: Shown, length: int) -> Told:
+    """Takes events back until the schedule has this length, by batches."""
+    count = len(shown.bench.sheet(shown.name)) - length
+    if count <= 0:
+        return {"answer": "nothing to take back", "entries": []}
+    sizes = [min(BATCH, count - start) for start in range(0, count, BATCH)]
+    lines = [taken_back(shown.name, size) for size in sizes]
+    answers = [await shown.say(lines[0], length, length + count)]
+    if is_done(answers[0]) and not shown.other:
+        for start in range(1, len(lines), CHUNK):
+            answers += await shown.bench.say(*lines[start : start + CHUNK])
+    entries = [entry_of(answer) for answer in answers if is_done(answer)]
+    return shown.told(clean(answers[-1]), made=entries, entries=entries)
+
+
+def taken_back(name: str, count: int) -> str:
+    line = " ; ".join([f"back {name}"] * count)
+    return line if count == 1 else "batch " + line
 
 
 async def branch(shown: Shown, length: int, to: str) -> Told:

@@ -17,6 +17,7 @@ import * as pair from "./pair.js";
 
 for (const part of [frontier, feed, pair]) part.events.act = act;
 sheet.events.act = actOn;
+pair.events.backTo = (length) => actOn(sheet.shown(), "back_to", { name: state.view.schedule, length });
 for (const part of [sheet, frontier, feed, schedules]) part.events.say = say;
 feed.events.open = schedules.events.open = (view) => now(() => views.open(view));
 schedules.events.go = views.open;

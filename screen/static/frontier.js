@@ -59,6 +59,16 @@ async function fetchNext() {
   }
   if (open !== null) await more();
   render();
+  lookAhead(mine).catch((why) => events.say(String(why)));
+}
+
+// Whether the aim can still be reached from here. The list is drawn before, so no key waits for it.
+async function lookAhead(mine) {
+  if (!told?.witnessed || told.pairs.some((pair) => pair.join() === state.aim?.join())) return;
+  const got = await ask("reach", { name: told.name, aim: state.aim });
+  if (mine !== asked || !told || got.mistake || got.gone) return;
+  told.lost = got.lost ?? null;
+  showPair(told);
 }
 
 // Of a witness, whose two accesses come next.
@@ -233,7 +243,7 @@ export const add = (one = chosenOne()) => one && !one.fixed && step("add", { eve
 export const run = (one = chosenOne()) => one && !one.fixed && step("run", { thread: one.t });
 
 export function toAim(one = chosenOne()) {
-  if (one?.to !== undefined) return step("run", { until: one.to });
+  if (one?.to !== undefined) return step("run", { until: one.to, aim: state.aim });
   if (one && !state.aim) events.say("open a race first: it is the aim");
   else if (one && !one.own && !told.witnessed) events.say("the witness of the aim is not known yet");
   else if (one) events.say(`${threadShort(one.t)} has come as far as the aim needs`);

@@ -1,9 +1,9 @@
 // The pair that stands side by side: both accesses are next in their threads.
 import { $, el, fill, button, many } from "./make.js";
 import { later } from "./queue.js";
-import { state, tag, operation, place, reason } from "./words.js";
+import { state, tag, operation, place, reason, short } from "./words.js";
 
-export const events = { act: null };
+export const events = { act: null, backTo: null };
 
 let shown = null; // the pair that a click brought in sight, and the schedule that shows it
 
@@ -36,7 +36,11 @@ function side(told, pair, event) {
 export function showPair(told) {
   const box = $("pair");
   const pairs = told?.pairs ?? [];
-  box.hidden = !pairs.length;
+  box.hidden = !pairs.length && !told?.lost;
+  if (!pairs.length && told?.lost) {
+    fill(box, ...outOfReach(told.lost));
+    return;
+  }
   if (!pairs.length) {
     fill(box);
     return;
@@ -48,6 +52,17 @@ export function showPair(told) {
     el("span", "accesses", side(told, pair, pair[0]), side(told, pair, pair[1])),
     el("span", "do", pairs.length > 1 ? more(told) : null,
       told.witness ? null : button("Propose", "p", () => propose(state.view, pair))));
+}
+
+// Why the aim can't be reached any more, and a step back to where it could be.
+function outOfReach({ length, left, needed, early }) {
+  const title = needed ? "The aim can't be reached any more" : "No way to the aim was found from here";
+  const why = !needed ? null : needed.e === early.e ? [short(early), " is past it"]
+    : ["it needs ", short(needed), ", which can't come after ", short(early)];
+  const to = length ? `take back to row ${length - 1}` : "take back all";
+  const back = button(to, "", () => later(() => events.backTo(length)));
+  back.title = `Takes back ${many(left, "event")}`;
+  return [el("span", "pair-title", title), el("span", "accesses", why), el("span", "do", back)];
 }
 
 function more(told) {

@@ -95,11 +95,14 @@ export function place(text, isShort = false) {
 
 // What a refusal means, with the event that it is about. The program's words stand in the title.
 export function reason(why, event) {
-  const inner = { 23: notBegun, 24: wrongWriter, 25: lockHeld, 26: joinEarly }[why.code]?.(why, event);
+  const inner = { 23: notBegun, 24: wrongWriter, 25: lockHeld, 26: joinEarly, aim: aimNeeds }[why.code]?.(why, event);
   const made = el("span", "reason", inner ?? why.said.replace(/^\d+ /, ""));
-  made.title = `${made.textContent}\nthe program: refused 46 ${why.said}`;
+  const isRefusal = /^\d/.test(why.said);
+  made.title = isRefusal ? `${made.textContent}\nthe program: refused 46 ${why.said}` : made.textContent;
   return made;
 }
+
+const aimNeeds = (why) => ["the aim needs ", short(why.about), " first"];
 
 const notBegun = (why) => ["not begun: ", why.about ? short(why.about) : "its fork", " has to come first"];
 
@@ -138,10 +141,12 @@ const REFUSALS = {
 
 const MAYBE = { read: "the trace or the log may be gone", write: "the disk may be full" };
 
-// What the program said at its end, and what may have led to that.
+// What the program said at its end: its line with its notes, or else with what may have led to that.
 export function lastWords(gone) {
-  const maybe = MAYBE[/\b(read|write) failed$/.exec(gone)?.[1]];
-  return maybe ? `${gone} (${maybe})` : gone;
+  const [line, ...notes] = gone.split("\\u{a}note: ");
+  if (notes.length) return `${line}: ${notes.join("; ")}`;
+  const maybe = MAYBE[/\b(read|write) failed$/.exec(line)?.[1]];
+  return maybe ? `${line} (${maybe})` : line;
 }
 
 // A line of the session, as a person says it.

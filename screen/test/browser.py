@@ -12,7 +12,7 @@ import time
 
 import aiohttp
 
-from judged import within
+from comparing import within
 
 KEYS = {
     "Enter": 13,

@@ -7,9 +7,9 @@ import sys
 sys.path.insert(0, os.path.dirname(os.path.dirname(os.path.abspath(__file__))))
 import traces  # noqa: E402
 from browser import Browser  # noqa: E402
-from failing import PATIENCE, Heard, script, served  # noqa: E402
-from judged import same  # noqa: E402
-from live import session  # noqa: E402
+from failures import PATIENCE, Heard, script, served  # noqa: E402
+from comparing import same  # noqa: E402
+from two_analysts import session  # noqa: E402
 from screen_app import server  # noqa: E402
 from screen_app.bench import Bench  # noqa: E402
 from screen_app.trace import Trace  # noqa: E402

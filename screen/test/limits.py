@@ -10,9 +10,9 @@ import aiohttp
 
 sys.path.insert(0, os.path.dirname(os.path.dirname(os.path.abspath(__file__))))
 import traces  # noqa: E402
-from failing import PATIENCE, served  # noqa: E402
-from judged import same, within  # noqa: E402
-from live import session  # noqa: E402
+from failures import PATIENCE, served  # noqa: E402
+from comparing import same, within  # noqa: E402
+from two_analysts import session  # noqa: E402
 from screen_app import door, guard, outlet, server  # noqa: E402
 from security import status  # noqa: E402
 from stage import Screen, Socket  # noqa: E402

@@ -9,7 +9,7 @@ import sys
 
 sys.path.insert(0, os.path.dirname(os.path.dirname(os.path.abspath(__file__))))
 import traces  # noqa: E402
-from judged import same  # noqa: E402
+from comparing import same  # noqa: E402
 from screen_app import news, readers, session  # noqa: E402
 from screen_app.entries import Entry  # noqa: E402
 from screen_app.trace import Part, Trace  # noqa: E402

@@ -4,7 +4,7 @@ import os
 
 import traces
 from browser import Browser
-from judged import same
+from comparing import same
 from stage import LENGTH, NEXT, ROWS, Screen, focus, is_clean, logged, press
 
 ASKING = os.path.join(os.path.dirname(os.path.abspath(__file__)), "asking.py")

@@ -9,7 +9,7 @@ from array import array
 
 sys.path.insert(0, os.path.dirname(os.path.dirname(os.path.abspath(__file__))))
 import traces  # noqa: E402
-from judged import same  # noqa: E402
+from comparing import same  # noqa: E402
 from screen_app.layout import Layout  # noqa: E402
 from screen_app.mirror import Mirror  # noqa: E402
 from screen_app.sheet import Sheet  # noqa: E402

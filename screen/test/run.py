@@ -27,13 +27,35 @@ def modules():
     if importlib.util.find_spec("aiohttp") is None:
         print("aiohttp is not here: nothing but the reading is tested (apt-get install python3-aiohttp)")
         return
-    yield from ("security", "failing", "limits", "long", "alone")
+    yield from ("security", "failures", "limits", "long_texts", "steps_by_position")
     if not any(map(os.path.exists, CHROMIUM)):
         print("chromium is not here: what needs a browser is not tested (apt-get install chromium)")
         return
-    yield from ("framed", "table", "look", "live", "hands", "corners", "narrow", "sight", "busy", "questions", "back")
-    yield from ("guards", "said", "reached", "chance", "meanwhile", "noticed", "anew", "missed")
-    yield from ("tired", "big")
+    yield from (
+        "framing",
+        "workbench",
+        "appearance",
+        "two_analysts",
+        "pointer",
+        "smallest_and_largest",
+        "narrow_windows",
+        "scrolling",
+        "late_answers",
+        "questions",
+        "history_and_reload",
+    )
+    yield from (
+        "guards",
+        "wording",
+        "every_control",
+        "dead_ends",
+        "random_work",
+        "changed_schedules",
+        "news_and_order",
+        "redrawing",
+        "focus_and_release",
+    )
+    yield from ("quick_keys", "big_traces")
 
 
 def tests(wanted):

@@ -7,7 +7,7 @@ import time
 import aiohttp
 
 import traces
-from judged import same
+from comparing import same
 from stage import LATE, PATIENCE, Screen, Socket, keyed, logged
 
 EVIL = "http://evil.example"

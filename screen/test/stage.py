@@ -8,7 +8,7 @@ import re
 
 import aiohttp
 
-from judged import same, within
+from comparing import same, within
 
 SCREEN = os.path.join(os.path.dirname(os.path.dirname(os.path.abspath(__file__))), "screen")
 HEAD = 81

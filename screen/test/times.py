@@ -15,9 +15,9 @@ import time
 sys.dont_write_bytecode = True
 sys.path.insert(0, os.path.dirname(os.path.abspath(__file__)))
 import traces  # noqa: E402
-from big import batches  # noqa: E402
+from big_traces import batches  # noqa: E402
 from browser import Browser  # noqa: E402
-from live import children  # noqa: E402
+from two_analysts import children  # noqa: E402
 from stage import LENGTH, NEXT, TITLE, Screen, focus, new  # noqa: E402
 
 # Notes each time that rows are drawn, and each key.

@@ -4,9 +4,9 @@ import time
 
 import traces
 from browser import DOUBLE, Browser
-from judged import same
-from live import session
-from sight import HOLD
+from comparing import same
+from two_analysts import session
+from scrolling import HOLD
 from stage import LENGTH, NEXT, ROWS, SAID, Screen, focus, is_clean, logged, new, press
 
 OPEN = "document.querySelector('#bar h2').textContent"

@@ -8,8 +8,8 @@ import subprocess
 
 import traces
 from browser import ALT, Browser
-from judged import same
-from live import session
+from comparing import same
+from two_analysts import session
 from stage import TITLE, Screen, is_clean
 
 # How long the page may take until it shows what the program says, in seconds, and how often it has to be at rest.

@@ -4,8 +4,8 @@ import os
 
 import traces
 from browser import ALT, CAPS, SHIFT, Browser
-from judged import same
-from live import session
+from comparing import same
+from two_analysts import session
 from stage import NEXT, ROWS, SAID, Screen, focus, is_clean, logged, new, press
 
 FOLDER = "/build/product-1.22.4/src/modules/scheduler/internal"

@@ -2,10 +2,10 @@
 
 import traces
 from browser import SHIFT, Browser
-from judged import same
-from live import session
-from meanwhile import DEAF, FREE, deaf, shows
-from sight import AT_END, FRAMES, SCROLLED
+from comparing import same
+from two_analysts import session
+from changed_schedules import DEAF, FREE, deaf, shows
+from scrolling import AT_END, FRAMES, SCROLLED
 from stage import LENGTH, NEXT, ROWS, SAID, Screen, is_clean, logged, new, press
 
 OPEN = "document.querySelector('#bar h2').textContent"

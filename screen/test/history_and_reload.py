@@ -4,11 +4,11 @@ import os
 
 import traces
 from browser import Browser
-from judged import same
-from live import session
-from sight import HOLD, ROW, TOP
+from comparing import same
+from two_analysts import session
+from scrolling import HOLD, ROW, TOP
 from stage import LENGTH, NEXT, ROWS, SAID, TITLE, Screen, comes, focus, is_clean, logged, new, press
-from table import SEVERAL
+from workbench import SEVERAL
 
 OPEN = "document.querySelector('#bar h2').textContent"
 AIM = "[...document.querySelectorAll('#bar .aim .short .num')].map((e) => e.textContent).join()"

@@ -6,9 +6,9 @@ import time
 
 import traces
 from browser import ALT, PATIENCE, Browser
-from judged import same
-from live import children, kill_sessions, session
-from sight import HOLD
+from comparing import same
+from two_analysts import children, kill_sessions, session
+from scrolling import HOLD
 from stage import LENGTH, NEXT, ROWS, SAID, Screen, comes, focus, is_clean, logged, new, press
 
 OPEN = "document.querySelector('#bar h2').textContent"

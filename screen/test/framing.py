@@ -7,7 +7,7 @@ from aiohttp import web
 
 import traces
 from browser import Browser
-from judged import same
+from comparing import same
 from stage import NEXT, Screen, focus, is_clean
 
 

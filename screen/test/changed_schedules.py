@@ -5,9 +5,9 @@ import random
 
 import traces
 from browser import ALT, Browser
-from judged import same
-from live import session
-from sight import FRAMES, HOLD
+from comparing import same
+from two_analysts import session
+from scrolling import FRAMES, HOLD
 from stage import LENGTH, ORDER, ROWS, SAID, SAYINGS, Screen, Socket, comes, focus, is_clean, logged, new, press
 
 # Holds back all that tells the page of what others do, from `hold()` on until `letGo()`.
@@ -38,9 +38,7 @@ CASE = """    "{line}") if [ ! -e '{flag}' ]; then
 
 def between(program, **does):
     """The path of a program before whose lines others do something, once each. `_` stands for a blank."""
-    cases = [
-        CASE.format(line=line.replace("_", " "), flag=f"done-{line}", does=call) for line, call in does.items()
-    ]
+    cases = [CASE.format(line=line.replace("_", " "), flag=f"done-{line}", does=call) for line, call in does.items()]
     traces.write("between", BETWEEN.format(program=program, cases="\n".join(cases)))
     os.chmod("between", 0o755)
     return os.path.abspath("between")

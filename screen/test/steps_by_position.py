@@ -4,10 +4,10 @@ import os
 import sys
 
 sys.path.insert(0, os.path.dirname(os.path.dirname(os.path.abspath(__file__))))
-from judged import same  # noqa: E402
-from live import session  # noqa: E402
-from long import bench_of  # noqa: E402
-from meanwhile import FREE, between  # noqa: E402
+from comparing import same  # noqa: E402
+from two_analysts import session  # noqa: E402
+from long_texts import bench_of  # noqa: E402
+from changed_schedules import FREE, between  # noqa: E402
 from screen_app import row, steps  # noqa: E402
 from screen_app.shown import NOT_SENT, Shown  # noqa: E402
 from stage import logged  # noqa: E402
@@ -199,8 +199,10 @@ async def test_what_is_told_of_a_batch(program):
     calls = "new A", "new B", "batch add A 0 ; add B 0", "batch add A 1 ; add A 2", "batch add B 1 ; add B 2", *swaps
     async with Alone(program, calls) as alone:
         told = alone.bench.mirror.told(2, 5)
-        same([(one.get("run"), one.get("swaps")) for one in told],
-             [(None, None), ([1, 2], None), ([1, 2], None), (None, None), (None, True)])
+        same(
+            [(one.get("run"), one.get("swaps")) for one in told],
+            [(None, None), ([1, 2], None), ([1, 2], None), (None, None), (None, True)],
+        )
 
 
 # A trace in which T1 may not move over its own events, and T2 may.

@@ -1,9 +1,9 @@
 """Busy machines: answers that come late, others who work all the time, and a request that gets lost."""
 
 from browser import Browser
-from judged import same
-from live import session
-from sight import HOLD, Reading
+from comparing import same
+from two_analysts import session
+from scrolling import HOLD, Reading
 from stage import LENGTH, NEXT, ROWS, Screen, is_clean, logged, new, press
 from traces import COUNT, write
 

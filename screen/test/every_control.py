@@ -4,8 +4,8 @@ import os
 
 import traces
 from browser import ALT, CONTROL, META, Browser
-from judged import same
-from live import session
+from comparing import same
+from two_analysts import session
 from stage import LENGTH, NEXT, ROWS, SAID, Screen, focus, is_clean, logged, new, press
 
 OPEN = "document.querySelector('#bar h2').textContent"

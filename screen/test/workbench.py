@@ -4,7 +4,7 @@ import os
 
 import traces
 from browser import ALT, Browser
-from judged import same
+from comparing import same
 from stage import LENGTH, NEXT, ORDER, ROWS, SAID, Screen, focus, is_clean, logged, new, press
 
 # Two races of a list that is filtered, and a pair that a lock keeps apart.

@@ -4,8 +4,8 @@ import time
 
 import traces
 from browser import Browser
-from judged import same
-from live import session
+from comparing import same
+from two_analysts import session
 from stage import LENGTH, ROWS, SAID, Screen, comes, focus, is_clean, logged, new, press
 
 SCHEDULES = "document.querySelectorAll('.sched').length"
@@ -282,8 +282,9 @@ async def test_a_drag_that_is_cancelled(program):
         x, y = await page.press("#space .row[data-p='2'] .lanes")
         await page.mouse("mouseMoved", x, y - 22, button="left", buttons=1)
         await page.until("document.querySelector('.row.dragged')?.dataset.p === '2'")
-        await page.run("document.getElementById('stage').dispatchEvent(new PointerEvent('pointercancel', "
-                       "{ bubbles: true }))")
+        await page.run(
+            "document.getElementById('stage').dispatchEvent(new PointerEvent('pointercancel', " "{ bubbles: true }))"
+        )
         same(await page.run("document.querySelector('.row.dragged') === null"), True)
         await page.release(x, y - 22)
         await press(page, "Backspace")

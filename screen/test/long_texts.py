@@ -5,8 +5,8 @@ import sys
 
 sys.path.insert(0, os.path.dirname(os.path.dirname(os.path.abspath(__file__))))
 import traces  # noqa: E402
-from failing import script  # noqa: E402
-from judged import same  # noqa: E402
+from failures import script  # noqa: E402
+from comparing import same  # noqa: E402
 from screen_app import frontier, pairs, steps  # noqa: E402
 from screen_app.bench import Bench  # noqa: E402
 from screen_app.trace import Trace  # noqa: E402

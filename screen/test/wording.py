@@ -2,8 +2,8 @@
 
 import traces
 from browser import ALT, Browser
-from judged import same
-from live import session
+from comparing import same
+from two_analysts import session
 from stage import LENGTH, NEXT, ROWS, SAID, SAYINGS, Screen, focus, is_clean, logged, new, press
 
 OPEN = "document.querySelector('#bar h2').textContent"

@@ -5,7 +5,7 @@ import time
 
 import traces
 from browser import Browser
-from judged import same
+from comparing import same
 from stage import LENGTH, NEXT, Screen, focus, is_clean, logged, new, press
 
 EVENTS = 100_000

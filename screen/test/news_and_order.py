@@ -2,13 +2,13 @@
 
 import traces
 from browser import ALT, Browser
-from hands import AT_ONCE
-from judged import same
-from live import session
-from meanwhile import DEAF, FREE, deaf, shows
-from sight import HOLD
+from pointer import AT_ONCE
+from comparing import same
+from two_analysts import session
+from changed_schedules import DEAF, FREE, deaf, shows
+from scrolling import HOLD
 from stage import LENGTH, NEXT, ORDER, ROWS, SAID, TITLE, Screen, focus, is_clean, logged, new, press
-from table import SEVERAL
+from workbench import SEVERAL
 
 OPEN = "document.querySelector('#bar h2').textContent"
 SCHEDULES = "[...document.querySelectorAll('.sched .sched-name')].map((e) => e.textContent).join()"

@@ -6,9 +6,9 @@ import json
 
 import traces
 from browser import ALT, Browser
-from judged import same
-from live import session
-from meanwhile import IDLE
+from comparing import same
+from two_analysts import session
+from changed_schedules import IDLE
 from stage import LENGTH, NEXT, ROWS, Screen, comes, focus, is_clean, logged, press
 
 OPEN = "document.querySelector('#bar h2').textContent"

@@ -14,7 +14,7 @@ import aiohttp
 
 sys.path.insert(0, os.path.dirname(os.path.dirname(os.path.abspath(__file__))))
 import traces  # noqa: E402
-from judged import same, within  # noqa: E402
+from comparing import same, within  # noqa: E402
 from screen_app import command, outlet, pairs, readers, server, session  # noqa: E402
 from screen_app.bench import Bench  # noqa: E402
 from screen_app.kept import Confirmed, Names, Original, Seen  # noqa: E402

@@ -4,8 +4,8 @@ import contextlib
 import os
 
 from browser import ALT, Browser
-from judged import same
-from live import session
+from comparing import same
+from two_analysts import session
 from stage import LENGTH, NEXT, Screen, focus, is_clean, press
 from traces import COUNT, write
 

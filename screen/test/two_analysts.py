@@ -8,7 +8,7 @@ import signal
 
 import traces
 from browser import Browser
-from judged import same
+from comparing import same
 from stage import LENGTH, NEXT, ROWS, SAID, TITLE, Screen, comes, focus, is_clean, logged, new, press
 
 AWAY = "[...document.querySelectorAll('.away-line')].map((l) => l.textContent.trim().replace(/ +/g, ' ')).join('; ')"
@@ -178,8 +178,11 @@ async def test_what_may_have_ended_the_program(program):
         page = await browser.page(screen.link)
         await new(page, 3)
         for hide, show, told in (
-            (lambda: os.rename("trace", "gone"), lambda: os.rename("gone", "trace"),
-             "read failed (the trace or the log may be gone)"),
+            (
+                lambda: os.rename("trace", "gone"),
+                lambda: os.rename("gone", "trace"),
+                "read failed: trace does not exist",
+            ),
             (lambda: traces.write("full", ""), lambda: os.remove("full"), "write failed (the disk may be full)"),
         ):
             hide()

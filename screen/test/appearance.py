@@ -4,10 +4,10 @@ import json
 
 import traces
 from browser import Browser
-from judged import same
-from live import session
+from comparing import same
+from two_analysts import session
 from stage import NEXT, ROWS, Screen, focus, is_clean, logged, new, press
-from table import SEVERAL
+from workbench import SEVERAL
 
 
 async def test_light_dark_and_each_width(program):
