@@ -6,6 +6,7 @@
 #include <stdatomic.h>
 #include <string.h>
 #include <sys/syscall.h>
+#include <sys/uio.h>
 #include <time.h>
 #include <unistd.h>
 static pthread_mutex_t lock = PTHREAD_MUTEX_INITIALIZER;
@@ -20,14 +21,15 @@ static void rings(union sigval v) { (void)v, x++, sem_post(&rang); }
 /* A call of the system that the recorder does not know, in which the thread keeps its turn. */
 static void waits_for_byte(void) {
     char byte;
-    if (syscall(SYS_read, ends[0], &byte, 1) == 1) x++;
+    struct iovec into = {&byte, 1};
+    if (syscall(SYS_readv, ends[0], &into, 1) == 1) x++;
 }
 
 static void *work(void *p) {
     const char *word = p;
     x++;
     if (!strcmp(word, "sections")) pthread_mutex_unlock(&lock);
-    if (!strcmp(word, "order")) for (int k = 0; k < 3; k++) atomic_fetch_add_explicit(&count, 1, memory_order_release);
+    if (!strcmp(word, "order")) for (int k = 0; k < 3; k++) atomic_fetch_add_explicit(&count, 1, memory_order_relaxed);
     if (!strcmp(word, "parts")) for (int k = 0; k < 300; k++) memset(block, 1, sizeof block);
     if (!strcmp(word, "turns")) for (int k = 0; k < 300; k++) x++;
     if (!strcmp(word, "force") && syscall(SYS_write, ends[1], "b", 1) == 1) x++;
@@ -35,7 +37,9 @@ static void *work(void *p) {
 }
 
 static void beside(const char *word) {
-    if (!strcmp(word, "order")) for (int k = 0; k < 3; k++) atomic_fetch_add_explicit(&count, 1, memory_order_release);
+    /* A plain access that may meet relaxed ones gives them order. */
+    if (!strcmp(word, "order")) for (int k = 0; k < 3; k++) atomic_fetch_add_explicit(&count, 1, memory_order_relaxed);
+    if (!strcmp(word, "order")) x += *(volatile int *)&count;
     if (!strcmp(word, "parts")) for (int k = 0; k < 5000; k++) x += block[k];
     if (!strcmp(word, "turns")) for (int k = 0; k < 300; k++) x++;
     if (!strcmp(word, "force")) waits_for_byte();

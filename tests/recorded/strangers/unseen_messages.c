@@ -11,6 +11,13 @@ static int ends[2];
 static atomic_int has_come;
 static int both;
 
+/* A write that is not a call, so that no hook sees it. */
+static long unseen_write(int to, const char *text, long size) {
+    long done;
+    __asm__ volatile("syscall" : "=a"(done) : "a"(SYS_write), "D"(to), "S"(text), "d"(size) : "rcx", "r11", "memory");
+    return done;
+}
+
 static void *hears(void *p) {
     char c;
     if (read(ends[0], &c, 1) != 1) abort();
@@ -24,7 +31,7 @@ int main(void) {
     if (pipe(ends) || pthread_create(&t, NULL, hears, NULL)) abort();
     both++; /* RACE */
     sched_yield();
-    if (syscall(SYS_write, ends[1], "x", 1) != 1) abort();
+    if (unseen_write(ends[1], "x", 1) != 1) abort();
     while (!has_come) usleep(5000);
     pthread_join(t, NULL);
     printf("%d\n", both);

@@ -1,0 +1,94 @@
+package main
+
+import (
+	"fmt"
+	"os"
+	"sort"
+	"strings"
+	"sync"
+	"syscall"
+)
+
+// raced races in two goroutines, and both are done.
+func raced() {
+	x := 0
+	done := make(chan bool, 2)
+	work := func() { x++; done <- true } // RACE raced
+	go work()
+	go work()
+	<-done
+	<-done
+}
+
+func exits() { raced(); os.Exit(3) }
+
+func panicked() { raced(); panic("the end") }
+
+func killed() {
+	raced()
+	syscall.Kill(os.Getpid(), syscall.SIGKILL)
+	select {}
+}
+
+func deadlock() {
+	raced()
+	var mu sync.Mutex
+	mu.Lock()
+	fmt.Println("stuck")
+	mu.Lock()
+}
+
+func alone() { fmt.Println("no goroutine") }
+
+// Goroutines that live at once, more than a trace has threads.
+func thousands() {
+	var mu sync.Mutex
+	var wg sync.WaitGroup
+	n, start := 0, make(chan bool)
+	for k := 0; k < 2000; k++ {
+		wg.Add(1)
+		go func() {
+			defer wg.Done()
+			<-start
+			mu.Lock()
+			n++
+			mu.Unlock()
+		}()
+	}
+	close(start)
+	wg.Wait()
+	fmt.Println(n)
+}
+
+// Four workers sort, format and count: bench/go measures this one.
+func works() {
+	var wg sync.WaitGroup
+	var mu sync.Mutex
+	counts := map[string]int{}
+	for w := 0; w < 4; w++ {
+		wg.Add(1)
+		go func(seed int) {
+			defer wg.Done()
+			for round := 0; round < 20; round++ {
+				words := make([]string, 0, 500)
+				for k := 0; k < 500; k++ {
+					seed = seed*1103515245 + 12345
+					words = append(words, fmt.Sprintf("word%d", seed>>16&255))
+				}
+				sort.Strings(words)
+				text := strings.Join(words, " ")
+				mine := map[string]int{}
+				for _, one := range strings.Fields(text) {
+					mine[one]++
+				}
+				mu.Lock()
+				for one, n := range mine {
+					counts[one] += n
+				}
+				mu.Unlock()
+			}
+		}(w + 1)
+	}
+	wg.Wait()
+	fmt.Println(len(counts))
+}

@@ -1,0 +1,72 @@
+import java.util.concurrent.CountDownLatch;
+
+/** A race, and then an end of the sort that the first argument names. */
+public class Broken {
+    static int shared;
+    static final Object first = new Object(), second = new Object();
+
+    static void raise(int n) {
+        for (int k = 0; k < n; k++) shared++; // RACE shared
+    }
+
+    /** Many threads, each with one access. */
+    static void many(int n) throws InterruptedException {
+        Thread[] all = new Thread[n];
+        for (int k = 0; k < n; k++) {
+            all[k] = new Thread(() -> raise(1));
+            all[k].start();
+        }
+        for (Thread t : all) t.join();
+    }
+
+    static void both(Object one, Object other, CountDownLatch latch) {
+        synchronized (one) {
+            latch.countDown();
+            try {
+                latch.await();
+            } catch (InterruptedException e) {
+                throw new IllegalStateException(e);
+            }
+            System.out.println("holds");
+            synchronized (other) {
+                shared++;
+            }
+        }
+    }
+
+    static void deadlock() throws InterruptedException {
+        CountDownLatch latch = new CountDownLatch(2);
+        Thread other = new Thread(() -> both(first, second, latch));
+        other.start();
+        both(second, first, latch);
+        other.join();
+    }
+
+    static int deep(int n) {
+        return n + deep(n + 1);
+    }
+
+    static void kill() throws Exception {
+        new ProcessBuilder("kill", "-9", Long.toString(ProcessHandle.current().pid())).start().waitFor();
+        Thread.sleep(600_000);
+    }
+
+    public static void main(String[] args) throws Exception {
+        int n = Integer.parseInt(args[1]);
+        Thread other = new Thread(() -> raise(n));
+        other.start();
+        raise(n);
+        other.join();
+        switch (args[0]) {
+            case "throws": throw new IllegalStateException("on the way");
+            case "exits": System.exit(7);
+            case "halts": Runtime.getRuntime().halt(9);
+            case "kills": kill(); break;
+            case "overflows": deep(0); break;
+            case "threads": many(n); break;
+            case "locks": deadlock(); break;
+            default:
+        }
+        System.out.println("the end");
+    }
+}
