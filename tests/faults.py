@@ -5,7 +5,8 @@ Each run has to write what is wanted, or to end with the fault's status and text
 nothing else. Standard error may have several messages: those before the fault are as the case wants them.
   an allocation    `out of memory`; in a thread or a session the call's line may say so, and the others go on; beside
                    workers one slice may not be proposed, whose worker ran out of memory; or `no thread`, if the system
-                   had no memory to start one; or only notes are missing, as below
+                   had no memory to start one; or only notes are missing, as below; or at status 4 the line that
+                   says why
   a read, a file   `read failed` and nothing on standard output, or in a session the answers before it (there also
                    `write failed`, of a file that is to be made); or only notes are missing or say less, for which a
                    file is read once more
@@ -34,15 +35,34 @@ from judging import Wrong
 TOP = pathlib.Path(__file__).resolve().parent.parent
 # The kinds of calls, and how they fail.
 WAYS = [
-    ("memory", "error"), ("read", "error"), ("read", "interrupted"), ("read", "short"), ("open", "error"), ("thread", "error"),
-    ("write", "error"), ("write", "interrupted"), ("write", "short"), ("write", "nothing"), ("write", "cut"),
-]  # fmt: skip
+    ("memory", "error"),
+    ("read", "error"),
+    ("read", "interrupted"),
+    ("read", "short"),
+    ("open", "error"),
+    ("thread", "error"),
+    ("write", "error"),
+    ("write", "interrupted"),
+    ("write", "short"),
+    ("write", "nothing"),
+    ("write", "cut"),
+]
 # Those of a session's log alone.
 DISK_WAYS = [
-    ("pwrite", "error"), ("pwrite", "interrupted"), ("pwrite", "short"), ("pwrite", "nothing"), ("pwrite", "cut"),
-    ("ftruncate", "error"), ("ftruncate", "interrupted"), ("fsync", "error"), ("fsync", "interrupted"),
-    ("flock", "error"), ("link", "error"),
-]  # fmt: skip
+    ("pwrite", "error"),
+    ("pwrite", "interrupted"),
+    ("pwrite", "short"),
+    ("pwrite", "nothing"),
+    ("pwrite", "cut"),
+    ("ftruncate", "error"),
+    ("ftruncate", "interrupted"),
+    ("fsync", "error"),
+    ("fsync", "interrupted"),
+    ("flock", "error"),
+    ("link", "error"),
+]
+# How a message of the program begins; it may be a write of its own.
+NAME = b"racebench: "
 # How long the runs of one sweep may take, in seconds.
 LONGEST = 3600
 
@@ -93,7 +113,8 @@ def runs_of(made, program, words, stdin, here, way, files, left=None):
 
 
 def says_less(line, known):
-    """Whether the line is the note on a file that was not read once more, and the known note says what it looks like."""
+    """Whether the line is the note on a file that was not read once more, and the known note says what it looks
+    like."""
     kind = rb"is (?:.+, (?:and not what|not a part: )|not the log of a session: )"
     head = rb"is empty|is a log in another version|has a damaged first line"
     name = re.match(rb"note: (.+?) (?:" + kind + rb"|" + head + rb")", known)
@@ -119,7 +140,7 @@ def messages_before(wanted):
     lines = wanted.err.splitlines()
     if wanted.status in (0, 3):
         return lines
-    own = [at for at, line in enumerate(lines) if line.startswith(b"racebench: ")]
+    own = [at for at, line in enumerate(lines) if line.startswith(NAME)]
     return lines[: own[-1]] if own else []
 
 
@@ -127,13 +148,33 @@ def has_fault(run, text, wanted, behind=b""):
     """Whether the run ended with this fault, after messages that the case wants, and with notes of this beginning alone
     after it."""
     lines = run.err.removesuffix(b"\n").split(b"\n")
-    fault = b"racebench: " + text
+    fault = NAME + text
     if run.status != 1 or fault not in lines:
         return False
     at = lines.index(fault)
     known = messages_before(wanted)
     are_wanted = any(are_but_for_notes(lines[:at], known[:end]) for end in range(len(known) + 1))
     return are_wanted and all(behind and note.startswith(behind) for note in lines[at + 1 :])
+
+
+def without_notes(err):
+    """The lines that are no notes, and no tips of the reader of arguments, for which a note may stand."""
+    return [line for line in err.splitlines() if line and not line.startswith((b"note: ", b"  tip: "))]
+
+
+def differs_in_notes(run, wanted):
+    """Whether the run ended as the case wants, but for notes: the variable that turns them off could not be read."""
+    return (run.status, run.out) == (wanted.status, wanted.out) and without_notes(run.err) == without_notes(wanted.err)
+
+
+def lacks_a_reason(run, wanted):
+    """Whether the run ended with status 4 as the case wants, but for the line that says why nothing is green."""
+    lines, known = run.err.splitlines(), wanted.err.splitlines()
+    return (
+        run.status == wanted.status == 4
+        and run.out == wanted.out
+        and any(lines == known[:at] + known[at + 1 :] for at in range(len(known)) if known[at].startswith(NAME))
+    )
 
 
 def lacks_notes(run, wanted):
@@ -144,11 +185,12 @@ def lacks_notes(run, wanted):
 
 def lacks_a_write(err, known):
     """Whether a standard error is the known one, but for one write to it that failed: from some byte up to a line's
-    start, or up to the end."""
-    starts = [at + 1 for at, byte in enumerate(known) if byte == ord("\n")]
-    for start in [0, *starts, len(known)]:
-        begun, rest = err[: len(err) - len(known[start:])], known[start:]
-        if err.endswith(rest) and known[:start].startswith(begun):
+    start, to the end of a word there that begins a message, or up to the end."""
+    starts = [0, *(at + 1 for at, byte in enumerate(known) if byte == ord("\n"))]
+    begun = [start + len(word) for start in starts for word in (NAME, b"note: ") if known.startswith(word, start)]
+    for start in [*starts, *begun, len(known)]:
+        before, rest = err[: len(err) - len(known[start:])], known[start:]
+        if err.endswith(rest) and known[:start].startswith(before):
             return True
     return False
 
@@ -230,9 +272,12 @@ def is_right(run, wanted, kind, how):
         ):
             return True
         is_told = (
-            has_fault(run, b"out of memory", wanted) and wanted.out.startswith(run.out) and not (wanted.in_threads and run.out)
+            has_fault(run, b"out of memory", wanted)
+            and wanted.out.startswith(run.out)
+            and not (wanted.in_threads and run.out)
         )
-        return is_told or (wanted.err and lacks_notes(run, wanted))
+        lacks_words = lacks_notes(run, wanted) or differs_in_notes(run, wanted) or lacks_a_reason(run, wanted)
+        return is_told or (wanted.err and lacks_words)
     if kind in ("read", "open"):
         is_begun = wanted.out.startswith(run.out) if wanted.in_session else not run.out
         is_told = has_fault(run, b"read failed", wanted, b"note: ") or (
@@ -299,7 +344,11 @@ def judge_left(run, wanted, kind, log):
     if now is None and log.before is None and len(states) == 1:
         return
     # Only where a write failed may the turn at work be there: of the file, or of the answers.
-    more = lines_behind_turns(log, wanted.out)[len(states) :] if has_fault(run, b"write failed", wanted, b"note: ") else []
+    more = (
+        lines_behind_turns(log, wanted.out)[len(states) :]
+        if has_fault(run, b"write failed", wanted, b"note: ")
+        else []
+    )
     if now not in [states[-1], *more[:1]]:
         raise Wrong(f"{states[-1]} was answered, or {more[:1]} may have been, and the log that is left has {now}")
     if kind == "write" and now != (more or states[-1:])[0]:

@@ -23,7 +23,18 @@ from judging import Wrong
 TRACES = 200
 # How many lists are gone over for a trace; a trace with more is judged by its text alone.
 LISTS = 4_000
-REACHED = ["held", "several holds", "read by another", "taken name", "race", "apart", "whole", "inner", "no event", "no holds"]
+REACHED = [
+    "held",
+    "several holds",
+    "read by another",
+    "taken name",
+    "race",
+    "apart",
+    "whole",
+    "inner",
+    "no event",
+    "no holds",
+]
 
 
 def expected(events, start, most):
@@ -62,14 +73,20 @@ def judge_pairs(program, trace, start, end, size, seen):
             continue
         pair = (start + first - len(size), start + second - len(size))
         if word == "race" and pair not in shown or word == "apart" and pair in shown:
-            raise Wrong(f"{pair} is {word} in the window, and is {'' if pair in shown else 'not '}shown from {start} on")
+            raise Wrong(
+                f"{pair} is {word} in the window, and is {'' if pair in shown else 'not '}shown from {start} on"
+            )
         seen[word] += 1
 
 
 def judge(program, seed, seen):
     """A trace of this seed, and a window of it."""
     chance = random.Random(seed)
-    drawn = by_chance.locked_trace(chance, chance.choice([8, 14, 30])) if seed % 2 else by_chance.trace(chance, chance.choice([8, 14, 30]))
+    drawn = (
+        by_chance.locked_trace(chance, chance.choice([8, 14, 30]))
+        if seed % 2
+        else by_chance.trace(chance, chance.choice([8, 14, 30]))
+    )
     events = list(drawn.events)
     if events and chance.random() < 0.2:
         events = [event._replace(name="window") if event.word in ("r", "w") else event for event in events]

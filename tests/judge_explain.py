@@ -37,7 +37,8 @@ FORMS = [[], ["--script"], ["--std"], ["--svg"]]
 # What has to be reached: each verdict, what a small trace has, folded runs, each kind of link, and a chain on which a
 # chain rests on which one rests.
 REACHED = [
-    *"none candidate beyond turned forced guarded undecided small folded links|section chains|2 pictures arrows".split(),
+    *"none candidate beyond turned forced guarded undecided small folded links|section".split(),
+    *"chains|2 pictures arrows".split(),
     *["as many runs as are told", "one run more"],
     *["pictures with earlier runs", "pictures of 40 runs", "pictures of 41 runs"],
     *["pictures of 4 threads", "pictures of 5 threads", "lines that are cut", "shades"],
@@ -289,8 +290,10 @@ def judged(run):
     )
     links = sum(number for kind, number in tally.items() if kind.startswith(("links|", "SHB|", "waits|")))
     return (
-        f"explain: {tally['pairs']} pairs of {tally['traces']} traces, seeds {first} to {first + count - 1}, are told as the definitions say ({verdicts}), "
-        f"with {links} links and {tally['pictures']} pictures; {tally['none']} others are none; on {tally['small']} small traces with all {tally['reorderings']} correct reorderings"
+        f"explain: {tally['pairs']} pairs of {tally['traces']} traces, seeds {first} to {first + count - 1}, are told "
+        f"as the definitions say ({verdicts}), "
+        f"with {links} links and {tally['pictures']} pictures; {tally['none']} others are none; on {tally['small']} "
+        f"small traces with all {tally['reorderings']} correct reorderings"
     )
 
 

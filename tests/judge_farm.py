@@ -33,8 +33,8 @@ if [ "$1" = triage ] && [ "$(basename "$2")" = "two pairs.trace" ] && mkdir fail
 fi
 exec "{program}" "$@"
 """
-# A program of which two run at once on one trace, each in a job, and which for another trace is at work until its node is
-# lost.
+# A program of which two run at once on one trace, each in a job, and which for another trace is at work until its node
+# is lost.
 HELD = """#!/bin/sh
 at=${{2##*/}}
 if [ "$1 $at" = "triage count.std" ]; then
@@ -94,7 +94,9 @@ def one_machine(program):
     """The report of all traces, as one machine makes it."""
     os.mkdir("one")
     for name, trace in TRACES.items():
-        report = subprocess.run([program, "triage", trace, "--json", "--apart"], capture_output=True, check=True).stdout
+        report = subprocess.run(
+            [program, "triage", trace, "--json", "--apart"], capture_output=True, check=True
+        ).stdout
         with open(os.path.join("one", name), "wb") as out:
             out.write(report)
     return subprocess.run([program, "merge", "--json", *TRACES], capture_output=True, check=True, cwd="one").stdout
@@ -113,7 +115,9 @@ def judge_names(script):
     shutil.copy("pdsh.std", "other/count.std")
     shutil.copy("count.std", "merged.std")
     for traces in (["count.std", "other/count.std"], ["merged.std"]):
-        if ran(["sh", os.path.join(FARM, script), *traces], PARTS="none", RACEBENCH="false") != 2 or os.path.exists("none"):
+        if ran(["sh", os.path.join(FARM, script), *traces], PARTS="none", RACEBENCH="false") != 2 or os.path.exists(
+            "none"
+        ):
             raise Wrong(f"{script} takes {traces}, whose reports have one name")
 
 
@@ -127,7 +131,9 @@ def judge_parallel(wanted):
     # A trace that is refused leaves nothing merged; the others stay.
     with open("bad.std", "w", encoding="ascii") as out:
         out.write("no trace\n")
-    if ran([*words, "bad.std"], PARTS="parallel", RACEBENCH=os.path.abspath("always")) != 1 or os.path.exists(os.path.join("parallel", "merged.json")):
+    if ran([*words, "bad.std"], PARTS="parallel", RACEBENCH=os.path.abspath("always")) != 1 or os.path.exists(
+        os.path.join("parallel", "merged.json")
+    ):
         raise Wrong("parallel.sh merges although a trace was refused")
     # A trace twice counts once; one that is newer than its report is triaged again, and no other. Times of files may be
     # whole seconds.
@@ -149,7 +155,11 @@ def judge_slurm(wanted):
     judge_names("slurm.sh")
     shutil.rmtree("failed", ignore_errors=True)
     words = ["sh", os.path.join(FARM, "slurm.sh"), *TRACES.values()]
-    more = {"PARTS": "slurm", "RACEBENCH": os.path.abspath("once"), "PATH": f"{os.path.abspath('bin')}:{os.environ['PATH']}"}
+    more = {
+        "PARTS": "slurm",
+        "RACEBENCH": os.path.abspath("once"),
+        "PATH": f"{os.path.abspath('bin')}:{os.environ['PATH']}",
+    }
     if ran(words, **more) != 0 or os.path.exists(os.path.join("slurm", "merged.json")):
         raise Wrong("slurm.sh merges although a task was killed")
     if ran(words, **more) != 0:
@@ -158,7 +168,8 @@ def judge_slurm(wanted):
 
 
 def judge_nodes(wanted, slurm):
-    """The same with Slurm itself: two nodes, a task that is killed, a node that is lost, and a part that is made twice."""
+    """The same with Slurm itself: two nodes, a task that is killed, a node that is lost, and a part that is made
+    twice."""
     shutil.rmtree("failed", ignore_errors=True)
     words = ["sh", os.path.join(FARM, "slurm.sh"), "count.std", *TRACES.values()]
     more = {**slurm.environment, "PARTS": "nodes", "RACEBENCH": os.path.abspath("once")}
@@ -211,9 +222,19 @@ def judge_matrix():
     (job,) = lines_of("racebench-record --seed")
     (merge,) = lines_of("racebench merge")
     for seed in [1, 3]:
-        if subprocess.run(["bash", "-e", "-c", job.replace("${{ matrix.seed }}", str(seed))], cwd="matrix/parts", env={**os.environ, **path}, check=False).returncode != 0:
+        if (
+            subprocess.run(
+                ["bash", "-e", "-c", job.replace("${{ matrix.seed }}", str(seed))],
+                cwd="matrix/parts",
+                env={**os.environ, **path},
+                check=False,
+            ).returncode
+            != 0
+        ):
             raise Wrong("a job of matrix.yml fails")
-    done = subprocess.run(["bash", "-e", "-c", merge], cwd="matrix", env={**os.environ, **path}, capture_output=True, check=False)
+    done = subprocess.run(
+        ["bash", "-e", "-c", merge], cwd="matrix", env={**os.environ, **path}, capture_output=True, check=False
+    )
     if done.returncode != 3 or not done.stdout.startswith(b"parts 4\nraces 1\n"):
         raise Wrong(f"the last job of matrix.yml ends with {done.returncode}")
 

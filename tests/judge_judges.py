@@ -22,7 +22,8 @@ import judging
 HERE = pathlib.Path(__file__).resolve().parent
 # How long a judge may take to find what is wrong, in seconds: a machine may be slow and busy.
 LONGEST = 3600
-# What a wrong program does, in shell; `right` runs the right one, with its output in "$out" and its status in "$status".
+# What a wrong program does, in shell; `right` runs the right one, with its output in "$out" and its status in
+# "$status".
 WRONG = {
     "prints nothing": "exit 0",
     "leaves its last line out": """right "$@"; sed '$d' "$out"; exit $status""",
@@ -41,12 +42,44 @@ right "$@"; cat "$out"; exit $status""",
 for word; do last=$word; done
 if [ -d "$last" ]; then rm -f "$(ls -d "$last"/window-* | tail -n 1)"; fi
 cat "$out"; exit $status""",
-    "forgets races before a fault": """right "$@"; if [ $status -eq 1 ]; then sed -i '/^race /,$d' "$out"; fi; cat "$out"; exit $status""",
+    "judges half of a trace before a fault": """right "$@"
+if [ "$1 $status" = "triage 1" ]; then
+    folder=$(mktemp -d)
+    "$program" cut "$2" "$3" --into "$folder/windows" > "$folder/told" 2>&1
+    if [ "$(ls "$folder/windows" | wc -l)" -ge 2 ]; then
+        head -n $(($(wc -l < "$2") / 2)) "$2" > "$folder/$2"
+        (cd "$folder" && "$program" "$@") > "$out" 2>/dev/null
+    fi
+    rm -rf "$folder"
+fi
+cat "$out"; exit $status""",
+    "tells turned schedules an event too long": r"""right "$@"
+if [ "$1" = triage ]; then
+    perl -i -pe 's/ turned pairs \d+ variables \d+ events \K(\d+)/$1 + 1/e;
+        s/"events":\K(\d+)/$1 + 1/e if /"how":"turned"/' "$out"
+fi
+cat "$out"; exit $status""",
+    "exchanges two meanings": """right "$@"
+open="pairs that only the order of critical sections keeps apart: the search tries some of them"
+guarded="pairs whose two threads hold one lock: no schedule shows them"
+sed "s/$open/OPEN/; s/$guarded/$open/; s/OPEN/$guarded/" "$out"; exit $status""",
+    "has one fingerprint for all": r"""right "$@"
+case " $* " in
+    *" --source "*) cat "$out" ;;
+    *) sed -E 's/("racePair\/v1":)"([^"\\]|\\.)*"/\1"one"/g' "$out" ;;
+esac
+exit $status""",
+    "has rules of another level": """right "$@"
+sed 's/"defaultConfiguration":{"level":"error"}/"defaultConfiguration":{"level":"note"}/' "$out"; exit $status""",
+    "forgets races before a fault": """right "$@"
+if [ $status -eq 1 ]; then sed -i '/^race /,$d' "$out"; fi
+cat "$out"; exit $status""",
 }
 SCRIPT = """#!/bin/sh
 out=$(mktemp)
 trap 'rm -f "$out"' EXIT
-right() {{ "{program}" "$@" > "$out"; status=$?; }}
+program="{program}"
+right() {{ "$program" "$@" > "$out"; status=$?; }}
 {body}
 """
 # What each judge has to find; the first three are found by each judge that this does not name.
@@ -54,10 +87,18 @@ USUAL = ["prints nothing", "leaves its last line out", "leaves the last digit ou
 FOUND = {
     "judge_notes": ["prints nothing", "writes a line more on standard error"],
     "judge_package": ["prints nothing", "has other flags"],
+    "judge_page": [*USUAL, "exchanges two meanings"],
     "judge_places": ["prints nothing", "cuts its last argument"],
     "judge_progress": ["writes a line more on standard error"],
+    "judge_sarif": [*USUAL, "has one fingerprint for all", "has rules of another level"],
     "judge_texts": [*USUAL, "writes a line more on standard error", "always ends well"],
-    "judge_windows": [*USUAL, "writes a window less", "forgets races before a fault"],
+    "judge_triage": [*USUAL, "tells turned schedules an event too long"],
+    "judge_windows": [
+        *USUAL,
+        "writes a window less",
+        "forgets races before a fault",
+        "judges half of a trace before a fault",
+    ],
     "judge_words": ["prints nothing", "always ends well", "cuts its last argument"],
 }
 # Arguments that make a judge look at little, since it goes on after a wrong answer.
@@ -66,7 +107,10 @@ ARGUMENTS = {"judge_pages": ["docs/EXPLAIN.md"], "judge_record": ["tests/recorde
 NOTHING = {
     "judge_pages": ["CHANGELOG.md"],
     "judge_record": ["no such case"],
-    **{f"judge_{name}": ["0"] for name in "cut left merge merged_sarif places questions sarif triage triage_file windows".split()},
+    **{
+        f"judge_{name}": ["0"]
+        for name in "cut left merge merged_sarif places questions sarif triage triage_file windows".split()
+    },
 }
 
 # The gate, and parts of it that stand in for the real ones; all others are missing. It finds no other commands.
@@ -131,7 +175,7 @@ def cases_of(run: judging.Run, judges: list[str]) -> list[tuple[str, str, list[s
 
 
 def judged(run: judging.Run) -> None:
-    names = [path.stem for path in sorted(HERE.glob("judge_*.py")) if path.stem != "judge_judges"]
+    names = [path.stem for path in sorted(HERE.glob("judge_*.py")) if path.stem not in ("judge_judges", "judge_lint")]
     judges = [name for name in names if not run.texts or name in run.texts]
     cases = cases_of(run, judges)
     with concurrent.futures.ThreadPoolExecutor(len(os.sched_getaffinity(0))) as pool:

@@ -122,7 +122,10 @@ class Wanted:
             f"{access['thread']}|{access['operation']}({access['variable']})|{access['location']}"
             for access in pair.told["accesses"]
         ]
-        has = lambda text: any(text in line for line in lines)
+
+        def has(text):
+            return any(text in line for line in lines)
+
         return not any(map(has, self.hide)) and (not self.only or any(map(has, self.only)))
 
     def left(self, parts):
@@ -185,7 +188,9 @@ def known_text(chance, pairs):
 def drawn_entry(chance, pairs):
     """An entry that resembles a pair, or anything."""
     pair = chance.choice(pairs) if pairs and chance.random() < 0.9 else None
-    accesses = pair.told["accesses"] if pair else [{"location": place} for place in chance.sample(judge_merge.PLACES, 2)]
+    accesses = (
+        pair.told["accesses"] if pair else [{"location": place} for place in chance.sample(judge_merge.PLACES, 2)]
+    )
     locations = [access["location"] for access in accesses]
     sides = [side_of(location) for location in locations]
     if chance.random() < 0.4:
@@ -247,7 +252,10 @@ class Judge(judge_merge.Judge):
         if out.split(b"\n")[1 : 1 + len(parts)] != whole[1 : 1 + len(parts)]:
             raise Wrong("the parts are not whole")
         named = {places_of(pair) for pair in stay}
-        ends = lambda line: tuple(json.loads(line)[name].encode() for name in ("first", "second"))
+
+        def ends(line):
+            return tuple(json.loads(line)[name].encode() for name in ("first", "second"))
+
         pairs = [line for line in whole[1 + len(parts) : -1] if ends(line) in named]
         if out.split(b"\n")[1 + len(parts) : -1] != pairs:
             raise Wrong(f"the pairs are {objects[1 + len(parts) :]} and not {pairs}")

@@ -3,14 +3,16 @@
 
 Takes the program's path, how many lists of parts to draw, and the first seed. The parts are merged at once; in another
 order, with some of them twice; and in groups whose merged reports are merged. Each must print the same text, and the
-same JSON. The page is read as a browser's parser would read it, and has a row for each pair of locations. A part that is cut anywhere is refused, and so are lines that are no line of a report, another version, and
-two parts of one name. Some parts are what `triage --json` prints of drawn traces. Says what is wrong, if something is,
-and ends with status 1 then, also if something that has to be seen was never met.
+same JSON. The page is read as a browser's parser would read it, and has a row for each pair of locations. A part that
+is cut anywhere is refused, and so are lines that are no line of a report, another version, and two parts of one name.
+Some parts are what `triage --json` prints of drawn traces. Says what is wrong, if something is, and ends with status 1
+then, also if something that has to be seen was never met.
 """
 
 import collections
 import json
 import os
+import pathlib
 import random
 import sys
 import tempfile
@@ -19,18 +21,48 @@ sys.dont_write_bytecode = True
 import by_chance
 import judge_page
 import judging
+import missing
 import plain
 import running
 from judging import Wrong
 
 LISTS = 150
 PLACES = ["a.c:1 < f", "a.c:2", "b.c:10", "b.c:9", "é.c:3", "", 'q"\\.c:4', "<b>&.c:5 < </td>"]
-REACHED = ["race", "undecided", "apart", "least", "unmet", "twice", "grouped", "cut", "cut at a line", "refused", "other version", "clash", "clash behind others", "spoiled", "failed", "no events", "triage", "no parts apart", "page", "escaped"]
+REACHED = [
+    "race",
+    "undecided",
+    "apart",
+    "least",
+    "unmet",
+    "twice",
+    "grouped",
+    "cut",
+    "cut at a line",
+    "refused",
+    "other version",
+    "clash",
+    "clash behind others",
+    "spoiled",
+    "failed",
+    "no events",
+    "triage",
+    "no parts apart",
+    "page",
+    "escaped",
+    "not whole",
+]
 
 
 def access(chance, place):
     holds = chance.sample(["m", "n", "mü"], chance.choice([0, 0, 1, 2]))
-    return {"event": chance.randint(0, 40), "holds": holds, "location": place, "operation": chance.choice("rw"), "thread": chance.choice(["T1", "T2"]), "variable": chance.choice(["x", "y", "<i>x"])}
+    return {
+        "event": chance.randint(0, 40),
+        "holds": holds,
+        "location": place,
+        "operation": chance.choice("rw"),
+        "thread": chance.choice(["T1", "T2"]),
+        "variable": chance.choice(["x", "y", "<i>x"]),
+    }
 
 
 def row(chance, places):
@@ -39,7 +71,11 @@ def row(chance, places):
     if kind != "apart":
         told["variables"] = chance.randint(1, 3)
     if kind == "race":
-        told |= {"events": chance.randint(0, 4), "how": chance.choice(["candidate", "beyond", "turned"]), "threads": chance.randint(2, 3)}
+        told |= {
+            "events": chance.randint(0, 4),
+            "how": chance.choice(["candidate", "beyond", "turned"]),
+            "threads": chance.randint(2, 3),
+        }
     if kind == "undecided":
         told["tried"] = chance.randint(0, 16)
     return told
@@ -50,7 +86,10 @@ def part(chance):
     pairs = [(one, other) for one in PLACES for other in PLACES if one <= other]
     rows = [row(chance, chance.sample(pair, 2)) for pair in chance.sample(pairs, chance.choice([0, 1, 2, 5, 12]))]
     rows.sort(key=lambda told: plain.RANKS.index(told["kind"]))
-    counts = {word: sum(told["kind"] == kind for told in rows) for word, kind in [("races", "race"), ("undecided", "undecided"), ("apart", "apart")]}
+    counts = {
+        word: sum(told["kind"] == kind for told in rows)
+        for word, kind in [("races", "race"), ("undecided", "undecided"), ("apart", "apart")]
+    }
     if chance.random() < 0.2:
         rows = [told for told in rows if told["kind"] != "apart"]
     events = 0 if not rows and chance.random() < 0.9 else chance.randint(0, 99)
@@ -82,7 +121,11 @@ def row_of(pair, parts):
     ]
     first, second = (access["event"] for access in told["accesses"])
     accesses = [
-        (access["event"], f"{access['thread']}|{access['operation']}({access['variable']})|{access['location']}", access["holds"])
+        (
+            access["event"],
+            f"{access['thread']}|{access['operation']}({access['variable']})|{access['location']}",
+            access["holds"],
+        )
         for access in told["accesses"]
     ]
     races, undecided, apart = counts
@@ -127,7 +170,9 @@ class Judge:
     def refused(self, words, text):
         """The fault that is told of the words, before which nothing is written."""
         if running.ended(self.program, ["merge", *words]) != (1, b"", f"racebench: {text}\n".encode()):
-            raise Wrong(f"merge {words} does not end with `{text}`, but {running.ended(self.program, ['merge', *words])}")
+            raise Wrong(
+                f"merge {words} does not end with `{text}`, but {running.ended(self.program, ['merge', *words])}"
+            )
         self.seen["refused"] += 1
 
     def list_of(self, chance, seed):
@@ -148,7 +193,11 @@ class Judge:
         for objects in parts.values():
             self.seen.update(told["kind"] for told in objects[1:])
             self.seen["no parts apart"] += objects[0]["apart"] > sum(told["kind"] == "apart" for told in objects[1:])
-        met = collections.Counter(tuple(sorted(access["location"] for access in told["accesses"])) for objects in parts.values() for told in objects[1:])
+        met = collections.Counter(
+            tuple(sorted(access["location"] for access in told["accesses"]))
+            for objects in parts.values()
+            for told in objects[1:]
+        )
         self.seen["least"] += any(count > 1 for count in met.values())
         self.seen["unmet"] += any(count < len(parts) for count in met.values())
 
@@ -219,7 +268,10 @@ class Judge:
         lines = text[:at].count(b"\n")
         kept = objects[:lines]
         write("cut", text[:at])
-        whole = text[:at].endswith(b"\n") and all(sum(told["kind"] == kind for told in kept) == objects[0][word] for word, kind in [("races", "race"), ("undecided", "undecided")])
+        whole = text[:at].endswith(b"\n") and all(
+            sum(told["kind"] == kind for told in kept) == objects[0][word]
+            for word, kind in [("races", "race"), ("undecided", "undecided")]
+        )
         if whole and not any(told["kind"] == "apart" for told in kept):
             self.same(["cut"], {"cut": kept})
         else:
@@ -281,7 +333,32 @@ class Judge:
                 raise Wrong(f"--fail {flags} ends with {found} and {err} and not with {status} and {line}")
         self.seen["failed"] += races
         self.seen["no events"] += status == 4
+        self.judge_absent(chance, parts, races)
         self.judge_refusals(chance, parts)
+
+    def judge_absent(self, chance, parts, races):
+        """Judges the report if some parts say that their recordings are not whole, by the one if none does."""
+        form = chance.choice(["", "--page", "--sarif"])
+        words = [*parts, *[form] * bool(form)]
+        plain_report = self.printed(words)
+        names = chance.sample(list(parts), chance.randint(1, len(parts)))
+        texts = {name: pathlib.Path(name).read_bytes() for name in names}
+        for name, text in texts.items():
+            write(name, missing.said("--json", chance.choice(missing.ENDS[2:])[1], text))
+        absent = f"{len(names)} of {len(parts)} part" + "s" * (len(parts) != 1)
+        status, out, err = running.ended(self.program, ["merge", *words, "--fail"])
+        if missing.sorted_log(form, absent, out) != missing.said(form, absent, plain_report):
+            raise Wrong(f"{words} with {absent} not whole prints {out!r}")
+        _, line = failed(parts, races)
+        line += b"" if races else f"racebench: not whole: {absent}\n".encode()
+        if (status, err) != (3 if races else 4, line):
+            raise Wrong(f"--fail with {absent} not whole ends with {status} and {err!r}")
+        head = json.loads(self.printed([*parts, "--json"]).splitlines()[0])
+        if head.get("absent") != absent:
+            raise Wrong(f"JSON says {head}, and {absent} are not whole")
+        for name, text in texts.items():
+            write(name, text)
+        self.seen["not whole"] += 1
 
 
 def judged(run):
@@ -291,7 +368,9 @@ def judged(run):
             os.chdir(folder)
             judge.judge(seed)
             os.chdir("/")
-    return f"{run.numbers[0]} lists of parts: " + ", ".join(f"{what} {count}" for what, count in sorted(run.tally.items()))
+    return f"{run.numbers[0]} lists of parts: " + ", ".join(
+        f"{what} {count}" for what, count in sorted(run.tally.items())
+    )
 
 
 if __name__ == "__main__":

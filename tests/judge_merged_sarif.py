@@ -173,7 +173,9 @@ class Judge(judge_sarif.Judge):
             os.makedirs(os.path.dirname(f"code/{name}"), exist_ok=True)
             with open(f"code/{name}", "w", encoding="utf-8") as out:
                 out.write(text)
-        parts = {name: self.part_of(chance, seed, name) for name in chance.sample(NAMES, chance.randint(1, len(NAMES)))}
+        parts = {
+            name: self.part_of(chance, seed, name) for name in chance.sample(NAMES, chance.randint(1, len(NAMES)))
+        }
         for flags in ([], ["--apart"]):
             for folder in ("", "code", os.path.abspath("code")):
                 self.check_log(parts, flags, folder)

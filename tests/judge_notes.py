@@ -1,6 +1,6 @@
 #!/usr/bin/env python3
-"""Judges when the program writes notes: on a terminal, and if RACEBENCH_NOTES is 1. Elsewhere a fault is one line on
-standard error.
+"""Judges when the program writes notes. `info`, `replay`, `threads` and the program without arguments write them on a
+terminal alone, all others always. RACEBENCH_NOTES decides if it is 1 or 0.
 
 Takes the program's path. Says what is wrong, if something is, and ends with status 1 then.
 """
@@ -19,7 +19,7 @@ from judging import Wrong
 # The note on an event that is named twice.
 TWICE = "both numbers are event 0: a pair has two events"
 # The notes on a joint text: what is read from a terminal, and that there is no script.
-READING = "note: type a trace, a line `---` and a script, or see `racebench help`\n"
+READING = "note: type a trace, a line `---` and a script, or see `racebench --help`\n"
 NO_SCRIPT = "note: there is no line `---`, so there is no script\n"
 # The note on locks that are held before a window.
 LATE = "note: more locks are held there than a later window may begin with: pass an earlier event to `--window`\n"
@@ -75,6 +75,8 @@ UNWRITTEN = [
     (["cut", "good", "--into", "held"], "a pipe", "held/window-000000000.std cannot be written: permission denied"),
     (["cut", "good", "--into", "none/new"], "a pipe", "none/new cannot be written: its folder does not exist"),
 ]
+# The commands that write no notes off a terminal; so does the program without arguments.
+QUIET = ("info", "replay", "threads")
 # Words that name what a user may not read or write.
 SHUT = ("shut", "in/good", "kept", "held", "held/log", "held/new")
 # How each line of a script is written.
@@ -101,7 +103,10 @@ def runs():
     for word, usage in USAGES.items():
         line = f"7 {word}" + " A 0 B 1" * (word in ("undo", "list"))
         running.write(f"script_{word}", f"\n{line}\n")
-        told = f"note: line 2 of script_{word} is `{line}`\nnote: the command is `{word}`\nnote: it is written `{usage}`\n"
+        told = (
+            f"note: line 2 of script_{word} is `{line}`\nnote: the command is `{word}`\nnote: it is written "
+            f"`{usage}`\n"
+        )
         scripts.append((["replay", "good", f"script_{word}"], "racebench: script line 2: 81 bad word\n", told))
     return RUNS + scripts
 
@@ -110,6 +115,11 @@ def user_of(words):
     """What makes a run on files that may not be read that of a user for whom it is so."""
     is_shut = any(word in SHUT for word in words)
     return {"user": 65534, "group": 65534, "extra_groups": []} if is_shut and os.geteuid() == 0 else {}
+
+
+def off_terminal(words, line, notes):
+    """What is written off a terminal if the environment does not decide."""
+    return line if not words or words[0] in QUIET else line + notes
 
 
 def environment(value):
@@ -187,9 +197,11 @@ def through_output(program, words, how, value):
 def judge_unwritten(program, tally):
     """Judges the notes on what was not written."""
     for words, how, note in UNWRITTEN:
-        told = "racebench: write failed\n"
-        judge(words, f"with {how} and no notes", through_output(program, words, how, None), told)
-        judge(words, f"with {how}", through_output(program, words, how, "1"), f"{told}note: {note}\n")
+        told, noted = "racebench: write failed\n", f"note: {note}\n"
+        judge(words, f"with {how} and no notes", through_output(program, words, how, "0"), told)
+        usual = off_terminal(words, told, noted)
+        judge(words, f"with {how}, by default", through_output(program, words, how, None), usual)
+        judge(words, f"with {how}", through_output(program, words, how, "1"), told + noted)
         tally["unwritten"] += 1
 
 
@@ -238,8 +250,10 @@ def judged(run):
     os.chmod(".", 0o755)
     make_files(program)
     for words, line, notes in runs():
-        for value in (None, "0", "", "11"):
-            judge(words, f"with RACEBENCH_NOTES {value!r}", through_pipe(program, words, value), line)
+        judge(words, "with RACEBENCH_NOTES 0", through_pipe(program, words, "0"), line)
+        usual = off_terminal(words, line, notes)
+        for value in (None, "", "11"):
+            judge(words, f"with RACEBENCH_NOTES {value!r}", through_pipe(program, words, value), usual)
         judge(words, "with RACEBENCH_NOTES 1", through_pipe(program, words, "1"), line + notes)
         judge(words, "on a terminal", on_terminal(program, words), line + notes)
         run.tally["runs"] += 1

@@ -66,7 +66,9 @@ class Words:
 
 def page_lacks(words):
     page = re.sub(r"\\f[A-Z]", "", text_of("package", "racebench.1")).replace("\\-", "-").replace("\\ ", " ")
-    faults = part(r"^## Faults\n(.*?)^### ", text_of("docs", "FORMATS.md"), "table of faults in docs/FORMATS.md")
+    faults = part(
+        r"^## Faults\n(.*?)^### ", text_of("docs", "formats", "faults.md"), "table of faults in docs/formats/faults.md"
+    )
     wanted = [
         f"command {name}" for name in words.commands if not re.search(rf"^\.B[IR]? {name}\b", page, re.MULTILINE)
     ]
@@ -139,7 +141,7 @@ def recorder_page_lacks(command, page):
     page = page.replace("\\-", "-").replace("\\fB", "").replace("\\fR", "")
     wanted = [f"section {name}" for name in ("NAME", "SYNOPSIS", "DESCRIPTION") if f"\n.SH {name}\n" not in page]
     named = set(re.findall(r"(?<![\w-])--[a-z][\w-]*", man_pages.told(command)))
-    if command not in ("racebench-cc", "racebench-c++") and not named:
+    if command not in ("racebench-cc", "racebench-c++", "racebench-rustc") and not named:
         wanted.append("any option")
     return wanted + [f"option {word}" for word in sorted(named) if not re.search(rf"(?<![\w-]){word}(?![\w-])", page)]
 

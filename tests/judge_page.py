@@ -267,7 +267,9 @@ def left_out(lines):
     """What the first line of the page says of rows that the text counts behind its blocks."""
     counts = dict(line.decode("ascii").split() for line in lines if re.fullmatch(rb"(known|hidden) \d+", line))
     said = f"; {counted(counts['known'], 'known race')} left out" if "known" in counts else ""
-    return said + (f"; {counted(counts['hidden'], 'pair')} left out by --only and --hide" if "hidden" in counts else "")
+    return said + (
+        f"; {counted(counts['hidden'], 'pair')} left out by --only and --hide" if "hidden" in counts else ""
+    )
 
 
 def facts_of(block):
@@ -280,8 +282,8 @@ def facts_of(block):
     if block.sort == "undecided":
         return begin + f"undecided, {of}, {facts['tried']} tried"
     return (
-        begin
-        + f"{block.facts[0]}, {of}, a schedule of {counted(facts['events'], 'event')} of {counted(facts['threads'], 'thread')}"
+        begin + f"{block.facts[0]}, {of}, a schedule of {counted(facts['events'], 'event')} of "
+        f"{counted(facts['threads'], 'thread')}"
     )
 
 
@@ -437,19 +439,29 @@ def entry_on(entries, locations):
 
 
 WHY = {
-    "not followed": "No line of the file has these two locations, so nothing is known of this race on the real program.",
+    "not followed": "No line of the file has these two locations, so nothing is known of this race on the real "
+    "program.",
     "departed": "The run went another way than the schedule, so the race did not stand",
     "other memory": "Both threads were at their accesses, on different memory",
     "order matters": "The order matters",
     "same in both orders": "The program ended the same with either access first",
     "order not known": "Whether the order matters is not known",
 }
-ELSEWHERE = "The two locations are those of this race, and the events are not. The file is of another recording, or of another triage of this one."
-BESIDE = "The word beside a race is what following it on the real program came to, once with each access first. Runs showed it, and it is not proved. The file has "
+ELSEWHERE = (
+    "The two locations are those of this race, and the events are not. The file is of another recording, or "
+    "of another triage of this one."
+)
+BESIDE = (
+    "The word beside a race is what following it on the real program came to, once with each access first. Runs "
+    "showed it, and it is not proved. The file has "
+)
 UNLISTED = "Pairs of places that are apart have no rows here; with --apart they have."
 ACCESSES = ["Event", "Line of the trace", "Locks held before it"]
 FOLLOWED = ["Access", "Event", "Place", "How the program ended with it first"]
-DRAWN = "A column is a thread, a box is a run of its events, and time goes downwards. Of a long schedule the picture has the last runs, and the last of those that they waited for."
+DRAWN = (
+    "A column is a thread, a box is a run of its events, and time goes downwards. Of a long schedule the picture "
+    "has the last runs, and the last of those that they waited for."
+)
 ALL_TOLD = "All runs are listed in words below."
 LAST_TOLD = "The last runs are listed in words below, and the command under them prints all."
 # So many rows of each sort, pictures, and runs in words a page has at most.
@@ -457,12 +469,37 @@ MOST_ROWS = 2000
 MOST_PICTURES = 200
 MOST_TOLD = 2000
 # What is said of words at the end of a page, behind how it begins.
-MEANINGS = {
-    "A place is ": "the location of an access in the source. Two places are a race if a schedule brings an access at each of them next in its thread. A schedule is an order of events of this trace that the program could have taken too.",
-    "An access is next in its thread ": "if all that comes before it there has happened, and it has not. If two accesses of one variable are both next and one of them writes, nothing keeps the two threads from making them at once. That is a data race.",
-    "Two places are apart ": "if no schedule of this trace shows a race of them, and undecided if the search found neither. A read keeps the write that it saw, so places that are apart here may race in another run.",
+# What each count means, word by word.
+COUNTED = {
+    "events": "lines of the trace",
+    "threads": "threads of the trace",
+    "pairs": "pairs of events that conflict: two threads access one variable, and one of them writes",
+    "candidates": "pairs that no lock, fork, join or read in the trace keeps apart: a schedule shows each",
+    "open": "pairs that only the order of critical sections keeps apart: the search tries some of them",
+    "guarded": "pairs whose two threads hold one lock: no schedule shows them",
+    "forced": "pairs whose order every schedule keeps: no schedule shows them",
+    "places": "pairs of places where a pair of events has its two accesses",
+    "races": "pairs of places for which a schedule was found",
+    "undecided": "pairs of places that the search left open",
+    "apart": "pairs of places whose pairs of events are all guarded or forced",
 }
-BESIDE_RACES = "Beside a race: order matters, if the program ended or printed otherwise with the other access first; same in both orders; order not known, if its output varies by itself; other memory, if the two accesses were on different memory; departed, if the run went another way than the schedule; not followed, if the file has no line on it. This is what runs showed, and no proof rests on it."
+MEANINGS = {
+    "A place is ": "the location of an access in the source. Two places are a race if a schedule brings an access at "
+    "each of them next in its thread. A schedule is an order of events of this trace that the program "
+    "could have taken too.",
+    "An access is next in its thread ": "if all that comes before it there has happened, and it has not. If two "
+    "accesses of one variable are both next and one of them writes, nothing keeps "
+    "the two threads from making them at once. That is a data race.",
+    "Two places are apart ": "if no schedule of this trace shows a race of them, and undecided if the search found "
+    "neither. A read keeps the write that it saw, so places that are apart here may race in "
+    "another run.",
+}
+BESIDE_RACES = (
+    "Beside a race: order matters, if the program ended or printed otherwise with the other access first; "
+    "same in both orders; order not known, if its output varies by itself; other memory, if the two "
+    "accesses were on different memory; departed, if the run went another way than the schedule; not "
+    "followed, if the file has no line on it. This is what runs showed, and no proof rests on it."
+)
 
 
 def beside(entry):
@@ -596,7 +633,10 @@ class Judge:
             raise Wrong(f"{len(pictures)} pictures")
         if is_drawn:
             self.judge_schedule(row, list(row.all("pre"))[followed], block, name)
-        heads = ["The two accesses", *["Seen in a run, not proved"] * (self.followed is not None and block.sort == "race")]
+        heads = [
+            "The two accesses",
+            *["Seen in a run, not proved"] * (self.followed is not None and block.sort == "race"),
+        ]
         heads += ["A schedule that shows them", "Its runs in words"] * is_drawn + ["To go on"]
         if [head.text() for head in row.all("h4")] != heads:
             raise Wrong(f"the headings of a row are not {heads}")
@@ -628,11 +668,7 @@ class Judge:
         if root.one("h1").text() != first or root.one("head").one("title").text() != first:
             raise Wrong(f"the first line is {root.one('h1').text()!r}, and plainly {first!r}")
         sections = list(root.one("main").all("section"))
-        counts = [
-            f"{line.one('th').text()} {next(line.all('td')).text()}" for line in sections[-2].one("tbody").all("tr")
-        ]
-        if counts != [line.decode("ascii") for line in lines[:11]]:
-            raise Wrong(f"the counts are {counts}")
+        self.judge_counts(sections[-2].one("tbody"), lines[:11])
         sorts = ["race", "undecided"] + ["apart"] * ("--apart" in words)
         headings = ["Races", "Undecided", "Apart"][: len(sorts)] + ["Counts", "What the words mean"]
         if [section.one("h2").text() for section in sections] != headings:
@@ -640,6 +676,14 @@ class Judge:
         for sort, section in zip(sorts, sections):
             self.judge_section(section, sort, [block for block in blocks if block.sort == sort], name)
         self.judge_words(root.one("main"), sections[-1], lines[11:], "--apart" in words)
+
+    def judge_counts(self, table, lines):
+        """Judges the table of counts: each line has a word, its number and what it means."""
+        told = [tuple(cell.text() for cell in line.children) for line in table.all("tr")]
+        words = [line.decode("ascii").split(" ") for line in lines]
+        wanted = [(word, number, COUNTED[word]) for word, number in words]
+        if told != wanted:
+            raise Wrong(f"the counts are {told}, and plainly {wanted}")
 
     def judge_words(self, main, meanings, left, is_apart):
         """Judges what stands between the rows and the counts, and what the words mean."""
@@ -860,7 +904,10 @@ def judged(run):
     kinds = (
         f"{tally['race']} races, {tally['undecided']} undecided, {tally['apart']} apart, {tally['picture']} pictures"
     )
-    return f"page: {count} traces, seeds {first} to {first + count - 1}, and {len(NAMES)} names: {kinds}, as the texts say"
+    return (
+        f"page: {count} traces, seeds {first} to {first + count - 1}, and {len(NAMES)} names: {kinds}, as the "
+        f"texts say"
+    )
 
 
 if __name__ == "__main__":

@@ -23,6 +23,7 @@ import threading
 
 sys.dont_write_bytecode = True
 import judging
+import recorded_rust
 
 TOP = pathlib.Path(__file__).resolve().parent.parent
 LINKED = ("examples", "record", "screen")
@@ -30,11 +31,13 @@ LINKED = ("examples", "record", "screen")
 LONGEST = 900
 # A recording is made again so often if the machine was so busy that a thread lost its turn by force.
 AGAIN = 3
-# Programs that sleep: each recording has other turns, and `record/confirm` prints its races in another order. What comes
-# after a race is a matter of time too: where threads wait long for a processor, about one `record/confirm` in six has
-# another ending. So their commands are typed again if they print something else, up to so many times in all.
+# Programs that sleep: each recording has other turns, and `record/confirm` prints its races in another order. What
+# comes after a race is a matter of time too: where threads wait long for a processor, about one `record/confirm` in
+# six has another ending. So their commands are typed again if they print something else, up to so many times in all.
 SLEEPS = r"\b(?:watchdog|mended)\b"
 TRIES = 12
+# The version of Rust whose library the page about Rust has been recorded with.
+RUST_OF_PAGE = "1.96.0"
 # Commands that are not typed: the page, how the command begins, and why.
 LEFT_OUT = [
     ("docs/BUILDS.md", "cmake", "needs CMake and a project"),
@@ -47,17 +50,18 @@ LEFT_OUT = [
     ),
     ("docs/CONFIRM.md", "racebench triage watchdog.std", "names events of one recording of a program that sleeps"),
     ("docs/CONFIRM.md", "racebench witness watchdog.std", "names events of one recording of a program that sleeps"),
-    ("docs/CONFIRM.md", "record/follow --then both", "names events of one recording of a program that sleeps"),
+    ("docs/CHECK.md", "record/check", "counts races of a program that sleeps"),
+    ("docs/CONFIRM.md", "record/confirm", "counts races of a program that sleeps"),
+    ("docs/CONFIRM.md", "record/follow --then all", "names events of one recording of a program that sleeps"),
+    ("docs/TUTORIAL.md", "record/confirm watchdog.std", "counts races of a program that sleeps"),
+    ("docs/GO.md", "", "needs a Go program that the page shows in part"),
     ("docs/CONFIRM.md", "record/follow --gdb", "needs gdb, and a reader at it"),
-    ("docs/CONFIRM.md", "./configure", "needs the sources of pdsh"),
-    ("docs/CONFIRM.md", "$R/", "needs the sources of pdsh"),
-    ("docs/CONFIRM.md", "racebench witness pdsh.std", "names events of one recording of pdsh"),
-    ("docs/RECORDING.md", "export RUSTC_BOOTSTRAP", "needs rustc"),
-    ("docs/RECORDING.md", "rustc", "needs rustc"),
-    ("docs/RECORDING.md", "$R/run ./race", "runs what rustc built"),
-    ("docs/RECORDING.md", "racebench triage race.std", "reads what a program of Rust did"),
     ("docs/SCREEN.md", "screen/screen", "needs a browser"),
 ]
+if shutil.which("javac") is None:
+    LEFT_OUT += [("docs/JAVA.md", "", "needs a JDK")]
+if recorded_rust.why_left_out(RUST_OF_PAGE):
+    LEFT_OUT += [("docs/RUST.md", "", f"needs the library of Rust {RUST_OF_PAGE} with hooks")]
 if shutil.which("parallel") is None:
     LEFT_OUT += [
         ("docs/FARM.md", "sh examples/farm/parallel.sh", "needs GNU parallel"),
@@ -84,6 +88,7 @@ def settled(command, lines):
     text = re.sub(r"\b0x[0-9a-f]{5,}\b(?:\.\.)?|\b[0-9a-f]{10,}\b", "ADDRESS", "\n".join(lines))
     if re.search(SLEEPS, command):
         text = re.sub(r"\d+ events, \d+ turns", "N events, M turns", text)
+        text = re.sub(r"order \d+ accesses of \d+ variables", "order N accesses of M variables", text)
         text = "\n".join(sorted(text.splitlines())) if "record/confirm" in command else text
     return text.splitlines()
 

@@ -217,7 +217,10 @@ def judged(run):
         with judging.about(f"seed {seed}", "trace"):
             judge.judge_trace(located, chance)
     kinds = ", ".join(f"{tally[kind]} {kind}" for kind in REACHED)
-    return f"places: {tally['questions']} questions on {tally['traces']} traces, {tally['pairs']} with a pair, are answered as the rules say ({kinds})"
+    return (
+        f"places: {tally['questions']} questions on {tally['traces']} traces, {tally['pairs']} with a pair, are "
+        f"answered as the rules say ({kinds})"
+    )
 
 
 if __name__ == "__main__":

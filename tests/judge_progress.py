@@ -64,7 +64,8 @@ class Shown:
         tty.setraw(theirs)
         with open(output, "wb") if output else os.fdopen(os.dup(theirs), "wb") as out:
             start = time.monotonic()
-            run = subprocess.Popen([program, *words], stdin=subprocess.DEVNULL, stdout=out, stderr=theirs)
+            as_told = {name: value for name, value in os.environ.items() if name != "RACEBENCH_NOTES"}
+            run = subprocess.Popen([program, *words], stdin=subprocess.DEVNULL, stdout=out, stderr=theirs, env=as_told)
         os.close(theirs)
         self.quiet, sent = None, b""
         try:
@@ -211,7 +212,10 @@ def judged(run):
     judge_quick(run.program)
     judge_windows(run.program)
     run.tally["lines"], pairs = judge_long(run.program)
-    return f"progress: {run.tally['lines']} lines told of {pairs} pairs of places in three runs, each was wiped out, and nothing came where no terminal is"
+    return (
+        f"progress: {run.tally['lines']} lines told of {pairs} pairs of places in three runs, each was wiped out, "
+        f"and nothing came where no terminal is"
+    )
 
 
 if __name__ == "__main__":

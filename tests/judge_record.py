@@ -8,6 +8,7 @@ Says what is wrong; the last line is `N passed, M failed`. If no C compiler with
 and a line says so.
 """
 
+import multiprocessing
 import os
 import re
 import subprocess
@@ -19,13 +20,23 @@ import judging
 import recorded_chance
 import recorded_ci
 import recorded_counts
+import recorded_deadlocks
+import recorded_drawn
 import recorded_follow
+import recorded_go
+import recorded_java
+import recorded_labelled
+import recorded_leaving
+import recorded_names
 import recorded_options
 import recorded_places
 import recorded_planted
 import recorded_reports
 import recorded_runs
+import recorded_rust
 import recorded_strangers
+import recorded_tries
+import recorded_whole
 from judging import Wrong
 
 TOP = os.path.dirname(os.path.dirname(os.path.abspath(__file__)))
@@ -34,6 +45,8 @@ RECORD = os.path.join(TOP, "record")
 PATIENCE = recorded_places.PATIENCE
 # Runs of each program; every further compiler makes one.
 SEEDS = (1, 2, 3)
+# Runs of each program where locks come between, so that each order of the locks is met.
+MANY = tuple(range(1, 21))
 # A recording is made again so often if the machine was so busy that a thread lost its turn by force.
 AGAIN = recorded_places.AGAIN
 # Each program, the words for the recorder, and the pairs of lines that race in it: RACE are the lines that say so, and
@@ -44,11 +57,13 @@ PROGRAMS = [
     ("tests/recorded/each_kind.c", ["--yield", "1"], {"RACE"}),
     ("tests/recorded/each_kind.cpp", [], {"RACE"}),
     ("tests/recorded/barrier.c", [], set()),
+    ("tests/recorded/polls.c", [], {"RACE"}),
     ("tests/recorded/rounds.c", [], {"RACE"}),
     ("tests/recorded/semaphore_lock.c", [], {"TRIAGED"}),
     ("tests/recorded/relaxed.c", [], {"RACE"}),
     ("tests/recorded/read_lock.c", [], {"RACE"}),
     ("tests/recorded/between_writers.c", [], {"TRIAGED"}),
+    ("tests/recorded/read_often.c", [], {"TRIAGED"}),
     ("tests/recorded/freed.c", ["--no-free"], set()),
     ("tests/recorded/freed.c", [], {("freed.c:11", "freed.c:6")}),
     ("tests/recorded/signals.c", [], {"RACE"}),
@@ -57,9 +72,12 @@ PROGRAMS = [
     ("tests/recorded/teams.c", [], {"RACE"}),
     ("tests/recorded/region.c", [], {"RACE"}),
     ("tests/recorded/taskloop.c", [], set()),
+    ("tests/recorded/rust_locks.c", [], {"TRIAGED"}),
 ]
 # Those with OpenMP, of which the recorder knows the one of GCC.
 OPENMP = ("openmp.c", "teams.c", "region.c", "taskloop.c")
+# The program that has a child process, so that its recording is not whole.
+FORKS = "each_kind.c"
 
 
 def done(words, wanted=0, **more):
@@ -100,30 +118,25 @@ def lines_at_race(source):
 def candidates(racebench, trace):
     """The pairs of lines of the candidates of a trace, as `info` prints them."""
     with open(trace, encoding="utf-8", errors="surrogateescape") as text:
-        places = [line.rstrip("\n").split("|", 2)[2].split(" < ")[0] for line in text]
+        places = [line.split("|", 2)[2].split(" < ")[0] for line in recorded_places.events_in(text.read())]
     printed, _ = done([racebench, "info", trace])
     pairs = re.findall(r"^candidate (\d+) (\d+) ", printed, re.MULTILINE)
     return {tuple(sorted((places[int(first)], places[int(second)]))) for first, second in pairs}
 
 
 def shown(racebench, trace):
-    """The pairs of lines of the races of a trace, as `triage` prints them."""
+    """The pairs of lines of the races of a trace, as `triage` prints them, and no undecided ones."""
     printed, _ = done([racebench, "triage", trace])
-    places = re.findall(r"^  T\d+\|[^|]*\|(\S+)", printed, re.MULTILINE)
-    return {tuple(sorted(pair)) for pair in zip(places[::2], places[1::2])}
+    blocks = re.findall(r"^race \d.*\n((?:  .*\n)+)", printed, re.MULTILINE)
+    places = [re.findall(r"^  T\d+\|[^|]*\|(\S+)", block, re.MULTILINE) for block in blocks]
+    return {tuple(sorted(pair)) for pair in places}
 
 
 def compiled(source, c, cxx):
     """Compiles a source, in one call or in two, to `program`."""
     environment = dict(os.environ, RECORD_CC=c, RECORD_CXX=cxx or "")
     path, language = os.path.join(TOP, source), os.path.join(RECORD, "c++" if source.endswith(".cpp") else "cc")
-    words = (
-        ["-std=c++17"]
-        if source.endswith(".cpp")
-        else ["-fopenmp"]
-        if source.endswith(OPENMP)
-        else []
-    )
+    words = ["-std=c++17"] if source.endswith(".cpp") else ["-fopenmp"] if source.endswith(OPENMP) else []
     if c == "gcc":
         done([language, "-O1", *words, path, "-o", "program"], env=environment)
     else:
@@ -131,16 +144,20 @@ def compiled(source, c, cxx):
         done([language, "part.o", "-o", "program"], env=environment)
 
 
-def recorded(words, seed):
-    """Records `program`; the trace is in `trace.std`."""
+def recorded(words, seed, forks=False):
+    """Records `program`; the trace is in `trace.std`. It is whole, if the program does not fork."""
     for _ in range(AGAIN):
-        trace, said = done([os.path.join(RECORD, "run"), "--seed", str(seed), *words, "./program"])
+        run = [os.path.join(RECORD, "run"), "--seed", str(seed), *words, "./program"]
+        trace, said = done(run, wanted=4 if forks else 0)
         if said.endswith(", 0 taken by force\n"):
             break
     if not re.search(r"^record/run: recorded \d+ events, \d+ turns, \d+ taken by force$", said, re.MULTILINE):
         raise Wrong(f"the recorder did not say what it recorded: {said[:600]}")
     if "left out" in said or "not made by pthread_create" in said:
         raise Wrong(f"something was left out, or has no fork: {said[:600]}")
+    last = "LEFT OUT 1 FROM 0: FORK" if forks else "WHOLE"
+    if not trace.startswith("recording|begin(RECORDED)|\n") or not trace.endswith(f"\nrecording|end({last})|\n"):
+        raise Wrong(f"the first and the last line do not say {last}: {trace[:40]!r} {trace[-60:]!r}")
     with open("trace.std", "w", encoding="utf-8") as text:
         text.write(trace)
     return trace
@@ -151,18 +168,18 @@ def judge_program(racebench, source, words, races, c, cxx, seeds):
     found_in = shown if "TRIAGED" in races else candidates
     compiled(source, c, cxx)
     for seed in seeds:
-        trace = recorded(words, seed)
+        trace = recorded(words, seed, source.endswith(FORKS))
         found = found_in(racebench, "trace.std")
         if found != wanted:
             raise Wrong(f"seed {seed}: the races are {sorted(found)}, and not {sorted(wanted)}")
         if source.endswith("barrier.c"):
             judge_barrier(racebench, trace)
-    recorded_options.judge_decoders([*words, "--seed", "1"])
+    recorded_options.judge_decoder(source, [*words, "--seed", "1"], c)
 
 
 def judge_barrier(racebench, trace):
     """Each thread's first read at the barrier that saw the other's coming may not come before it."""
-    events = [line.split("|")[:2] for line in trace.splitlines()]
+    events = [line.split("|")[:2] for line in recorded_places.events_in(trace)]
     writer = None
     for number, (thread, operation) in enumerate(events):
         if operation.startswith("r(sync:meeting") and writer not in (None, thread):
@@ -184,7 +201,7 @@ def judge_example(c, cxx):
     """examples/count.std is what the page says that it is: the trace of count.c with the first seed, without calls."""
     compiled("examples/count.c", c, cxx)
     with open(os.path.join(TOP, "examples/count.std"), encoding="ascii") as text:
-        if recorded(["--frames", "0"], 1) != text.read():
+        if recorded_places.events_in(recorded(["--frames", "0"], 1)) != text.read().splitlines():
             raise Wrong("the trace of examples/count.c is another than examples/count.std")
 
 
@@ -197,16 +214,21 @@ def judge_stranger():
 
 def cases_of(racebench, pairs):
     """Each case: its name, the function that judges it, and its arguments."""
-    cases = [("a program without the recorder", judge_stranger, ())]
+    cases = [("a program without the recorder", judge_stranger, ()), *recorded_java.all_cases(racebench)]
     for place, (c, cxx) in enumerate(pairs):
         seeds = SEEDS if place == 0 else SEEDS[:1]
         cases.append((f"count.std, {c}", judge_example, (c, cxx)))
+        cases += recorded_names.cases(c, cxx)
         cases += recorded_places.cases(c, cxx) + recorded_reports.cases(racebench, c)
-        cases += recorded_planted.cases(racebench, c, cxx)
+        cases += recorded_planted.cases(racebench, c, cxx) + recorded_tries.cases(c, cxx)
         if place == 0:
             cases += recorded_options.cases(racebench, c) + recorded_runs.cases(c) + recorded_follow.cases(racebench)
             cases += recorded_chance.cases(racebench) + recorded_ci.cases(racebench) + recorded_counts.cases(c)
-            cases += recorded_strangers.cases(racebench, c, cxx)
+            cases += recorded_drawn.cases() + recorded_whole.cases(racebench, c) + recorded_labelled.cases(racebench)
+            cases += recorded_deadlocks.cases(racebench, c, cxx)
+            cases += recorded_leaving.cases(racebench, c)
+            cases += recorded_strangers.cases(racebench, c, cxx) + recorded_go.cases(racebench)
+            cases += recorded_rust.cases(racebench)
         else:
             cases += recorded_strangers.more_cases(racebench, c, cxx)
         if cxx:
@@ -217,8 +239,9 @@ def cases_of(racebench, pairs):
             if source.endswith(".cpp") and cxx is None:
                 print(f"record/: {source} is not tested with {c}, since its C++ compiler is not here")
                 continue
+            runs = MANY if place == 0 and "TRIAGED" in races else seeds
             cases.append(
-                (" ".join([source, *words, c]), judge_program, (racebench, source, words, races, c, cxx, seeds))
+                (" ".join([source, *words, c]), judge_program, (racebench, source, words, races, c, cxx, runs))
             )
     return cases
 
@@ -238,6 +261,19 @@ def wrong_of(judge, about):
             os.chdir(TOP)
 
 
+# The cases of this run. Workers have them by a fork, since not every judge can be sent to one.
+cases = []
+
+
+def wrong_with(number):
+    return wrong_of(*cases[number][1:])
+
+
+def workers():
+    """How many cases are judged side by side: three for four processors."""
+    return max(1, len(os.sched_getaffinity(0)) * 3 // 4)
+
+
 def judged(run):
     pairs = list(compilers())
     if not pairs:
@@ -245,12 +281,12 @@ def judged(run):
         return (
             "record/: not tested, since no C compiler with the hooks of -fsanitize=thread is here\n0 passed, 0 failed"
         )
-    why = recorded_options.why_no_decoder()
-    if why:
-        print(f"record/: the decoder in C++ is not tested, since it can't be compiled: {why}")
-    for name, judge, about in cases_of(run.program, pairs):
-        if not run.texts or any(text in name for text in run.texts):
-            run.case(name, wrong_of(judge, about))
+    cases.extend(
+        case for case in cases_of(run.program, pairs) if not run.texts or any(text in case[0] for text in run.texts)
+    )
+    with multiprocessing.get_context("fork").Pool(workers()) as pool:
+        for (name, *_), wrong in zip(cases, pool.imap(wrong_with, range(len(cases)))):
+            run.case(name, wrong)
     return None
 
 

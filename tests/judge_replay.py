@@ -42,14 +42,19 @@ PROBLEMS = 20
 REACHED = """
     new|done add|done back|done swap|done branch|done drop|done adopt|done propose|proposed
     show|shown list|names races|none races|pairs
-    undo|new undo|add undo|back undo|swap undo|branch undo|drop undo|adopt undo|batch undo|last undo|past-undone undo|past-others
+    undo|new undo|add undo|back undo|swap undo|branch undo|drop undo|adopt undo|batch undo|last undo|past-undone
+    undo|past-others
     undo|into-the-middle undo|batch-past-others undo|batch-numbered
-    batch|done batch|longest batch|made-and-dropped batch|dropped-and-made batch|twice-on-one batch|copies-its-own batch|alone
-    batch|60 batch|70-42 batch|70-43 batch|70-44 batch|70-45 batch|70-46 batch|70-47 batch|70-48 batch|70-first batch|70-later
+    batch|done batch|longest batch|made-and-dropped batch|dropped-and-made batch|twice-on-one
+    batch|copies-its-own batch|alone
+    batch|60 batch|70-42 batch|70-43 batch|70-44 batch|70-45 batch|70-46 batch|70-47 batch|70-48 batch|70-first
+    batch|70-later
     new|43 add|42 add|46-21 add|46-22 add|46-23 add|46-24 add|46-25 add|46-26
     needs-none needs-other needs-missing back|42 back|45 swap|42 swap|47-28 swap|47-29 swap|fork-join
     branch|42 branch|43 branch|48 drop|42 adopt|42 adopt|44 adopt|anothers
-    undo|numbered undo|past-own undo|51 undo|52 undo|52-by-source undo|52-by-own undo|52-by-batch undo|52-of-batch undo|52-later-name undo|57 undo|58 undo|58-undid undo|59 propose|53 propose|54 show|42 races|42
+    undo|numbered undo|past-own undo|51 undo|52 undo|52-by-source undo|52-by-own undo|52-by-batch
+    undo|52-of-batch undo|52-later-name undo|57 undo|58 undo|58-undid undo|59 propose|53 propose|54 show|42
+    races|42
 """.split()
 
 
@@ -346,8 +351,10 @@ def summary(tally):
             refusals[number.replace("-", " ")] += count
     by_number = ", ".join(f"{number}: {count}" for number, count in sorted(refusals.items()))
     return (
-        f"replay: {tally['scripts']} scripts with {tally['calls']} calls are answered as the definitions say, with {tally['undone']} "
-        f"undos done, {tally['in batches']} commands in batches, {tally['pairs']} pairs shown, {tally['entries']} lines of logs and {tally['refused']} refusals ({by_number}); "
+        f"replay: {tally['scripts']} scripts with {tally['calls']} calls are answered as the definitions say, with "
+        f"{tally['undone']} "
+        f"undos done, {tally['in batches']} commands in batches, {tally['pairs']} pairs shown, {tally['entries']} "
+        f"lines of logs and {tally['refused']} refusals ({by_number}); "
         f"{tally['orders']} orders of undos\n"
         f"info: {tally['traces']} traces with {tally['candidates']} candidates"
     )

@@ -69,6 +69,7 @@ REACHED = [
     "moved",
     "changed",
     "bound",
+    "without a folder",
 ]
 
 
@@ -101,6 +102,15 @@ class Event:
 
     def words(self):
         return f"{self.thread} {VERBS[self.word]} {self.name} at {self.place() or '?'}"
+
+
+def printed_without_code(pair):
+    """The fingerprint of two accesses if no folder has their code: four lines each, the lesser four first."""
+    lines = [
+        "\n".join([place_parts(event.place())[0] or event.place(), calls_of(event.location)[0], event.name, ""])
+        for event in pair
+    ]
+    return "\n".join(sorted(lines, key=lambda text: text.encode("utf-8")))
 
 
 class Judge:
@@ -217,6 +227,9 @@ class Judge:
             raise Wrong("the log is no line")
         log = json.loads(out.decode("utf-8"))
         sarif_rules.check(log)
+        rules = log["runs"][0]["tool"]["driver"]["rules"]
+        told = [(rule["id"], rule["defaultConfiguration"]["level"]) for rule in rules]
+        self.equal(told, [(rule, level) for rule, _, level in RULES.values()], "the rules, and the level of each")
         return log
 
     def check(self, lines, words, root=None):
@@ -239,7 +252,12 @@ class Judge:
             "what was left out",
         )
         self.equal(list(run["originalUriBaseIds"]), ["SRCROOT"] if root else [], "whether a folder is named")
-        return [result["partialFingerprints"]["racePair/v1"] for result in run["results"]]
+        prints = [result["partialFingerprints"]["racePair/v1"] for result in run["results"]]
+        if root is None:
+            pairs = [[events[access["event"]] for access in block["accesses"]] for block in blocks]
+            self.equal(prints, [printed_without_code(pair) for pair in pairs], "the fingerprints without a folder")
+            self.tally["without a folder"] += len(prints)
+        return prints
 
 
 def drawn(chance, number):
@@ -327,7 +345,8 @@ def check_moved(judge):
 
 
 def check_bounds(judge):
-    """A fingerprint has a line of code whole up to 256 bytes; files up to 16,777,216 bytes are read, and 65,536 lines."""
+    """A fingerprint has a line of code whole up to 256 bytes; files up to 16,777,216 bytes are read, and 65,536
+    lines."""
 
     def judged_as(lines, line):
         made = judge.check([*lines, "T1|w(x)|p.c:1", "T2|r(x)|q.c:1"], [], "code")

@@ -2,7 +2,8 @@
 """Judges `session` and `log`: what no clause can say of them, since it is told of processes, files, kills and full
 disks.
 
-    judge_session.py PROGRAM [KILLS [CALLS]]     with so many kills, 20 where that is not said, and a last run at once in which each of four
+    judge_session.py PROGRAM [KILLS [CALLS]]     with so many kills, 20 where that is not said, and a last run at once
+    in which each of four
                                                  sessions has so many calls, none where that is not said
 
 A script through sessions, cut anywhere into several, is answered as `replay` answers it. A session that is killed has
@@ -139,7 +140,8 @@ def judge_client(sessions):
         "12",
     )
     wanted = (
-        b"0: done\nline 4: 81 bad word\nline 5: 81 bad word\n1: done\nline 7: 81 bad word\nline 8: 82 bad number\npairs 0-1\n2: undone 1\n"
+        b"0: done\nline 4: 81 bad word\nline 5: 81 bad word\n1: done\nline 7: 81 bad word\nline 8: 82 bad "
+        b"number\npairs 0-1\n2: undone 1\n"
         b"line 11: 85 line too long\nrefused 57 no such entry\n"
     )
     if told != wanted:
@@ -269,9 +271,15 @@ def judge_edits(sessions):
     sessions.run(b"1 new A\n1 add A 0\n1 add A 1\n1 undo\n")
     whole = pathlib.Path("log").read_bytes()
     for old, new, line in [
-        (b"1 add A 0", b"1 add A 9", 3), (b"1 add A 0", b"1 show A", 3), (b"1 add A 0", b"1 add", 3), (b"1 new A", b"1 new B", 3), (b"1 undo 2", b"1 undo 3", 5),
-        (b"1 add A 1", b"", 4), (b"1 new A", b"0 new A", 2), (b"1 undo 2", b"1 new A", 5),
-    ]:  # fmt: skip
+        (b"1 add A 0", b"1 add A 9", 3),
+        (b"1 add A 0", b"1 show A", 3),
+        (b"1 add A 0", b"1 add", 3),
+        (b"1 new A", b"1 new B", 3),
+        (b"1 undo 2", b"1 undo 3", 5),
+        (b"1 add A 1", b"", 4),
+        (b"1 new A", b"0 new A", 2),
+        (b"1 undo 2", b"1 new A", 5),
+    ]:
         edited = whole.replace(b" " + old + b"\n", b" " + new + b"\n")
         pathlib.Path("log").write_bytes(edited)
         sessions.run(b"1 list\n", status=1, error=f"racebench: log file line {line}\n".encode("ascii"))
@@ -464,9 +472,12 @@ def judged(run):
     judge_closed(sessions)
     run.tally = tally = sessions.tally
     return (
-        f"sessions: {tally['scripts']} scripts cut into sessions are answered as by replay; {tally['kills']} kills lost none of {tally['answered']} answers; "
-        f"{tally['cuts']} cuts, {tally['edits']} edits; {tally['at once']} calls of {CLIENTS} sessions at once are legal histories, {tally['later']} of "
-        f"them after entries of others; {tally['opened']} times opened at once; {tally['full']} full disks; {tally['closed']} times with closed streams"
+        f"sessions: {tally['scripts']} scripts cut into sessions are answered as by replay; {tally['kills']} kills "
+        f"lost none of {tally['answered']} answers; "
+        f"{tally['cuts']} cuts, {tally['edits']} edits; {tally['at once']} calls of {CLIENTS} sessions at once are "
+        f"legal histories, {tally['later']} of "
+        f"them after entries of others; {tally['opened']} times opened at once; {tally['full']} full disks; "
+        f"{tally['closed']} times with closed streams"
     )
 
 

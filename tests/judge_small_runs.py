@@ -75,7 +75,8 @@ def judged(run):
     if tally["mixed"] < LEAST_MIXED:
         raise Wrong(f"in {tally['mixed']} only a client came again after another")
     return (
-        f"small runs: {seed} with {tally['calls']} calls and {tally['entries']} entries are each one legal history; in {tally['mixed']} of those with no "
+        f"small runs: {seed} with {tally['calls']} calls and {tally['entries']} entries are each one legal history; "
+        f"in {tally['mixed']} of those with no "
         f"door a client came again after another, and {tally['later']} answers tell of others' entries"
     )
 

@@ -121,7 +121,8 @@ def judged(run):
     if changes < runs * (CLIENTS - 1) + LEAST_CHANGES:
         raise Wrong(f"in {runs} runs with no door the client changed {changes} times only")
     return (
-        f"threads: {runs + RUNS} runs of {CLIENTS} scripts with {tally['entries']} entries are legal; the client changed {changes} times in the logs of the "
+        f"threads: {runs + RUNS} runs of {CLIENTS} scripts with {tally['entries']} entries are legal; the client "
+        f"changed {changes} times in the logs of the "
         f"{runs} with no door, and {tally['changes'] - changes} times in the others"
     )
 

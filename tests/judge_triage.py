@@ -4,9 +4,9 @@ by tests/plain.py.
 
 Takes the program's path, how many traces to draw, and the first seed. Each trace is listed with what is apart and a
 drawn number of tries; again with its own output as what is known, which leaves no race; with texts that blocks need or
-must not have; with a status that tells of races; and by workers, as JSON and as lines for editors (tests/compiled.py),
-which have to tell the same. Says what is wrong, if something is, and ends with status 1 then, also where something
-that has to be seen was never met.
+must not have; with a status that tells of races; as a recording with marks; and by workers, as JSON and as lines for
+editors (tests/compiled.py), which have to tell the same. Says what is wrong, if something is, and ends with status 1
+then, also where something that has to be seen was never met.
 """
 
 import collections
@@ -21,6 +21,7 @@ sys.dont_write_bytecode = True
 import by_chance
 import compiled
 import judging
+import missing
 import plain
 import running
 from judging import Wrong
@@ -55,6 +56,9 @@ REACHED = [
     "more variables",
     "called",
     "16 of more tries",
+    "whole",
+    "not whole",
+    "unjudged",
 ]
 
 
@@ -100,8 +104,8 @@ def variables(trace, pairs):
 
 
 def verdict(trace, pairs, tries):
-    """The order of the block among others, its first line, and the two events; of a list in another order than the
-    trace's no size is told."""
+    """The order of the block among others, its first line, and the two events. The size of a schedule in another
+    order than the trace's is left out."""
     counted = collections.Counter(kind for _, _, kind in pairs)
     of_open = f"variables {variables(trace, pairs)}"
     if counted["candidate"]:
@@ -109,7 +113,8 @@ def verdict(trace, pairs, tries):
         return (
             0,
             (second, first),
-            f"race {first} {second} candidate pairs {counted['candidate']} {of_open} {size(trace, trace.in_order(first, second))}",
+            f"race {first} {second} candidate pairs {counted['candidate']} {of_open} "
+            f"{size(trace, trace.in_order(first, second))}",
         )
     if not counted["open"]:
         second, first, _ = pairs[0]
@@ -124,7 +129,7 @@ def verdict(trace, pairs, tries):
                 f"race {first} {second} beyond pairs {counted['open']} {of_open} {size(trace, listed)}",
             )
         if trace.turned(first, second) is not None:
-            return 0, (second, first), f"race {first} {second} turned pairs {counted['open']} {of_open} events"
+            return 0, (second, first), f"race {first} {second} turned pairs {counted['open']} {of_open}"
     second, first = all_tries[0]
     return (
         1,
@@ -168,6 +173,17 @@ class Judge:
         self.program = program
         self.tally = collections.Counter()
 
+    def turned_size(self, trace, first, second):
+        """The size of the schedule that `witness` prints of the pair, which has to be a correct reordering that shows
+        it. The events are counted here."""
+        lines = (
+            running.printed(self.program, ["witness", "trace", str(first), str(second)]).decode("ascii").splitlines()
+        )
+        listed = tuple(int(line.split(" ", 1)[0]) for line in lines)
+        if not trace.is_reordering(listed) or not trace.shows(listed, first, second):
+            raise Wrong(f"witness prints {listed}, which does not show {first} and {second}")
+        return size(trace, listed)
+
     def access(self, located, event):
         holds = [f"    holds {lock}" for lock in located.trace.locks_before(event)]
         self.tally["holds"] += len(holds)
@@ -198,6 +214,8 @@ class Judge:
             self.tally[
                 "untried" if head.endswith(" tried 0") else head.split(" ")[3] if part == 0 else head.split(" ")[0]
             ] += 1
+            if head.startswith(f"race {first} {second} turned "):
+                head += " " + self.turned_size(trace, first, second)
             self.tally["one place"] += places[0] == places[1]
             self.tally["more variables"] += part == 0 and " variables 1 " not in head
             blocks.append([head, *self.access(located, first), *self.access(located, second)])
@@ -208,7 +226,7 @@ class Judge:
         if len(lines) != len(wanted):
             raise Wrong(f"{len(lines)} lines are printed, and not {len(wanted)}: {lines}, and not {wanted}")
         for line, want in zip(lines, wanted):
-            if line != want and not (" turned " in want and line.startswith(want + " ")):
+            if line != want:
                 raise Wrong(f"`{line}` is printed, and not `{want}`")
 
     def judge_trace(self, located, chance, is_usual):
@@ -217,7 +235,9 @@ class Judge:
         tries = 16 if is_usual else chance.choice(TRIES)
         counts, blocks = self.wanted(located, tries)
         flag = [] if is_usual else ["--tries", str(tries)]
-        self.tally["16 of more tries"] += is_usual and any(block[0].endswith(" variables 17 tried 16") for block in blocks)
+        self.tally["16 of more tries"] += is_usual and any(
+            block[0].endswith(" variables 17 tried 16") for block in blocks
+        )
         out = running.printed(self.program, ["triage", "trace", "--apart", *flag])
         self.compare(counts + sum(blocks, []), out)
         self.judge_json(out, "--apart", *flag)
@@ -245,10 +265,31 @@ class Judge:
         status, out, err = running.ended(self.program, [*words, "--fail"])
         wanted = (3, b"") if races else (0, b"") if located.trace.events else (4, NO_EVENTS)
         if (status, err) != wanted or out != running.printed(self.program, words):
-            raise Wrong(f"{words} --fail ends with {status} and {err!r} at {len(races)} races, or prints something else")
+            raise Wrong(
+                f"{words} --fail ends with {status} and {err!r} at {len(races)} races, or prints something else"
+            )
         self.tally["failed"] += bool(races)
+        self.judge_marks(located, races, words, out, chance)
         self.tally["traces"] += 1
         self.tally["pairs"] += int(counts[2].split(" ")[1])
+
+    def judge_marks(self, located, races, words, out, chance):
+        """Judges the report on a recording of the trace with marks, whole or not, by the report without marks."""
+        end, absent = chance.choice(missing.ENDS)
+        running.write("trace", missing.BEGIN + located.text() + end)
+        form = next((word for word in words if word in ("--json", "--lines", "--page", "--sarif")), "")
+        status, printed, err = running.ended(self.program, [*words, "--fail"])
+        running.write("trace", located.text())
+        wanted = missing.said(form, absent, out)
+        if missing.sorted_log(form, absent, printed) != wanted:
+            raise Wrong(f"{words} with the end {end!r} prints {printed!r}, and not {wanted!r}")
+        has_events = bool(located.trace.events)
+        said = b"" if races else b"" if has_events else NO_EVENTS
+        said += f"racebench: not whole: {absent}\n".encode() if absent and not races else b""
+        if (status, err) != (missing.status_of(bool(races), has_events, absent), said):
+            raise Wrong(f"{words} --fail with the end {end!r} ends with {status} and {err!r}")
+        self.tally["not whole" if absent else "whole"] += 1
+        self.tally["unjudged"] += status == 4 and has_events
 
     def judge_json(self, out, *words):
         """Compares the objects that are printed with the text for the same words."""
@@ -327,7 +368,10 @@ def judged(run):
     kinds = ", ".join(
         f"{tally[kind]} {kind}" for kind in ["candidate", "beyond", "turned", "undecided", "untried", "apart"]
     )
-    return f"triage: {tally['traces']} traces with {tally['pairs']} pairs, seeds {first} to {first + traces - 1}, are listed as the definitions say ({kinds})"
+    return (
+        f"triage: {tally['traces']} traces with {tally['pairs']} pairs, seeds {first} to {first + traces - 1}, are "
+        f"listed as the definitions say ({kinds})"
+    )
 
 
 if __name__ == "__main__":

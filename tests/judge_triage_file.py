@@ -135,9 +135,16 @@ def is_about(entry, lines, first, second):
 
 def mistake_of(entry):
     """The first mistake of an entry, in the order of the format."""
-    texts = lambda value: isinstance(value, list) and all(isinstance(item, str) for item in value)
-    numbers = lambda value: isinstance(value, list) and len(value) == 2 and all(type(item) is int for item in value)
-    two = lambda value: texts(value) and len(value) == 2
+
+    def texts(value):
+        return isinstance(value, list) and all(isinstance(item, str) for item in value)
+
+    def numbers(value):
+        return isinstance(value, list) and len(value) == 2 and all(type(item) is int for item in value)
+
+    def two(value):
+        return texts(value) and len(value) == 2
+
     tests = [
         ("functions", two),
         ("variables", lambda value: texts(value) and value),
@@ -392,7 +399,10 @@ def judge_columns(program, folder, chance, reached):
 
 def judge_clock(program, folder, reached):
     """Without `--today` an entry is in force up to its last day by the system's clock in UTC."""
-    clock = lambda: datetime.datetime.now(datetime.timezone.utc).date()
+
+    def clock():
+        return datetime.datetime.now(datetime.timezone.utc).date()
+
     for days in (0, 1, 40, 400, -1, -2, -40, -400):
         while True:
             today = clock()

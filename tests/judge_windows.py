@@ -9,8 +9,9 @@ without workers, of a file and of standard input. Each race of it is shown by a 
 that begins as recorded up to its window; and each pair with two accesses in one window that such a reordering shows,
 before the window's end, is there as a race or undecided. A window of more threads than a trace may have is cut
 shorter, which is counted. A trace with a line that is refused, an event that breaks a rule, or an event that needs a
-thread too many beside those that hold a lock, is judged up to there. Says what is wrong, if something is, and ends with status 1 then,
-also if something that has to be seen was never met.
+thread too many beside those that hold a lock, is judged up to there. The windows of a recording with marks have them,
+and the report says what is missing. Says what is wrong, if something is, and ends with status 1 then, also if something
+that has to be seen was never met.
 """
 
 import json
@@ -26,6 +27,7 @@ import sys
 sys.dont_write_bytecode = True
 import by_chance
 import judging
+import missing
 import plain
 import running
 from judge_cut import shown_from
@@ -58,13 +60,20 @@ REACHED = [
     "many threads",
     "lines of code",
     "workers before a fault",
+    "many windows before a fault",
     "file too long",
     "mark",
     "shorter",
     "threads that come and go",
+    "whole",
+    "not whole",
 ]
 # The words for a log with the code in a folder.
 WITH_CODE = ["--sarif", "--source", "code"]
+# The lock of a window's prologue: underscores make its name one that the recording lacks.
+LOCK = re.compile(rb"\(window_*\)")
+# What is printed of no window.
+NO_PARTS = b"parts 0\nraces 0\nundecided 0\napart 0\n"
 # Lines that are no events.
 SKIPPED = ["\n", " \t\n", "\r\n", "T1|begin(block)|\n", " T2 | end(block) | 7\n"]
 
@@ -109,7 +118,9 @@ def coming_trace(chance, count):
     events, here, holders = [], [], {}
 
     def work(thread):
-        word, name = chance.choice([("r", "x"), ("w", "x"), ("w", "y"), ("acq", "l"), ("acq", "m"), ("rel", "l"), ("rel", "m")])
+        word, name = chance.choice(
+            [("r", "x"), ("w", "x"), ("w", "y"), ("acq", "l"), ("acq", "m"), ("rel", "l"), ("rel", "m")]
+        )
         depth = holders.setdefault(name, [])
         if word == "rel" and (not depth or depth[-1] != thread) or word == "acq" and depth and depth[-1] != thread:
             return
@@ -147,7 +158,9 @@ def with_skipped(chance, lines):
 
 
 def wanted_blocks(events, start, end, name):
-    return blocks_of([f"{thread}|{word}({what})|" for thread, word, what in plain.prologue(events, start, end, name)], name)
+    return blocks_of(
+        [f"{thread}|{word}({what})|" for thread, word, what in plain.prologue(events, start, end, name)], name
+    )
 
 
 def place_in(line):
@@ -156,6 +169,16 @@ def place_in(line):
     if words[::2] != ["FROM", "TO", "PROLOGUE"]:
         raise Wrong(f"the first line of a window is {line}")
     return tuple(map(int, words[1::2]))
+
+
+def places_in(folder):
+    """Where each window in a folder lies, by its first event, in their order."""
+    places = {}
+    for name in sorted(os.listdir(folder)):
+        with open(f"{folder}/{name}", encoding="utf-8") as text:
+            place = place_in(text.readline().rstrip("\n"))
+        places[place[0]] = place
+    return places
 
 
 def moved(part, place):
@@ -183,7 +206,9 @@ class Judge:
         told = running.printed(self.program, ["cut", "trace", "--windows", str(most), "--into", folder]).decode()
         shorter = sum(end - start < most and end < len(events) for start, end in wanted)
         self.seen["shorter"] += shorter > 0
-        counts = f"windows {len(wanted)}\nshorter {shorter}\nevents {len(events)}\nthreads {len(located.trace.threads())}\n"
+        counts = (
+            f"windows {len(wanted)}\nshorter {shorter}\nevents {len(events)}\nthreads {len(located.trace.threads())}\n"
+        )
         if told != counts:
             raise Wrong(f"cut --into prints {told!r} and not {counts!r}")
         if sorted(os.listdir(folder)) != [f"window-{start:09}.std" for start, _ in wanted]:
@@ -200,7 +225,9 @@ class Judge:
         if place != (start, end, len(front)) or lines[len(front) :] != own:
             raise Wrong(f"the window at {start} is\n{head}\n" + "\n".join(lines))
         name = front[0].split("(")[1].split(")")[0] if front else "window"
-        if front and (name.rstrip("_") != "window" or name in {event.name for event in located.trace.events[start:end]}):
+        if front and (
+            name.rstrip("_") != "window" or name in {event.name for event in located.trace.events[start:end]}
+        ):
             raise Wrong(f"the window at {start} has a prologue with the name {name}")
         self.seen["taken name"] += name != "window"
         if blocks_of(front, name) != wanted_blocks(located.trace.events, start, end, name):
@@ -211,23 +238,29 @@ class Judge:
 
     def report(self, places, most, flags, tries):
         """What `merge` makes of the windows that were written: as JSON, as a page, as a log and as text."""
-        names = {}
-        for start, place in places.items():
-            names[start] = f"trace --windows {most} --window {start:09}"
-            words = ["triage", f"whole/window-{start:09}.std", "--json", *flags, *tries]
-            part = running.printed(self.program, words)
-            with open(names[start], "w", encoding="utf-8") as out:
-                out.write(moved(part.decode(), place))
         forms = [["--json"], ["--page", *flags], ["--sarif", *flags], [*WITH_CODE, *flags], flags]
-        made = [running.printed(self.program, ["merge", *names.values(), *more]) for more in forms]
-        for name in names.values():
+        return self.merged(places, most, [*flags, *tries], forms, "trace", "whole")
+
+    def merged(self, places, most, flags, forms, trace, folder):
+        """What `merge` makes, in each of these forms, of the windows of a trace that are in a folder."""
+        names = [f"{trace} --windows {most} --window {start:09}" for start in places]
+        for name, (start, place) in zip(names, places.items()):
+            part = running.printed(self.program, ["triage", f"{folder}/window-{start:09}.std", "--json", *flags])
+            running.write(name, moved(part.decode(), place))
+        made = [running.printed(self.program, ["merge", *names, *form]) for form in forms]
+        for name in names:
             os.remove(name)
         return made
 
     def same(self, words, wanted, stdin=None):
-        done = subprocess.run([self.program, *words], capture_output=True, check=False, stdin=stdin, timeout=running.PATIENCE)
+        done = subprocess.run(
+            [self.program, *words], capture_output=True, check=False, stdin=stdin, timeout=running.PATIENCE
+        )
         if (done.returncode, done.stderr) != (0, b"") or done.stdout != wanted:
-            raise Wrong(f"{words} ends with {done.returncode} and prints\n{done.stdout.decode()}{done.stderr.decode()}and not\n{wanted.decode()}")
+            raise Wrong(
+                f"{words} ends with {done.returncode} and prints\n{done.stdout.decode()}{done.stderr.decode()}and "
+                f"not\n{wanted.decode()}"
+            )
 
     def judge_report(self, chance, located, places, most):
         """The report of `triage --windows`, which is returned as objects."""
@@ -251,7 +284,9 @@ class Judge:
             of_input = told.replace(b'"name":"trace ', b'"name":"- ')
             again = [self.program, "triage", "-", *words[2:], "--json"]
             found = subprocess.run(again, capture_output=True, check=False, stdin=stdin, timeout=running.PATIENCE)
-            if found.stdout.replace(b'"part":"trace ', b'"part":"- ') != of_input.replace(b'"part":"trace ', b'"part":"- '):
+            if found.stdout.replace(b'"part":"trace ', b'"part":"- ') != of_input.replace(
+                b'"part":"trace ', b'"part":"- '
+            ):
                 raise Wrong(f"of standard input it prints\n{found.stdout.decode()}and not\n{of_input.decode()}")
         self.seen["standard input"] += 1
         self.seen["one window" if len(places) == 1 else "many windows"] += 1
@@ -301,18 +336,26 @@ class Judge:
                 if row["kind"] == "apart" and pair in shown:
                     raise Wrong(f"{pair} is apart in the window at {start}, and a reordering shows it")
             for pair in shown & set(located.trace.conflicting()):
-                if min(pair) >= start and told.get(tuple(sorted(located.places[event] for event in pair))) not in ("race", "undecided"):
+                if min(pair) >= start and told.get(tuple(sorted(located.places[event] for event in pair))) not in (
+                    "race",
+                    "undecided",
+                ):
                     raise Wrong(f"{pair} is shown from {start} on, and the window has no race there")
                 self.seen["shown"] += 1
 
     def judge_one(self, places, most, chance):
         """A window alone is the one that was written, or has the same events after a prologue in another order."""
         start = chance.choice(list(places))
-        found = running.printed(self.program, ["cut", "trace", "--windows", str(most), "--window", str(start)]).decode()
+        found = running.printed(
+            self.program, ["cut", "trace", "--windows", str(most), "--window", str(start)]
+        ).decode()
         with open(f"whole/window-{start:09}.std", encoding="utf-8") as text:
             wanted = text.read()
         size = places[start][2] + 1
-        if [found.splitlines()[0], *found.splitlines()[size:]] != [wanted.splitlines()[0], *wanted.splitlines()[size:]]:
+        if [found.splitlines()[0], *found.splitlines()[size:]] != [
+            wanted.splitlines()[0],
+            *wanted.splitlines()[size:],
+        ]:
             raise Wrong(f"cut --window {start} prints\n{found}and not\n{wanted}")
         self.seen["one at a time"] += 1
 
@@ -338,35 +381,36 @@ class Judge:
         running.write("trace", "".join(lines[:at] + ([line.splitlines()[0] + "\n"] if kind == "refused line" else [])))
         shutil.rmtree("some", ignore_errors=True)
         self.refused(["cut", "wrong", "--windows", str(most), "--into", "some"], fault)
-        ends = [place_in(open(f"some/{name}", encoding="utf-8").readline().rstrip("\n"))[1] for name in os.listdir("some")]
-        if max(ends, default=0) != before:
-            raise Wrong(f"windows before event {before} end at {sorted(ends)}")
+        places = places_in("some")
+        if max((place[1] for place in places.values()), default=0) != before:
+            raise Wrong(f"windows before event {before} lie at {places}")
         out = self.refused(["triage", "wrong", f"--windows={most}"], fault)
-        whole = running.printed(self.program, ["triage", "trace", f"--windows={most}"])
-        races = [[line for line in text.splitlines() if line.startswith(b"race ")] for text in (out, whole)]
-        if races[0] != races[1] and len(ends) < 2:
-            raise Wrong(f"before the fault it prints\n{out.decode()}and not\n{whole.decode()}")
+        wanted = self.merged(places, most, [], [[]], "wrong", "some")[0] if places else NO_PARTS
+        if out.split(b"\n", 4)[4:] != [wanted]:
+            raise Wrong(f"before the fault it prints\n{out.decode()}and not\n{wanted.decode()}")
+        races = [line for line in out.splitlines() if line.startswith(b"race ")]
         for more in (["--workers", str(chance.choice([1, 2, 5]))], ["--fail"]):
             if self.refused(["triage", "wrong", f"--windows={most}", *more], fault) != out:
                 raise Wrong(f"{more} print another text before a fault than\n{out.decode()}")
         running.write("told", self.refused(["triage", "wrong", f"--windows={most}", "--json"], fault).decode())
         if out and running.printed(self.program, ["merge", "told"]) != out.split(b"\n", 4)[4]:
             raise Wrong(f"the JSON before a fault is not that of\n{out.decode()}")
-        self.seen["workers before a fault"] += races[0] != []
+        self.seen["workers before a fault"] += races != []
+        self.seen["many windows before a fault"] += races != [] and len(places) > 1
         self.seen[kind] += 1
 
     def judge_threads(self, chance):
-        """An event that needs a thread too many, beside those that hold a lock, is refused with its line; windows before
-        it are written."""
+        """An event that needs a thread too many, beside those that hold a lock, is refused with its line; windows
+        before it are written."""
         most, skipped = chance.randint(2, 40), chance.randint(0, 5)
         before = [f"T{number}|acq(l{number})|{number}\n" for number in range(plain.THREAD_LIMIT)]
         running.write("wrong", "\n" * skipped + "".join(before) + "T0|w(x)|\nmain|w(x)|\n" + "|\n")
         shutil.rmtree("some", ignore_errors=True)
         fault = f"trace line {skipped + len(before) + 2}: 8 too many names"
         self.refused(["cut", "wrong", "--windows", str(most), "--into", "some"], fault)
-        ends = [place_in(open(f"some/{name}", encoding="utf-8").readline().rstrip("\n"))[1] for name in os.listdir("some")]
-        if max(ends) != len(before) + 1:
-            raise Wrong(f"windows before a thread too many end at {sorted(ends)}")
+        ends = sorted(place[1] for place in places_in("some").values())
+        if ends[-1:] != [len(before) + 1]:
+            raise Wrong(f"windows before a thread too many end at {ends}")
         self.seen["many threads"] += 1
 
     def judge_coming(self, chance):
@@ -412,7 +456,10 @@ class Judge:
         found = running.ended(self.program, ["cut", "trace", "--into", "marked"], {"RACEBENCH_NOTES": "1"})
         with open("marked/window-000000000.std", encoding="utf-8") as window:
             told = window.read()
-        if (found, told) != ((0, b"windows 1\nshorter 0\nevents 2\nthreads 2\n", b""), f"window|begin(FROM 0 TO 2 PROLOGUE 0)|\n{text}"):
+        if (found, told) != (
+            (0, b"windows 1\nshorter 0\nevents 2\nthreads 2\n", b""),
+            f"window|begin(FROM 0 TO 2 PROLOGUE 0)|\n{text}",
+        ):
             raise Wrong(f"cut --into of a marked trace ends with {found}, and the window is\n{told}")
         self.seen["mark"] += 1
 
@@ -444,8 +491,62 @@ class Judge:
         self.judge_races(located, places, objects)
         self.judge_one(places, most, chance)
         self.judge_folder(most)
+        self.judge_marks(chance, most)
         self.judge_faults(chance, located, most)
         return has_apart
+
+    def judge_marks(self, chance, most):
+        """Judges the windows of a recording with marks, whole or not, by those of the trace without marks."""
+        with open("trace", encoding="ascii", newline="") as trace:
+            text = trace.read()
+        form = chance.choice(["", "--page", "--sarif"])
+        words = ["triage", "-" if chance.random() < 0.5 else "trace", f"--windows={most}", *[form] * bool(form)]
+        plain = self.fed(words, text)[1]
+        end, absent = chance.choice(missing.ENDS)
+        marked = missing.BEGIN + text + "\n" * (not text.endswith("\n")) + end
+        running.write("trace", marked)
+        status, out, _ = self.fed([*words, "--fail"], marked)
+        if missing.sorted_log(form, absent, out) != missing.said(form, absent, plain):
+            raise Wrong(f"{words} of a recording with the end {end!r} prints {out!r}")
+        if status not in (3, 4 if absent else 0):
+            raise Wrong(f"{words} --fail of a recording with the end {end!r} ends with {status}")
+        self.judge_marked_parts(words, absent, marked)
+        self.judge_marked_windows(chance, most, end, absent)
+        running.write("trace", text)
+        self.seen["not whole" if absent else "whole"] += 1
+
+    def fed(self, words, text):
+        """What the program answers if it is fed with this text."""
+        done = subprocess.run(
+            [self.program, *words], input=text.encode(), capture_output=True, timeout=running.PATIENCE, check=False
+        )
+        return done.returncode, done.stdout, done.stderr
+
+    def judge_marked_parts(self, words, absent, marked):
+        """Each part of the report says what is missing, and so the merged report does."""
+        out = self.fed([*words[:3], "--json"], marked)[1]
+        head, *told = map(json.loads, out.splitlines())
+        parts = [json.loads(line["text"].splitlines()[0]) for line in told if line["kind"] == "part"]
+        if {line.get("absent", "") for line in [head, *parts]} != {absent}:
+            raise Wrong(f"{words} --json says of what is missing, {absent!r}: {out!r}")
+
+    def judge_marked_windows(self, chance, most, end, absent):
+        """Each window of the recording has its marks, printed or in a file."""
+        last = end.rstrip("\n") + "\n" if not absent or absent.startswith("left") else ""
+        shutil.rmtree("marks", ignore_errors=True)
+        running.printed(self.program, ["cut", "trace", "--windows", str(most), "--into", "marks"])
+        for name in os.listdir("marks"):
+            with open(f"whole/{name}", encoding="ascii") as window, open(f"marks/{name}", encoding="ascii") as marked:
+                found, wanted = marked.read(), missing.BEGIN + window.read() + last
+            if found != wanted:
+                raise Wrong(f"{name} of a recording is {found!r}, and not {wanted!r}")
+        name = chance.choice(os.listdir("marks"))
+        number = str(int(name.removeprefix("window-").removesuffix(".std")))
+        out = running.printed(self.program, ["cut", "trace", "--windows", str(most), "--window", number])
+        with open(f"marks/{name}", "rb") as marked:
+            # Either may have chosen another name for the lock of the prologue.
+            if [LOCK.sub(b"(window)", text) for text in (out, marked.read())].count(LOCK.sub(b"(window)", out)) != 2:
+                raise Wrong(f"cut of a recording at {number} prints {out!r}")
 
     def judge_empty(self, text):
         """A trace without events has no window, and nothing of it is judged."""
@@ -456,7 +557,7 @@ class Judge:
             raise Wrong("a trace without events has a window")
         self.refused(["cut", "trace", "--window", "0"], "no such event")
         head = b"windows 0\nshorter 0\nevents 0\nthreads 0\n"
-        self.same(["triage", "trace", "--windows"], head + b"parts 0\nraces 0\nundecided 0\napart 0\n")
+        self.same(["triage", "trace", "--windows"], head + NO_PARTS)
         status, out, err = running.ended(self.program, ["triage", "trace", "--windows", "--fail"])
         if status != 4 or b"no events" not in err:
             raise Wrong(f"with --fail a trace without events ends with {status}, {err!r}, and prints {out!r}")

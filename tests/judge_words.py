@@ -37,8 +37,15 @@ NUMBERS = [
     ("threads t s --room ", 1, 32),
 ]
 # Dates that there are, and that there are not.
-DAYS = "2027-01-31 2027-02-28 2028-02-29 2000-02-29 2400-02-29 2027-03-31 2027-04-30 2027-05-31 2027-06-30 2027-07-31 2027-08-31 2027-09-30 2027-10-31 2027-11-30 2027-12-31 2027-01-01 9999-12-31"
-NO_DAYS = "2027-01-32 2027-02-29 2028-02-30 2100-02-29 1900-02-29 2027-03-32 2027-04-31 2027-05-32 2027-06-31 2027-07-32 2027-08-32 2027-09-31 2027-10-32 2027-11-31 2027-12-32 2027-01-00 2027-00-01 2027-13-01 2027-1-01 2027-01-1 20270101 2027/01/01 2027-01/01 2027-01-0x x027-01-01 2027-01-011 +027-01-01 today"
+DAYS = (
+    "2027-01-31 2027-02-28 2028-02-29 2000-02-29 2400-02-29 2027-03-31 2027-04-30 2027-05-31 2027-06-30 2027-07-31 "
+    "2027-08-31 2027-09-30 2027-10-31 2027-11-30 2027-12-31 2027-01-01 9999-12-31"
+)
+NO_DAYS = (
+    "2027-01-32 2027-02-29 2028-02-30 2100-02-29 1900-02-29 2027-03-32 2027-04-31 2027-05-32 2027-06-31 "
+    "2027-07-32 2027-08-32 2027-09-31 2027-10-32 2027-11-31 2027-12-32 2027-01-00 2027-00-01 2027-13-01 "
+    "2027-1-01 2027-01-1 20270101 2027/01/01 2027-01/01 2027-01-0x x027-01-01 2027-01-011 +027-01-01 today"
+)
 # Words that name standard input twice.
 TWICE = [
     *["triage - --known -", "triage - --triage -", "triage - --page --confirmed -", "triage t --known - --triage -"],
@@ -61,7 +68,10 @@ GOES = [
     ("triage t --windows 4", "`--windows` takes its number after `=`, as in `--windows=1000`"),
     ("triage --windows 4 t --apart", "`--windows` takes its number after `=`, as in `--windows=1000`"),
     *[(f"{words} --hide=", EMPTY) for words in ("triage t", "triage t --windows", "merge part", "triage t --hide x")],
-    *[(f"{words} --only=", EMPTY) for words in ("triage t", "triage t --windows", "merge part", "merge part --only x")],
+    *[
+        (f"{words} --only=", EMPTY)
+        for words in ("triage t", "triage t --windows", "merge part", "merge part --only x")
+    ],
     *[(f"{words} --only= --fail", EMPTY) for words in ("triage t --hide x", "triage t --json", "merge part --page")],
 ]
 # Words of which one is missing, or is one too many.

@@ -70,11 +70,13 @@ def judge_proposals(tally, trace, entries, searcher):
     for call in calls:
         if call[0] != "propose" or call[1:3] not in first or call[3] != trace.slice(*call[1:3]):
             raise Wrong(
-                f"client {searcher} has made `{plain.words_of(call)}`, which proposes no slice of one of the first candidates"
+                f"client {searcher} has made `{plain.words_of(call)}`, which proposes no slice of one of the first "
+                f"candidates"
             )
     if sorted(call[1:3] for call in calls) != first:
         raise Wrong(
-            f"client {searcher} has proposed {sorted(call[1:3] for call in calls)}, and the first candidates are {first}"
+            f"client {searcher} has proposed {sorted(call[1:3] for call in calls)}, and the first candidates are "
+            f"{first}"
         )
     tally["proposed"] += len(calls)
     tally["events"] += sum(bool(call[3]) for call in calls)
@@ -128,7 +130,8 @@ def judged(run):
         if all(tally[kind] for kind in REACHED):
             break
     return (
-        f"workers: {tally['runs']} runs with {tally['proposed']} proposed slices are legal; scripts adopted {tally['adopted']} proposals and came too early "
+        f"workers: {tally['runs']} runs with {tally['proposed']} proposed slices are legal; scripts adopted "
+        f"{tally['adopted']} proposals and came too early "
         f"for {tally['too early']}, and in {tally['among']} runs they made entries between two proposals"
     )
 

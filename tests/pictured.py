@@ -168,7 +168,10 @@ def judge_bars(picture, boxes, runs, holds):
         for start, end in shades_of(run, holds):
             wanted.append((box.left, box.top + start * part, box.left + BAR, box.top + end * part))
     wanted.sort()
-    is_near = lambda shade, plain: all(abs(one - other) <= 1 for one, other in zip(shade, plain))
+
+    def is_near(shade, plain):
+        return all(abs(one - other) <= 1 for one, other in zip(shade, plain))
+
     if len(found) != len(wanted) or not all(map(is_near, found, wanted)):
         raise Wrong(f"the bars are shaded at {found}, and plainly at {wanted}")
     if any(shade.top >= shade.bottom for shade in found):
@@ -233,8 +236,10 @@ def judge_arrows(trace, picture, boxes, runs, waiters):
         start, _, ends = path.get("d")[1:].partition("C")
         numbers = list(map(int, (start + " " + ends).split(" ")))
         wide = boxes[0].right - boxes[0].left
-        column = lambda x: next(box.left for box in boxes if box.left <= x <= box.left + wide)
-        found.append((column(numbers[0]), numbers[1], column(numbers[-2]), numbers[-1]))
+        starts = [
+            next(box.left for box in boxes if box.left <= x <= box.left + wide) for x in (numbers[0], numbers[-2])
+        ]
+        found.append((starts[0], numbers[1], starts[1], numbers[-1]))
     if sorted(found) != sorted(wanted):
         raise Wrong(f"the arrows lead {sorted(found)}, and plainly {sorted(wanted)}")
 

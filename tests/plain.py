@@ -318,7 +318,9 @@ class Trace:
     def conflicting(self) -> list[tuple[int, int]]:
         """All pairs of events that conflict, in rising order."""
         numbers = range(len(self.events))
-        return [(first, second) for first in numbers for second in numbers[first + 1 :] if self.conflict(first, second)]
+        return [
+            (first, second) for first in numbers for second in numbers[first + 1 :] if self.conflict(first, second)
+        ]
 
     def candidates(self) -> list[tuple[int, int]]:
         """All candidates for a race, in rising order."""
@@ -360,7 +362,9 @@ class Trace:
 
     def held_since(self, event: int, lock: str) -> int:
         """The acquire since which the event's thread holds the lock before the event: of nested ones the outermost."""
-        own = [other for other in self.events_of(self.thread(event)) if other < event and self.does(other, "acq", lock)]
+        own = [
+            other for other in self.events_of(self.thread(event)) if other < event and self.does(other, "acq", lock)
+        ]
         return [acquire for acquire in own if not holds(self.events[:acquire], self.thread(event), lock)][-1]
 
     @asked_once
@@ -391,7 +395,9 @@ class Trace:
         while True:
             grown = []
             for event in numbers:
-                ends = self.section_ends(acquire for acquire in self.acquires(before[event]) if self.ends_first(acquire, event))
+                ends = self.section_ends(
+                    acquire for acquire in self.acquires(before[event]) if self.ends_first(acquire, event)
+                )
                 grown.append(before[event].union(*[before[other] for other in self.links(event) | ends]))
             if grown == before:
                 return before
@@ -426,7 +432,9 @@ class Trace:
             taken = self.acquires(needed)
             for first in taken:
                 for second in taken:
-                    is_shared = self.events[first].name == self.events[second].name and self.thread(first) != self.thread(second)
+                    is_shared = self.events[first].name == self.events[second].name and self.thread(
+                        first
+                    ) != self.thread(second)
                     if first < second and is_shared:
                         grown |= self.section_ends([first])
             if grown == needed:
@@ -448,10 +456,18 @@ class Trace:
                 return sorted(wanted)
             wanted = grown
 
-    def turned(self, first: int, second: int) -> Listed | None:
-        """What a search finds that begins with the least list in the order of the trace after which the second event
-        is next, and goes on by the first event that is wanted and may come next, and never goes back; or None."""
-        listed = self.needed(self.bases(second))
+    def front(self, event: int) -> int:
+        """The first acquire of the event's thread whose section is open before the event; else the event itself."""
+        earlier = [other for other in self.events_of(self.thread(event)) if other < event]
+        for acquire in self.acquires(earlier):
+            end = self.section_end(acquire)
+            if end is None or event < end:
+                return acquire
+        return event
+
+    def greedy(self, listed: Listed, first: int, second: int) -> Listed | None:
+        """What a search finds that begins with this list, and goes on by the first event that is wanted and may come
+        next, and never goes back; or None."""
         wanted = [event for event in self.wanted(first, second) if event not in (first, second)]
         while not self.shows(listed, first, second):
             enabled = [event for event in wanted if self.cause(listed, event) is None]
@@ -459,6 +475,16 @@ class Trace:
                 return None
             listed += (enabled[0],)
         return listed
+
+    def turned(self, first: int, second: int) -> Listed | None:
+        """What two searches find. The first begins with the least list in the order of the trace after which the
+        second event is next. The second search begins with the least one that both threads need before the sections
+        that are open before the two events."""
+        found = self.greedy(self.needed(self.bases(second)), first, second)
+        fronts = (self.front(first), self.front(second))
+        if found is None and fronts != (first, second):
+            found = self.greedy(self.needed(self.bases(*fronts)), first, second)
+        return found
 
     @asked_once
     def reorderings(self) -> list[Listed]:
@@ -494,10 +520,20 @@ def prologue(events: Sequence[Event], start: int, end: int, name: str) -> list[E
     and lock."""
     trace, part = Trace(events), events[start:end]
     locks = list(dict.fromkeys(event.name for event in events if event.word in ("acq", "rel")))
-    taken = [(thread, lock) for lock in locks for thread in trace.threads() for _ in range(min(holds(events[:start], thread, lock), 2 * is_on(lock, part)))]
+    taken = [
+        (thread, lock)
+        for lock in locks
+        for thread in trace.threads()
+        for _ in range(min(holds(events[:start], thread, lock), 2 * is_on(lock, part)))
+    ]
     made = []
     for thread, lock in taken:
-        made += [Event(thread, "acq", name), Event(thread, "r", name), Event(thread, "rel", name), Event(thread, "acq", lock)]
+        made += [
+            Event(thread, "acq", name),
+            Event(thread, "r", name),
+            Event(thread, "rel", name),
+            Event(thread, "acq", lock),
+        ]
         made += [Event(thread, "acq", name), Event(thread, "w", name), Event(thread, "rel", name)]
     forked = {event.name for event in part if event.word == "fork"}
     own = {event.thread for event in part} - forked
@@ -527,7 +563,9 @@ def threads_needed(events: Sequence[Event], start: int, end: int) -> int:
     depths: dict[tuple[str, str], int] = {}
     for event in before:
         if event.word in ("acq", "rel"):
-            depths[event.thread, event.name] = depths.get((event.thread, event.name), 0) + (1 if event.word == "acq" else -1)
+            depths[event.thread, event.name] = depths.get((event.thread, event.name), 0) + (
+                1 if event.word == "acq" else -1
+            )
     needed = named | {thread for (thread, _), depth in depths.items() if depth}
     if named & forked:
         needed.add(seen[0])
@@ -806,7 +844,14 @@ class Shown(NamedTuple):
 def merged_pairs(parts: Mapping[str, Sequence[Told]]) -> list[Shown]:
     """The pairs of places of the parts in the order in which `merge` tells them."""
     rows = sorted(
-        (*sorted(access["location"].encode() for access in row["accesses"]), RANKS.index(row["kind"]), row.get("events", 0), name.encode(), *(access["event"] for access in reversed(row["accesses"])), number)
+        (
+            *sorted(access["location"].encode() for access in row["accesses"]),
+            RANKS.index(row["kind"]),
+            row.get("events", 0),
+            name.encode(),
+            *(access["event"] for access in reversed(row["accesses"])),
+            number,
+        )
         for name, objects in parts.items()
         for number, row in enumerate(objects[1:])
     )
@@ -829,12 +874,17 @@ def merged(parts: Mapping[str, Sequence[Told]], with_apart: bool) -> str:
 def merged_of(pairs: Sequence[Shown], parts: int, with_apart: bool) -> str:
     """What `merge` prints of these pairs of so many parts."""
     lines = [f"parts {parts}"]
-    lines += [f"{word} {sum(pair.rank == rank for pair in pairs)}" for rank, word in enumerate(["races", "undecided", "apart"])]
+    lines += [
+        f"{word} {sum(pair.rank == rank for pair in pairs)}"
+        for rank, word in enumerate(["races", "undecided", "apart"])
+    ]
     for pair in pairs:
         if with_apart or pair.rank < 2:
             lines += block(pair.told)
             races, undecided, apart = pair.counts
-            lines.append(f"    parts race {races} undecided {undecided} apart {apart} unmet {parts - sum(pair.counts)}")
+            lines.append(
+                f"    parts race {races} undecided {undecided} apart {apart} unmet {parts - sum(pair.counts)}"
+            )
             lines.append(f"    part {pair.part}")
     return "".join(line + "\n" for line in lines)
 
@@ -842,7 +892,14 @@ def merged_of(pairs: Sequence[Shown], parts: int, with_apart: bool) -> str:
 def block(told: Told) -> Iterator[str]:
     """The lines of text of a row."""
     numbers = [f"{name} {told[name]}" for name in ["pairs", "variables", "events", "threads", "tried"] if name in told]
-    yield " ".join([told["kind"], *(str(access["event"]) for access in told["accesses"]), *([told["how"]] if "how" in told else []), *numbers])
+    yield " ".join(
+        [
+            told["kind"],
+            *(str(access["event"]) for access in told["accesses"]),
+            *([told["how"]] if "how" in told else []),
+            *numbers,
+        ]
+    )
     for access in told["accesses"]:
         yield f"  {access['thread']}|{access['operation']}({access['variable']})|{access['location']}"
         yield from (f"    holds {lock}" for lock in access["holds"])

@@ -55,7 +55,7 @@ static mtx_t x;
 static int flags[4], ends[2], event;
 static void once(void) { v[0] = 99; }
 static void set(int k) { pthread_mutex_lock(&f); flags[k] = 1; pthread_cond_broadcast(&c); pthread_mutex_unlock(&f); }
-static void await(int k) { pthread_mutex_lock(&f); while (!flags[k]) pthread_cond_wait(&c, &f); pthread_mutex_unlock(&f); }
+void await(int k) { pthread_mutex_lock(&f); while (!flags[k]) pthread_cond_wait(&c, &f); pthread_mutex_unlock(&f); }
 static void send(int to, size_t n) { uint64_t s = 1; if (write(to, &s, n) != (ssize_t)n) abort(); }
 static void receive(int from, size_t n) { uint64_t s; if (read(from, &s, n) != (ssize_t)n) abort(); }
 """
@@ -170,7 +170,8 @@ def team_program(chance):
     lines = [TEAM_HEAD]
     for _ in range(chance.randint(1, 2)):
         lines.append(
-            f"#pragma omp parallel num_threads({chance.randint(2, 4)})\n{{ int own = 0, T = omp_get_thread_num(); (void)own;\n"
+            f"#pragma omp parallel num_threads({chance.randint(2, 4)})\n{{ int own = 0, T = omp_get_thread_num(); "
+            f"(void)own;\n"
         )
         for _ in range(chance.randint(3, 7)):
             step = re.sub("A[CD]", lambda _: access(chance, "T"), chance.choice(TEAM_STEPS))
@@ -220,7 +221,9 @@ def follow(clock, words, racebench, pair):
     with open("witness.txt", encoding="utf-8") as file:
         plan = plans.Plan(clock, plans.read_witness(file, clock), tuple(map(int, pair)), PATIENCE)
     with tempfile.TemporaryFile() as records, quiet():
-        result = following.followed(plan, "first", words, 1, TIMEOUT, records=records)
+        settings = following.Settings(words, TIMEOUT, records=records)
+        runner, order = following.Runner(), plans.ORDERS["first"]
+        result = following.followed(runner, plan, order, 1, settings, sys.stderr.buffer)
         for number in (signal.SIGINT, signal.SIGTERM):
             signal.signal(number, signal.SIG_DFL)
         if not result.stands or not result.is_same_memory:
@@ -240,7 +243,8 @@ def follow(clock, words, racebench, pair):
             reads += 1
             if there.get(who, "none") != before[who]:
                 return (
-                    f"event {event} of the race {' '.join(pair)} reads what {there.get(who, 'none')} wrote, and not {before[who]}",
+                    f"event {event} of the race {' '.join(pair)} reads what {there.get(who, 'none')} wrote, and not "
+                    f"{before[who]}",
                     reads,
                 )
     return "", reads
@@ -314,7 +318,8 @@ def soak(racebench, first, programs):
                 print(why, flush=True)
             os.chdir(top)
     print(
-        f"soak: {programs} programs by chance and as many of OpenMP, {tally['recordings']} recordings, {tally['races']} races stood, "
+        f"soak: {programs} programs by chance and as many of OpenMP, {tally['recordings']} recordings, "
+        f"{tally['races']} races stood, "
         f"{tally['reads']} reads had their writers; {wrong} programs did not"
     )
     return 1 if wrong or not tally["reads"] else 0

@@ -1,4 +1,5 @@
-"""Judges examples/ci: the words that the three services run build a program, record it, and fail for a new race alone.
+"""Judges record/check and examples/ci: the lines that the three services run build a program, record it, and fail for a
+new race alone.
 
 What no other judge sees: a build that is green although a race is new, or although nothing was recorded or judged.
 """
@@ -7,6 +8,7 @@ import json
 import os
 import re
 import shutil
+import signal
 import stat
 import subprocess
 
@@ -16,21 +18,6 @@ from recorded_places import RECORD, TOP, ran
 
 FOLDER = os.path.join(TOP, "examples", "ci")
 MAKEFILE = "tests: tests.c\n\t$(CC) -g tests.c -o tests\n"
-# A race whose first access is under a lock.
-HELD = """#include <pthread.h>
-#include <stddef.h>
-int n;
-pthread_mutex_t m = PTHREAD_MUTEX_INITIALIZER;
-void *one(void *p) { pthread_mutex_lock(&m); n = 1; pthread_mutex_unlock(&m); return p; }
-void *two(void *p) { n = 2; return p; }
-int main(void) {
-  pthread_t a, b;
-  pthread_create(&a, NULL, one, NULL);
-  pthread_create(&b, NULL, two, NULL);
-  pthread_join(a, NULL);
-  return pthread_join(b, NULL);
-}
-"""
 QUIET = '#include <stdio.h>\nint main(void) { puts("quiet"); return 0; }\n'
 
 
@@ -85,23 +72,26 @@ def lay_out(racebench):
     """A repository that is built so, and commands with the names that the package has."""
     os.makedirs("bin")
     os.makedirs("ci")
-    for command, script in (("racebench-cc", "cc"), ("racebench-c++", "c++"), ("racebench-record", "run")):
+    for command, script in (("racebench-cc", "cc"), ("racebench-c++", "c++")):
         os.symlink(os.path.join(RECORD, script), os.path.join("bin", command))
+    check = os.path.join(RECORD, "check")
+    with open("bin/racebench-check", "w", encoding="ascii") as file:
+        file.write(f'#!/bin/sh\nexec {check} --seeds 1,2 --minutes "${{MINUTES:-0}}" --jobs 1 "$@"\n')
     with open("bin/racebench", "w", encoding="ascii") as file:
         file.write(f'#!/bin/sh\nexec {racebench} "$@"\n')
     for name, text in FAKED.items():
         with open(os.path.join("bin", name), "w", encoding="ascii") as file:
             file.write(f"#!/bin/sh\n{text}\n")
-    for name in ("racebench", *FAKED):
+    for name in ("racebench", "racebench-check", *FAKED):
         os.chmod(os.path.join("bin", name), stat.S_IRWXU)
     with open(DEB, "w", encoding="ascii"):
         pass
-    shutil.copy(os.path.join(FOLDER, "triage.sh"), "ci/triage.sh")
     shutil.copy(os.path.join(TOP, "examples", "count.c"), "tests.c")
-    for name, text in (("Makefile", MAKEFILE), ("ci/known.txt", "")):
+    for name, text in (("Makefile", MAKEFILE), ("ci/known.toml", "")):
         with open(name, "w", encoding="ascii") as file:
             file.write(text)
-    return dict(os.environ, PATH=os.path.abspath("bin") + os.pathsep + os.environ["PATH"], SEEDS="2")
+    folder = os.path.abspath("bin")
+    return dict(os.environ, PATH=folder + os.pathsep + os.environ["PATH"], RACEBENCH=os.path.join(folder, "racebench"))
 
 
 def judge_log(rules):
@@ -121,36 +111,20 @@ def judge_log(rules):
 def judge_service(racebench, name):
     environment = lay_out(racebench)
     status, said, told = served(name, environment)
-    if status != 3 or "record/" in told:
+    if status != 3 or "Traceback" in told:
         raise Wrong(f"an empty file of known races: status {status}, {said!r}, {told!r}")
-    if "seed 2: a new race\nrace " not in said or not os.path.exists("races/2.html"):
-        raise Wrong(f"a new race is not shown: {said!r}")
+    if "races 1: 1 new, 0 known\n" not in said or "seed 2: 1 race\n" not in told:
+        raise Wrong(f"a new race is not shown: {said!r}, {told!r}")
     if name != "Jenkinsfile":
         with open("installed", encoding="ascii") as file:
             if f"install -y ./{DEB} " not in file.read():
                 raise Wrong("the package is not installed")
     judge_log(["data-race"])
-    with open("ci/known.txt", "w", encoding="ascii") as known:
-        known.write("none\n")
-    if served(name, environment)[1].count("has no block `race`") != 1:
-        raise Wrong("a file of known races without one is not told once")
-    with open("races/1.txt", encoding="ascii") as old, open("ci/known.txt", "w", encoding="ascii") as known:
-        known.write(old.read())
+    shutil.copy("races/races.toml", "ci/known.toml")
     status, said, _ = served(name, environment)
-    if status or not said.endswith("seed 1: no new race\nseed 2: no new race\n"):
+    if status or "races 1: 0 new, 1 known\n" not in said:
         raise Wrong(f"a known race is new: status {status}, {said!r}")
     judge_log([])
-
-
-def judge_locks(racebench):
-    """A race whose first access holds a lock is shown whole."""
-    environment = {**lay_out(racebench), "SEEDS": "1"}
-    with open("tests.c", "w", encoding="ascii") as file:
-        file.write(HELD)
-    ran(["make", "CC=racebench-cc"], env=environment)
-    said = ran(["sh", "ci/triage.sh", "ci/known.txt", "./tests"], wanted=3, env=environment)
-    if not re.search(r"^race .*\n  T1\|w\(n\)\|.*\n    holds m\n  T2\|w\(n\)\|.*\n\Z", said, re.MULTILINE):
-        raise Wrong(f"a race with a lock is not shown whole: {said!r}")
 
 
 def judge_no_green(racebench):
@@ -158,26 +132,104 @@ def judge_no_green(racebench):
     environment = lay_out(racebench)
     judge = ["bash", "-ec", scripts("github.yml")[2]]
     ran(judge, wanted=1, env=environment)
-    os.rename("ci/known.txt", "known.txt")
+    os.rename("ci/known.toml", "known.toml")
     done = subprocess.run(judge, capture_output=True, text=True, env=environment, check=False)
-    if done.returncode != 1 or not done.stderr.startswith("ci/known.txt, "):
+    if done.returncode != 1 or not done.stderr.startswith("record/check: ci/known.toml, "):
         raise Wrong(f"a file of known races that is not there is not said: {done}")
-    os.rename("known.txt", "ci/known.txt")
+    os.rename("known.toml", "ci/known.toml")
     with open("tests.c", "w", encoding="ascii") as file:
         file.write(QUIET)
     ran(["gcc", "tests.c", "-o", "tests"])
-    if "seed 1: not recorded" not in ran(judge, wanted=1, env=environment):
+    if "not judged: failed: seeds 1, 2\n" not in ran(judge, wanted=1, env=environment):
         raise Wrong("a program without hooks is not said")
     shutil.copy(os.path.join(TOP, "examples", "count.c"), "tests.c")
     ran(["make", "-B", "CC=racebench-cc"], env=environment)
     with open("bin/racebench", "w", encoding="ascii") as file:
         file.write("#!/bin/sh\nexit 4\n")
-    if "seed 1: not judged, status 4" not in ran(judge, wanted=1, env=environment):
+    if "not judged: failed: seeds 1, 2\n" not in ran(judge, wanted=1, env=environment):
         raise Wrong("a trace that is not judged is not said")
+
+
+def check(racebench, *words, wanted=3):
+    """The lines that record/check prints of `tests`, and what it says of its work."""
+    words = [os.path.join(RECORD, "check"), "--racebench", racebench, *words]
+    done = subprocess.run(words, capture_output=True, text=True, check=False)
+    if done.returncode != wanted or "Traceback" in done.stderr:
+        raise Wrong(f"{' '.join(words)}: status {done.returncode}, and not {wanted}: {done.stdout}{done.stderr}")
+    return done.stdout.splitlines(), done.stderr
+
+
+def judge_check(racebench):
+    """The worst race comes first, with what it leads to; what was followed is written down; each file is there."""
+    lay_out(racebench)
+    source = os.path.join(TOP, "tests", "recorded", "races", "freed_early.c")
+    ran([os.path.join(RECORD, "cc"), "-O1", source, "-o", "tests"])
+    lines, said = check(racebench, "--seeds", "1-3", "--out", "kept", "./tests")
+    # A seed in which the program crashes is not whole.
+    wanted = [
+        r"seeds 3: (3 whole, 0|2 whole, 1) not whole, 0 failed",
+        r"races 4: 4 new, 0 known",
+        r"followed 4: 3 matter, 1 are the same, 0 not known, 0 departed; not followed 0",
+        r"worst: a block is freed and used: freed_early\.c:\d+ and freed_early\.c:\d+, a race in [23] of the seeds",
+        r"it leads to: T1 (reads|writes) \d bytes? of a block that T2 has freed, then signal 11 \(SIGSEGV\)",
+        r"not judged: (nothing|not whole: seeds \d)",
+        r"page: kept/races\.html, code scanning: kept/races\.sarif",
+        r"to accept races: choose entries of kept/races\.toml for your file of known races",
+        r"next: racebench explain kept/seed-\d\.std \d+ \d+",
+    ]
+    if len(lines) != len(wanted) or not all(map(re.fullmatch, wanted, lines)):
+        raise Wrong(f"a check of freed_early.c: {lines}")
+    if len(re.findall(r"^record/check: [123] of 3: seed [123]: \d race", said, re.MULTILINE)) != 3:
+        raise Wrong(f"a check of freed_early.c does not show its seeds: {said}")
+    if said.count("following race ") != 4:
+        raise Wrong(f"a check of freed_early.c does not show how far it is: {said}")
+    with open("kept/confirmed.jsonl", encoding="ascii") as file:
+        found = [json.loads(line) for line in file]
+    if len(found) != 4 or any(one["ended"] != "stands" or not os.path.exists(f"kept/{one['trace']}") for one in found):
+        raise Wrong(f"what was followed: {found}")
+    ran([racebench, *lines[8].split()[2:]])
+    with open("kept/races.toml", encoding="ascii") as file:
+        entries = file.read()
+    if entries.count("[[race]]") < 4:
+        raise Wrong(f"four races have fewer entries: {entries}")
+    lines, _ = check(racebench, "--seeds", "1", "--known", "kept/races.toml", "./tests", wanted=0)
+    if lines[1] != "races 4: 0 new, 4 known" or not lines[2].startswith("followed 0: "):
+        raise Wrong(f"known races: {lines}")
+
+
+def judge_stopped(racebench):
+    """A signal ends a check: what was recorded so far is reported, and no file is half written."""
+    lay_out(racebench)
+    source = os.path.join(TOP, "tests", "recorded", "races", "served.c")
+    ran([os.path.join(RECORD, "cc"), "-O1", source, "-o", "tests"])
+    os.mkfifo("pipe")
+    words = [
+        os.path.join(RECORD, "check"),
+        "--racebench",
+        racebench,
+        "--seeds",
+        "1-3",
+        "--jobs",
+        "1",
+        "./tests",
+        "pipe",
+    ]
+    with subprocess.Popen(words, stdout=subprocess.PIPE, stderr=subprocess.PIPE, text=True) as started:
+        with open("pipe", "w", encoding="ascii"):
+            said = started.stderr.readline()
+        started.send_signal(signal.SIGTERM)
+        out, more = started.communicate()
+    lines = out.splitlines()
+    if started.returncode != -signal.SIGTERM or said != "record/check: 1 of 3: seed 1: 1 race\n":
+        raise Wrong(f"a check that was stopped: {started.returncode}, {said}{more}")
+    if lines[:2] != ["seeds 3: 1 whole, 0 not whole, 0 failed, 2 stopped", "races 1: 1 new, 0 known"]:
+        raise Wrong(f"a check that was stopped: {lines}")
+    if [name for name in os.listdir("races") if name.endswith(".part")] or not os.path.exists("races/races.html"):
+        raise Wrong(f"a check that was stopped leaves {os.listdir('races')}")
 
 
 def cases(racebench):
     names = ("github.yml", "gitlab.yml", "Jenkinsfile")
     found = [(f"words of examples/ci/{name}", judge_service, (racebench, name)) for name in names]
-    found.append(("a race with a lock in a build", judge_locks, (racebench,)))
+    found += [("a check", judge_check, (racebench,)), ("a check that is stopped", judge_stopped, (racebench,))]
     return [*found, ("a build without a judgement is not green", judge_no_green, (racebench,))]

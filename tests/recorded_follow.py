@@ -9,16 +9,22 @@ import functools
 import itertools
 import json
 import os
+import random
 import re
 import shutil
+import signal
 import subprocess
+import sys
 import tempfile
 
 from judging import Wrong
-from recorded_places import PATIENCE
+from recorded_places import PATIENCE, events_in
 
 TOP = os.path.dirname(os.path.dirname(os.path.abspath(__file__)))
 RECORD = os.path.join(TOP, "record")
+sys.path.append(RECORD)
+import verdicts
+
 SOURCES = os.path.join(TOP, "tests", "recorded", "races")
 # A slow machine has time for a run, and for what comes between two hooks.
 LIMITS = ["--timeout", str(PATIENCE), "--patience", "60000"]
@@ -26,35 +32,69 @@ FOLLOW = [os.path.join(RECORD, "follow"), *LIMITS]
 OKAY, ASSERTION, FAULT = "status 0", "signal 6 (SIGABRT)", "signal 11 (SIGSEGV)"
 ANY = (OKAY, ASSERTION, FAULT)
 BAD = (ASSERTION, FAULT)
+ENDING = re.compile(r"status \d+|signal \d+ \(\w+\)|hangs|departed")
 # For each program the words for the recorder, and for each of its races: the lines of both accesses, the lower first,
-# and how the program may end with the lower first and with the higher first. Of two accesses in one line either is the
-# lower.
+# and how the program may end in each of four orders. Those are: the lower access first, and its thread goes on; the
+# same, and the other thread goes on; the higher access first, and its thread goes on; the same, and the other thread
+# goes on. Of two accesses in one line either is the lower.
 PROGRAMS = {
-    "lost.c": ([], [(6, 6, (ASSERTION,), (OKAY,))]),
-    "checked_twice.c": ([], [(10, 13, (OKAY,), (FAULT,)), (15, 23, (OKAY,), (FAULT,))]),
+    "lost.c": ([], [(6, 6, (OKAY,), (OKAY,), (ASSERTION,), (ASSERTION,))]),
+    "checked_twice.c": (
+        [],
+        [(10, 13, ANY, (OKAY,), (OKAY,), (FAULT,)), (15, 23, (OKAY,), (OKAY,), (FAULT,), (FAULT,))],
+    ),
     "stopping.c": (
         [],
-        [(13, 13, BAD, ANY), (13, 26, BAD, ANY), (13, 26, ANY, BAD), (10, 27, ANY, ANY), (12, 27, ANY, ANY)],
+        [
+            (13, 13, ANY, ANY, BAD, BAD),
+            (13, 26, ANY, ANY, BAD, BAD),
+            (13, 26, BAD, BAD, ANY, ANY),
+            (10, 27, ANY, ANY, ANY, ANY),
+            (12, 27, ANY, ANY, ANY, ANY),
+        ],
     ),
-    "freed_early.c": ([], [(11, 18, (FAULT,), (OKAY,)), (11, 19, (OKAY,), ANY), (11, 20, (FAULT,), (FAULT,))]),
-    "aba.c": (["--yield", "2"], [(14, 20, (ASSERTION,), (OKAY,))]),
-    "bank.c": ([], [(8, 10, (ASSERTION,), (OKAY,))]),
+    "freed_early.c": (
+        [],
+        [
+            (11, 18, (OKAY,), (FAULT,), (OKAY,), (OKAY,)),
+            (11, 19, (OKAY,), (OKAY,), (FAULT,), ANY),
+            (11, 20, (FAULT,), (FAULT,), (FAULT,), (FAULT,)),
+        ],
+    ),
+    "aba.c": (["--yield", "2"], [(14, 20, (OKAY,), (ASSERTION,), (OKAY,), (OKAY,))]),
+    "bank.c": ([], [(8, 10, (ASSERTION,), (ASSERTION,), (OKAY,), (OKAY,))]),
     "ring.c": (
         [],
-        [(11, 13, (ASSERTION,), ANY), (12, 12, (ASSERTION,), (ASSERTION,)), (13, 13, (ASSERTION,), (ASSERTION,))],
+        [
+            (11, 13, (ASSERTION,), (ASSERTION,), ANY, ANY),
+            (12, 12, (ASSERTION,), (ASSERTION,), (ASSERTION,), (ASSERTION,)),
+            (13, 13, (ASSERTION,), (ASSERTION,), (ASSERTION,), (ASSERTION,)),
+        ],
     ),
-    "counted_twice.cpp": ([], [(11, 11, BAD, (OKAY,))]),
-    "passed.c": ([], [(14, 22, (ASSERTION,), ANY)]),
-    "asked_again.c": ([], [(8, 17, (OKAY,), (OKAY,))]),
+    "counted_twice.cpp": ([], [(11, 11, (OKAY,), (OKAY,), BAD, BAD)]),
+    "passed.c": ([], [(14, 22, (ASSERTION,), (ASSERTION,), ANY, ANY)]),
+    "asked_again.c": ([], [(8, 17, (OKAY,), (OKAY,), (OKAY,), (OKAY,))]),
+    "halves.c": (
+        [],
+        [(6, 11, (OKAY,), (ASSERTION,), (OKAY,), (ASSERTION,)), (7, 12, (OKAY,), (OKAY,), (ASSERTION,), (ASSERTION,))],
+    ),
+    "account.c": ([], [(6, 11, (OKAY,), (ASSERTION,), (OKAY,), (ASSERTION,))]),
+    "torn_list.c": (
+        [],
+        [
+            (9, 14, (OKAY,), (ASSERTION,), (OKAY,), (ASSERTION,)),
+            (10, 15, (OKAY,), (OKAY,), (ASSERTION,), (ASSERTION,)),
+        ],
+    ),
 }
 # So many races stand at least in all programs together: ring.c waits by the time, so it has one or more.
-ALL_RACES = 18
+ALL_RACES = 23
 DIFFER = "the order matters: the outputs differ: 1 with A first, 0 with B first"
 NO_DIFFERENCE = "it makes no difference"
 # The members of a line of JSON for a race that stands and for one that departed, as docs/FORMATS.md has them.
 BOTH = {"ended", "events", "locations", "places", "text"}
 MEMBERS = {
-    "stands": BOTH | {"first", "liberties", "matters", "same_memory", "second", "why"},
+    "stands": BOTH | {"endings", "first", "liberties", "matters", "runs", "same_memory", "second", "uses", "why"},
     "departed": BOTH | {"at"},
 }
 UNKNOWN = "whether the order matters is not known: the outputs vary by themselves"
@@ -70,6 +110,16 @@ OUTPUTS = [
     ("order", 3, None, UNKNOWN),
     ("process", 1, None, UNKNOWN),
 ]
+# For each program the first use of a freed block that the recorder sees, in an order that comes to it, and in how many
+# of the orders it does not.
+FREED = {
+    "freed_twice.c": ("T2 frees a block that T1 has freed: at freed_twice.c:7, freed at freed_twice.c:7", 2),
+    "stale.c": ("T1 reads 1 byte of a block that T2 has freed: at stale.c:11, freed at stale.c:19", 3),
+}
+# How many draws there are of orders that share one distribution of endings, by the number of orders, and how often
+# `matters` may be said of them.
+DRAWN, MOST_WRONG = {2: 100_000, 4: 30_000, 6: 30_000}, 0.001
+ORDERS = ["a-a", "a-b", "b-b", "b-a", "far-first", "far-second"]
 
 
 def ran(words, wanted=0, text=None, **more):
@@ -85,7 +135,7 @@ def recorded(source, words, name="program", flags=(), args=()):
     """Compiles and records a program: NAME, NAME.std and NAME.clock."""
     compiler = "c++" if source.endswith(".cpp") else "cc"
     ran([os.path.join(RECORD, compiler), "-O1", *flags, source, "-o", name])
-    trace, _ = ran([os.path.join(RECORD, "run"), "--clock", name + ".clock", *words, "./" + name, *args])
+    trace, _ = ran([os.path.join(RECORD, "run"), "--partial", "--clock", name + ".clock", *words, "./" + name, *args])
     with open(name + ".std", "w", encoding="utf-8", errors="surrogateescape") as file:
         file.write(trace)
 
@@ -112,7 +162,7 @@ def confirmed(racebench, name="program", *words, wanted=0, **more):
     if not out.splitlines()[-1].startswith(f"races {len(found)}, stand "):
         raise Wrong(f"the last line counts other races than there are: {out}")
     with open(name + ".std", encoding="utf-8", errors="surrogateescape") as file:
-        there = [line.rstrip("\n").split("|", 2)[2] for line in file]
+        there = [line.split("|", 2)[2] for line in events_in(file.read())]
     for one in found:
         locations = [there[event] for event in one["events"]]
         if (
@@ -143,15 +193,13 @@ def why_wrong(source, one):
     if one["ended"] != "stands" or not one["same_memory"]:
         return f"does not stand: {one['text']}"
     lines = [int(place.rsplit(":", 1)[1]) for place in one["places"]]
-    endings = [(one["first"], one["second"])]
-    if lines[0] >= lines[1]:
-        endings.append((one["second"], one["first"]))
-    endings = endings[-1:] if lines[0] > lines[1] else endings
-    lines.sort()
-    for low, high, low_first, high_first in PROGRAMS[source][1]:
-        if [low, high] == lines and any(first in low_first and second in high_first for first, second in endings):
+    endings = [set(ENDING.findall(one["endings"][order])) for order in ("a-a", "a-b", "b-b", "b-a")]
+    ways = [endings, endings[2:] + endings[:2]]
+    ways = ways[: 1 + (lines[0] == lines[1])] if lines[0] <= lines[1] else ways[1:]
+    for low, high, *allowed in PROGRAMS[source][1]:
+        if [low, high] == sorted(lines) and any(all(map(set.issubset, way, map(set, allowed))) for way in ways):
             return ""
-    return f"lines {lines}: A first {one['first']}, B first {one['second']}"
+    return f"lines {lines}: {one['endings']}"
 
 
 def witness_of(racebench, name):
@@ -192,6 +240,112 @@ def judge_outputs(racebench):
             raise Wrong(f"outputs that show {shown}, {tries} tries: {said}")
 
 
+def judge_freed(racebench):
+    """The recorder says itself that a block is used after it was freed, also if nothing else shows it; and no program
+    that frees nothing too early is said to do so."""
+    for source, (text, without) in FREED.items():
+        recorded(os.path.join(SOURCES, source), [])
+        found = confirmed(racebench)
+        if [one["matters"] for one in found] != [True] or found[0]["uses"] != [text]:
+            raise Wrong(f"{source}: {found}")
+        if sum("freed" not in ending for ending in found[0]["endings"].values()) != without:
+            raise Wrong(f"{source}: {found[0]['endings']}")
+    for source in ("halves.c", "asked_again.c", "passed.c"):
+        recorded(os.path.join(SOURCES, source), [])
+        used = [one["uses"] for one in confirmed(racebench) if one["uses"]]
+        if used:
+            raise Wrong(f"{source}: {used}")
+
+
+def drawn_verdict(chances, endings, rates, orders):
+    """The verdict on orders that share one distribution of endings, and how many runs each had."""
+    names, runs = dict(zip(orders, orders)), {order: [] for order in orders}
+    while True:
+        for order in orders:
+            runs[order].append(verdicts.Outcome(chances.choices(endings, rates)[0], b""))
+        verdict = verdicts.verdict(runs, names, 2)
+        if not verdict.wants_more:
+            return verdict, len(runs[orders[0]])
+
+
+def judge_rule(_):
+    """Orders that lead to the same are hardly ever said to matter: with two, four and six orders, one to four endings
+    and any rates. Two orders with one ending each that differ are said to matter after six runs."""
+    for count, draws in DRAWN.items():
+        chances, wrong = random.Random(count), 0
+        for _ in range(draws):
+            endings = [f"status {k}" for k in range(chances.randint(1, 4))]
+            rates = [chances.expovariate(1) for _ in endings] if chances.random() < 0.8 else [1] * len(endings)
+            verdict, runs = drawn_verdict(chances, endings, rates, ORDERS[:count])
+            wrong += verdict.matters is True
+            if runs > 8 or (verdict.matters is not False and len(endings) == 1):
+                raise Wrong(f"{count} orders with the endings {endings}: {verdict} after {runs} runs")
+        if wrong > MOST_WRONG * draws:
+            raise Wrong(f"{count} orders that lead to the same: {wrong} of {draws} matter")
+    judge_known_verdicts()
+
+
+def judge_known_verdicts():
+    """Verdicts on runs of two orders: how often each came, the endings and outputs, and what has to be said."""
+    good, bad, endless = (verdicts.Outcome(text, b"") for text in (OKAY, FAULT, "hangs"))
+    gone = verdicts.Outcome("departed", b"")
+    said = [verdicts.Outcome(OKAY, b"seen %d of %d" % (seen, of)) for seen in (0, 1) for of in range(9)]
+    cases = [
+        ([good] * 6, [bad] * 6, True, verdicts.ENDINGS_DIFFER, False),
+        ([good] * 5, [bad] * 5, None, verdicts.ENDINGS_VARY, True),
+        ([good] * 5 + [bad], [bad] * 6, None, verdicts.ENDINGS_VARY, False),
+        ([good] * 2, [good] * 2, False, "", False),
+        ([good], [good], False, "", True),
+        ([endless] * 2, [endless] * 2, None, verdicts.IS_ENDLESS, False),
+        ([endless] * 6, [good] * 6, True, verdicts.ENDINGS_DIFFER, False),
+        ([good] * 6, [good] * 5 + [gone], None, verdicts.IS_GONE, False),
+        (said[:9], said[9:], True, "the outputs differ: 0 with A, 1 with B", False),
+        (said[:2], said[9:11], None, verdicts.OUTPUTS_VARY, True),
+        (said[:9] + said[9:], said, None, verdicts.OUTPUTS_VARY, False),
+    ]
+    for first, second, *wanted in cases:
+        found = verdicts.verdict({"first": first, "second": second}, {"first": "A", "second": "B"}, 2)
+        if list(found) != wanted:
+            raise Wrong(f"{first} and {second}: {found}, and not {wanted}")
+
+
+def judge_ended(racebench):
+    """A signal ends record/confirm and its program. The rows that were known stay, and no other has a verdict."""
+    recorded(os.path.join(SOURCES, "eight.c"), [])
+    words = [os.path.join(RECORD, "confirm"), "--racebench", racebench, *LIMITS]
+    for number in (signal.SIGTERM, signal.SIGINT):
+        with subprocess.Popen(
+            [*words, "--json", "eight.json", "program.std", "program.clock"],
+            stdout=subprocess.PIPE,
+            stderr=subprocess.PIPE,
+            text=True,
+            preexec_fn=lambda: signal.signal(signal.SIGINT, signal.default_int_handler),
+        ) as started:
+            rows = [started.stdout.readline(), started.stdout.readline()]
+            started.send_signal(number)
+            out, said = started.communicate(timeout=PATIENCE)
+        rows += out.splitlines()
+        with open("eight.json", encoding="ascii") as file:
+            found = [json.loads(line) for line in file]
+        counts = f"races {len(found)}, stand {len(found)}, departed 0, order matters 0"
+        told = f"record/confirm: {8 - len(found)} races have no verdict\nrecord/confirm: ended by {number.name}\n"
+        if started.returncode != -number or said != told or rows[-1] != counts or len(rows) != len(found) + 2:
+            raise Wrong(f"ended by {number.name}: {started.returncode} {rows} {said}")
+        if not 1 <= len(found) < 8:
+            raise Wrong(f"ended by {number.name}: {len(found)} races are known")
+
+
+def judge_beside(racebench):
+    """A command runs beside each run: here it is the client that ends a server."""
+    recorded(os.path.join(SOURCES, "served.c"), [])
+    os.mkfifo("pipe")
+    confirm = [os.path.join(RECORD, "confirm"), "--racebench", racebench, *LIMITS]
+    words = [*confirm, "--beside", "echo > pipe", "program.std", "program.clock", "./program", "pipe"]
+    out, _ = ran(words)
+    if " is the same" not in out:
+        raise Wrong(f"a server with a client: {out}")
+
+
 def judge_program(racebench):
     """racebench is named by either option or by the variable."""
     recorded(os.path.join(SOURCES, "lost.c"), [])
@@ -225,7 +379,7 @@ def judge_teams(racebench):
     does."""
     for source, seed in itertools.product(("region.c", "teams.c", "openmp.c"), ("1", "2")):
         recorded(os.path.join(TOP, "tests", "recorded", source), ["--seed", seed, "--yield", "5"], flags=["-fopenmp"])
-        found = confirmed(racebench)
+        found = confirmed(racebench, "program", "--tries", "1")
         if [one["ended"] for one in found] != ["stands"] or not found[0]["same_memory"]:
             raise Wrong(f"{source}, seed {seed}: {found}")
 
@@ -306,6 +460,10 @@ JUDGES = [
     ("races stand", judge_races),
     ("both orders", judge_orders),
     ("outputs", judge_outputs),
+    ("freed blocks", judge_freed),
+    ("the rule", judge_rule),
+    ("a signal", judge_ended),
+    ("a client beside", judge_beside),
     ("the program's name", judge_program),
     ("a departure", judge_departs),
     ("a thread that waits", judge_waits),

@@ -1,5 +1,5 @@
-"""Judges what record/run writes of a run: that the two decoders write the same bytes, where a trace begins and
-ends, which variables it has, and that one of any length is whole.
+"""Judges what record/run writes of a run: that the decoder writes the trace that its judge computes from the records,
+where a trace begins and ends, which variables it has, and that one of any length is whole.
 
 What no other judge sees: a trace that begins in the midst of a run and lets a lock go that nobody took, a variable of
 which a part of the accesses is missing, a limit that nothing is said of.
@@ -9,10 +9,9 @@ import os
 import re
 import subprocess
 import sys
-import tempfile
 
 from judging import Wrong
-from recorded_places import PATIENCE, RECORD, SOURCES, ran
+from recorded_places import PATIENCE, RECORD, SOURCES, TOP, events_in, ran
 
 MOST_EVENTS = 1_048_576
 # The decoder is compiled once, which takes minutes on a machine that does much else.
@@ -22,50 +21,83 @@ THREADS = 600
 
 
 def run(*words):
-    """What record/run writes of `program`, and what it says."""
+    """The events that record/run writes of `program`, and what it says. The recording may be not whole."""
     done = subprocess.run([os.path.join(RECORD, "run"), *words], capture_output=True, timeout=PATIENCE, check=False)
-    if done.returncode:
+    if done.returncode not in (0, 4):
         raise Wrong(
             f"record/run {' '.join(words)}: status {done.returncode}: {done.stderr.decode(errors='replace')[:600]}"
         )
-    return done.stdout.decode().splitlines(), done.stderr.decode(errors="replace")
+    return events_in(done.stdout.decode()), done.stderr.decode(errors="replace")
 
 
-def why_no_decoder():
-    """Why the decoder in C++ can't be compiled here; nothing if it can. Without it the decoders are the same, and
-    nothing is compared."""
-    text = (
-        "import sys; sys.path.insert(0, sys.argv[1]); import decoders; "
-        "path, why = decoders.compiled(sys.argv[2]); print('' if path else why or '?')"
-    )
-    with tempfile.TemporaryDirectory() as folder:
-        words = [sys.executable, "-c", text, RECORD, folder]
-        return subprocess.run(words, stdout=subprocess.PIPE, check=True, timeout=COMPILING).stdout.decode().strip()
+# A Python that has Debian's python3-pyelftools: the one that runs this, or Debian's own.
+PYTHONS = (sys.executable, "/usr/bin/python3")
+# Programs of tests/recorded whose traces the judge computes. They are small, in C, and have no relaxed atomics.
+INTERPRETED = (
+    "count each_kind barrier rounds semaphore_lock read_lock between_writers freed signals sockets frames named"
+).split()
 
 
-def decoded(*words):
-    """The trace of the records in `kept.raw`, which both decoders have to write alike; and the facts of it."""
-    text = "import sys; sys.path.insert(0, sys.argv[1]); import decoders; print(*decoders.command(sys.argv[2]))"
-    command = ran([sys.executable, "-c", text, RECORD, os.getcwd()]).split()
-    done = [
-        subprocess.run([*each, *words, "kept.raw"], capture_output=True, timeout=PATIENCE, check=False)
-        for each in (command, [sys.executable, os.path.join(RECORD, "decode.py")])
-    ]
-    told = [
-        (each.returncode, each.stdout.decode().splitlines(), each.stderr.decode(errors="replace")) for each in done
-    ]
-    if told[0][0] or told[0] != told[1]:
-        pairs = zip(told[0][1] + [told[0][2]], told[1][1] + [told[1][2]])
-        raise Wrong(f"the decoders differ with {words}: {next((pair for pair in pairs if pair[0] != pair[1]), told)}")
-    return told[0][1], told[0][2]
+def decoder():
+    """The path of the decoder, which is compiled if it is not there yet."""
+    text = "import sys; sys.path.insert(0, sys.argv[1]); import decoders; print(decoders.path())"
+    done = subprocess.run([sys.executable, "-c", text, RECORD], capture_output=True, timeout=COMPILING, check=False)
+    if done.returncode:
+        raise Wrong(f"there is no decoder: {done.stderr.decode(errors='replace')[-600:]}")
+    return done.stdout.decode().strip()
 
 
-def judge_decoders(words):
-    """Both decoders write the trace of a run alike, and it is the one that record/run wrote."""
-    trace = ran([os.path.join(RECORD, "run"), *words, "--raw", "kept.raw", "./program"]).splitlines()
-    again, _ = decoded(*[word for word in words if word == "--no-free"])
+def decoded(*options):
+    """The trace of the records in `kept.raw`, and the facts of it."""
+    done = subprocess.run([decoder(), *options, "kept.raw"], capture_output=True, timeout=PATIENCE, check=False)
+    if done.returncode:
+        raise Wrong(f"the decoder ended with status {done.returncode}: {done.stderr.decode(errors='replace')[:600]}")
+    return events_in(done.stdout.decode()), done.stderr.decode(errors="replace")
+
+
+def interpreted(*options):
+    """The trace of `kept.raw` as its judge computes it."""
+    for python in PYTHONS:
+        if subprocess.run([python, "-c", "import elftools"], capture_output=True, check=False).returncode == 0:
+            return ran([python, os.path.join(TOP, "tests", "raw_trace.py"), *options, "kept.raw"]).splitlines()
+    raise Wrong("the judge of the decoder needs Debian's package python3-pyelftools")
+
+
+def judge_decoder(source, options, c):
+    """The trace of a run is the one of the records that were kept, and the one that its judge computes from them. The
+    pyelftools of Debian 12 do not know the checksums in clang's tables of lines."""
+    run = [os.path.join(RECORD, "run"), *options, "--partial", "--names", "raw", "--raw", "kept.raw", "./program"]
+    trace = events_in(ran(run))
+    again, _ = decoded("--raw-names", *[option for option in options if option == "--no-free"])
     if not trace or trace != again:
         raise Wrong("the trace is not the one of the records that were kept")
+    stem, ending = os.path.splitext(os.path.basename(source))
+    if c != "gcc" or ending != ".c" or stem not in INTERPRETED or "--no-free" in options:
+        return
+    expected = interpreted()
+    if trace != expected:
+        first = next((pair for pair in zip(trace, expected) if pair[0] != pair[1]), (len(trace), len(expected)))
+        raise Wrong(f"the decoder differs from its judge: {first}")
+    judge_objects(decoded()[0], interpreted("--frames"))
+
+
+def judge_objects(lines, expected):
+    """The names of the source stand for the objects and places that the judge finds, one for one: no two of them share
+    a name, and each keeps its own."""
+    if len(lines) != len(expected):
+        raise Wrong(f"with names of the source there are {len(lines)} events, and the judge finds {len(expected)}")
+    named, places = {}, {}
+    for line, other in zip(lines, expected):
+        (name, rest), (place, wanted) = operand(line), operand(other)
+        if rest != wanted or named.setdefault(place, name) != name or places.setdefault(name, place) != place:
+            raise Wrong(f"{line} is {other} for the judge; {place} is {named[place]}, and {name} is {places.get(name)}")
+
+
+def operand(line):
+    """What an event is of, and the line without it."""
+    before, _, rest = line.partition("(")
+    name, _, after = rest.partition(")|")
+    return name, (before, after)
 
 
 def held_wrongly(lines):
@@ -107,11 +139,13 @@ def judge_only():
 
 
 def judge_length():
-    """With --stream a trace has more events than are read at once; --for ends it, and the program goes on. Both
-    are said."""
-    whole, said = run("--stream", "--yield", "5000", "./program", str(MOST_EVENTS // 4 + 100))
+    """A trace may have more events than are read at once, and a line says how it is read; --max limits it, and --for
+    ends it while the program goes on."""
+    whole, said = run("--yield", "5000", "./program", str(MOST_EVENTS // 4 + 100))
     if len(whole) <= MOST_EVENTS or "left out" in said or f"recorded {len(whole)} events" not in said:
-        raise Wrong(f"--stream: {len(whole)} events, and {said}")
+        raise Wrong(f"without --max: {len(whole)} events, and {said}")
+    if "read it with `racebench triage --windows`" not in said:
+        raise Wrong(f"a trace that is too long to be read at once: {said}")
     limited, said = run("--max", "1000", "./program", "1000")
     if len(limited) != 1000 or "events left out after the first 1000" not in said:
         raise Wrong(f"--max 1000: {len(limited)} events, and {said}")
@@ -119,21 +153,20 @@ def judge_length():
 
 
 def judge_threads(racebench, c):
-    """With --stream a trace has threads without a limit, and `triage --windows` reads it; without, it ends before the
-    257th."""
+    """A trace has threads without a limit, and `triage --windows` reads it; with --max it ends before the 257th."""
     compile_with(c, "many_threads.c")
-    whole, said = run("--stream", "./program")
+    whole, said = run("./program")
     threads = {line.split("|", 1)[0] for line in whole}
-    if len(threads) != THREADS + 1 or "left out" in said:
-        raise Wrong(f"--stream: {len(threads)} threads, and {said}")
+    if len(threads) != THREADS + 1 or "left out" in said or "triage --windows" not in said:
+        raise Wrong(f"without --max: {len(threads)} threads, and {said}")
     with open("long.std", "w", encoding="utf-8") as text:
         text.writelines(f"{line}\n" for line in whole)
     counts = ran([racebench, "triage", "--windows", "long.std"]).splitlines()[:4]
     if counts[2:] != [f"events {len(whole)}", f"threads {THREADS + 1}"]:
         raise Wrong(f"triage --windows reads {counts}, of {len(whole)} events")
-    short, said = run("./program")
+    short, said = run("--max", str(MOST_EVENTS), "./program")
     if len({line.split("|", 1)[0] for line in short}) > 256 or "since a trace has at most 256 threads" not in said:
-        raise Wrong(f"without --stream: {len(short)} events, and {said}")
+        raise Wrong(f"with --max: {len(short)} events, and {said}")
 
 
 def judge_seconds():
@@ -168,10 +201,10 @@ def judge_options(c):
 
 
 def refused(*words):
-    """The lines that record/run says where it writes nothing and ends with status 1."""
+    """The lines that record/run says if it writes no event and ends with status 1."""
     words = [os.path.join(RECORD, "run"), *words]
     done = subprocess.run(words, capture_output=True, timeout=PATIENCE, check=False)
-    if done.returncode != 1 or done.stdout:
+    if done.returncode != 1 or events_in(done.stdout.decode()):
         raise Wrong(f"{words[1:]}: status {done.returncode}, {done.stdout[:300]!r}")
     return done.stderr.decode(errors="replace").splitlines()
 
@@ -179,6 +212,7 @@ def refused(*words):
 def judge_refusals(c):
     """A file that can't be written is refused before the program runs; what is no program is called so; and if the
     options leave out all events, it is not said that there are none."""
+    decoder()
     compile_with(c, "each_kind.c")
     for option in ("--raw", "--clock"):
         said = refused(option, "no_folder/file", "./program")
@@ -197,13 +231,19 @@ def judge_refusals(c):
 
 
 def judge_no_decoder():
-    """If the decoder can't be compiled, it is said why, and the one in Python writes the trace."""
-    environment = dict(os.environ, RECORD_CXX="false", XDG_CACHE_HOME=os.path.join(os.getcwd(), "cache"))
-    words = [os.path.join(RECORD, "run"), "./program"]
-    done = subprocess.run(words, capture_output=True, timeout=PATIENCE, env=environment, check=False)
-    told = done.stderr.decode(errors="replace")
-    if done.returncode or not done.stdout or "can't be compiled (false ended with status 1; it needs" not in told:
-        raise Wrong(f"a compiler that fails: status {done.returncode}: {told[:600]}")
+    """If the decoder can't be compiled, one line says what to install, and the program does not run."""
+    for compiler, reason in (("false", "false failed"), ("no-such-compiler", "there is no no-such-compiler")):
+        environment = dict(os.environ, RECORD_CXX=compiler, XDG_CACHE_HOME=os.path.join(os.getcwd(), "cache"))
+        words = [os.path.join(RECORD, "run"), "./program"]
+        done = subprocess.run(words, capture_output=True, timeout=PATIENCE, env=environment, check=False)
+        lines = done.stderr.decode(errors="replace").splitlines()
+        advice = "install g++ and libdw-dev, or name a compiler in RECORD_CXX"
+        if (
+            done.returncode != 1
+            or done.stdout
+            or lines[-1] != (f"record/run: the decoder can't be compiled: {reason}; {advice}")
+        ):
+            raise Wrong(f"the compiler {compiler}: status {done.returncode}: {lines}")
 
 
 def cases(racebench, c):

@@ -225,7 +225,10 @@ LOCKS = [
 SHARED = {
     "std::shared_mutex mL;": ("{ std::shared_lock<std::shared_mutex> l(mL);", "}"),
     "std::shared_timed_mutex mL;": ("mL.lock_shared();", "mL.unlock_shared();"),
-    "pthread_rwlock_t mL = PTHREAD_RWLOCK_INITIALIZER;": ("pthread_rwlock_rdlock(&mL);", "pthread_rwlock_unlock(&mL);"),
+    "pthread_rwlock_t mL = PTHREAD_RWLOCK_INITIALIZER;": (
+        "pthread_rwlock_rdlock(&mL);",
+        "pthread_rwlock_unlock(&mL);",
+    ),
 }
 # What is made once: what it needs, and how each thread comes to it, with what it does then.
 ONCE = [
@@ -247,8 +250,6 @@ ASIDE = [
     "std::this_thread::sleep_for(1us);",
     "std::this_thread::yield();",
 ]  # fmt: skip
-
-
 
 
 class Scenario:

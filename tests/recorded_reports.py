@@ -117,18 +117,106 @@ def judge_blanks(racebench, c):
     os.rename(os.path.dirname(source), "gone")
 
 
+# A report that lost the calls of one access, as ThreadSanitizer prints it.
+LOST = """WARNING: ThreadSanitizer: data race (pid=1)
+  Read of size 4 at 0x1 by thread T2:
+    #0 reader %s:13 (w+0x1)
+
+  Previous write of size 4 at 0x1 by thread T1:
+    [failed to restore the stack]
+
+  Location is global 'hits' of size 4 at 0x1 (w+0x1)
+
+SUMMARY: ThreadSanitizer: data race count.c:13 in reader
+"""
+# A report whose innermost call has no line: its caller has one, at which the trace has other accesses.
+NAMELESS = """WARNING: ThreadSanitizer: data race (pid=1)
+  Write of size 4 at 0x1 by thread T1:
+    #0 %s <null> (w+0x1)
+    #1 main count.c:21 (w+0x1)
+
+  Previous write of size 4 at 0x1 by thread T2:
+    #0 writer count.c:7 (w+0x1)
+
+SUMMARY: ThreadSanitizer: data race count.c:7 in writer
+"""
+
+
+def judge_lost(racebench):
+    """A report without the calls of one access is answered by the other. A call without a line is met by its name
+    alone, and not by its caller's."""
+    record(SOURCE)
+    wanted = {
+        LOST % SOURCE: "a race here (by one access, since the report lost the place of the other)",
+        LOST.replace("reader %s:13", "main %s:90") % SOURCE: "not met: no access at count.c:90 is in this recording",
+        NAMELESS % "reader": "a race here (by the functions, since the lines differ)",
+        NAMELESS % "Other::call() const": "not met: no access at Other::call() is in this recording",
+    }
+    for text, answer in wanted.items():
+        with open("report", "w", encoding="ascii") as report:
+            report.write(text)
+        status, out, err = reported(racebench, "report")
+        if status or answer not in out:
+            raise Wrong(f"{text}is answered {out}{err}")
+
+
 def judge_apart(racebench, c):
-    """A block that is published without a lock: the race of the pointer is shown, and the answer on the block, whose
-    accesses are apart by that race, names it."""
+    """A block that is published without a lock: the race of the pointer is shown. The report on the block names the
+    line of its malloc, where the trace has no access, so that pair is not called apart."""
     source = os.path.join(SOURCES, "published.c")
     record(source)
     with open("report", "wb") as file:
         file.write(tsan_report(c, source))
     status, out, err = reported(racebench, "report")
-    race = re.search(r"^race (\d+) (\d+) ", ran([racebench, "triage", "count.std"]), re.MULTILINE)
-    named = f"\n  its order rests on a race: racebench explain count.std {race[1]} {race[2]}\n"
-    if status or named not in out or "reports: 1 a race here, 1 apart, 0 undecided, 0 not met" not in out:
+    named = "not met: no pair here is at both lines of the report, and those of the same functions are apart"
+    if status or named not in out or "reports: 1 a race here, 0 apart, 0 undecided, 1 not met" not in out:
         raise Wrong(f"the report of a block that is published without a lock is answered by {out}{err}")
+
+
+# A program whose accesses forks and joins order, and a report on two of them.
+ORDERED = """#include <pthread.h>
+static int table[8];
+static void *fill(void *p) { table[3] = 1; return p; }
+int main(void) {
+    pthread_t t;
+    pthread_create(&t, 0, fill, 0);
+    pthread_join(t, 0);
+    return table[3] - 1;
+}
+"""
+ON_ORDERED = """WARNING: ThreadSanitizer: data race (pid=1)
+  Read of size 4 at 0x1 by main thread:
+    #0 main ordered.c:8 (w+0x1)
+
+  Previous write of size 4 at 0x1 by thread T1:
+    #0 fill ordered.c:3 (w+0x1)
+
+SUMMARY: ThreadSanitizer: data race ordered.c:8 in main
+"""
+
+
+def judge_ordered(racebench):
+    """The trace lacks what forks and joins order. A report on it is apart by the file beside the trace, and not met
+    without; the file of another trace is refused."""
+    with open("ordered.c", "w", encoding="ascii") as source, open("report", "w", encoding="ascii") as report:
+        source.write(ORDERED)
+        report.write(ON_ORDERED)
+    ran([os.path.join(RECORD, "cc"), "-g", "ordered.c", "-o", "program"])
+    with open("ordered.std", "w", encoding="ascii") as file:
+        file.write(ran([os.path.join(RECORD, "run"), "--ordered", "ordered.std.ordered", "./program"]))
+    _, out, err = reported(racebench, "report", "ordered.std")
+    lines = ["  T0|r|ordered.c:8 < main", "  T1|w|ordered.c:3 < fill"]
+    if "apart in this recording: ordered by forks and joins" not in out or not all(line in out for line in lines):
+        raise Wrong(f"a report on accesses that forks and joins order is answered by {out}{err}")
+    os.rename("ordered.std.ordered", "other")
+    _, out, err = reported(racebench, "report", "ordered.std")
+    if "1 not met" not in out:
+        raise Wrong(f"without the file beside the trace: {out}{err}")
+    os.rename("other", "count.std.ordered")
+    status, out, err = reported(racebench, "report")
+    if status != 1 or err != "record/reported: count.std.ordered is of another trace than count.std\n":
+        raise Wrong(f"the file of another trace: status {status}, {out}{err}")
+    os.unlink("count.std.ordered")
 
 
 def judge_reports(racebench, c):
@@ -138,7 +226,9 @@ def judge_reports(racebench, c):
     judge_report(racebench, said)
     judge_cuts(racebench, said)
     judge_apart(racebench, c)
+    judge_lost(racebench)
     record(SOURCE)
+    judge_ordered(racebench)
     if c == "gcc":
         judge_other_forms(racebench)
         record(os.path.join(SOURCES, "freed.c"))

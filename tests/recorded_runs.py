@@ -24,11 +24,12 @@ SOURCES = os.path.join(TOP, "tests", "recorded")
 # Recordings of each kind of synchronization.
 RUNS = 10
 # The head of a raw file, the size of its records, and the kinds whose answers are the world's: runtime/format.h.
-HEAD, RECORD_SIZE = struct.Struct("<16Q"), 48
+HEAD, RECORD_SIZE = struct.Struct("<18Q"), 48
 ANSWER = 16
 # The place in the head of how many turns were taken by force.
 FORCED = 8
 
+ONE_THREAD = "recording|begin(RECORDED)|\nrecording|end(LEFT OUT 0 FROM 0: ONE THREAD)|\n"
 TWO_THREADS = """#include <pthread.h>
 #include <stdlib.h>
 static int x;
@@ -141,8 +142,9 @@ def judge_ends(c):
     if "ended by signal 6 (SIGABRT)" not in told or "|w(x)|" not in out:
         raise Wrong(f"a program that crashed: {told}{out}")
     compiled("int main(void) { return 0; }\n", to="alone")
-    if recorded("./alone", wanted=1)[0] or "the program ended with status 0" not in recorded("./alone", wanted=1)[1]:
-        raise Wrong("a program without a second thread has a trace")
+    out, told = recorded("./alone", wanted=1)
+    if out != ONE_THREAD or "the program ended with status 0" not in told:
+        raise Wrong(f"a program without a second thread: {out}{told}")
 
 
 def judge_hooks(c):
@@ -195,9 +197,9 @@ def judge_words(c):
 
 # Each command, how its usage ends, and what it lacks if it is called without words.
 USAGES = [
-    ("run", " [--only FILE].. [--raw FILE] [--status] [--clock FILE] PROGRAM ARGS..", "PROGRAM"),
-    ("follow", " CLOCK A B [PROGRAM ARGS..]", "CLOCK, A, B"),
-    ("confirm", " TRACE CLOCK [PROGRAM ARGS..]", "TRACE, CLOCK"),
+    ("run", " PROGRAM ...", "PROGRAM"),
+    ("follow", " CLOCK A B ...", "CLOCK, A, B"),
+    ("confirm", " TRACE CLOCK ...", "TRACE, CLOCK"),
     ("reported", " REPORT TRACE", "REPORT, TRACE"),
 ]
 
@@ -219,7 +221,7 @@ NUMBERS = [
     ("--room", 0, "from 1 to 68719476736"),
     ("--room", 10**20, "from 1 to 68719476736"),
     ("--frames", 9, "from 0 to 8"),
-    ("--max", 1_048_577, "from 0 to 1048576"),
+    ("--max", -1, "from 0 to 18446744073709551615"),
 ]
 
 

@@ -67,7 +67,17 @@ EACH_COMPILER = (
 )
 CALLED = {"exits.c": ("exit", "quick", "under", "abort", "crash", "kill")}
 # Those whose locks are let go by the threads that took them.
-EVEN = ("more_waits.c", "clocks.c", "preferred.c", "shared_mutex.cpp", "timed_locks.cpp", "writers.c", "writes_twice.c")
+EVEN = (
+    "more_waits.c",
+    "clocks.c",
+    "preferred.c",
+    "shared_mutex.cpp",
+    "timed_locks.cpp",
+    "writers.c",
+    "writes_twice.c",
+)
+# Those whose races may crash them, and the statuses of that.
+MAY_CRASH, CRASHED = ("planted.cpp",), (134, 139)
 INPUT = {"input.c": b"a line\n" * 30}
 # How many seconds a recorded run may take, on a machine that does much else; most take a part of one.
 LONGEST = 300
@@ -115,9 +125,13 @@ def judge_run(name, words, seed):
     """The recorded program ends as the plain one, and writes the same words in any order; the trace is written."""
     source = INPUT.get(name, b"")
     plain, *written = ran(["./plain", *words], input=source)
-    recording = [os.path.join(RECORD, "run"), "--seed", str(seed), "--status", "./program", *words]
+    recording = [os.path.join(RECORD, "run"), "--seed", str(seed), "--status", "--partial", "./program", *words]
     status, trace, told = ran(["timeout", str(LONGEST), *recording], input=source)
     wanted = plain if plain >= 0 else 128 - plain
+    with open("trace.std", "w", encoding="utf-8") as text:
+        text.write(trace)
+    if name in MAY_CRASH and status in CRASHED:
+        return
     if status != wanted and (wanted or trace):
         raise Wrong(f"seed {seed}: ends with {status}, and not with {wanted}: {told[-600:]}")
     own = "".join(line for line in told.splitlines(True) if not line.startswith("record"))
@@ -130,8 +144,6 @@ def judge_run(name, words, seed):
     # How many wait orders nothing, and would hide races of those that wait.
     if "__waiter_pool_base" in trace:
         raise Wrong(f"seed {seed}: the library's counts of who waits are in the trace")
-    with open("trace.std", "w", encoding="utf-8") as text:
-        text.write(trace)
 
 
 def races(racebench):
@@ -211,7 +223,7 @@ def judge_defects(racebench, c):
 def judge_calls(c):
     """Calls that were left by longjmp are over: those of later accesses are right."""
     compiled("jumps.c", os.path.join(RECORD, "cc"), "program", dict(os.environ, RECORD_CC=c))
-    _, trace, _ = ran([os.path.join(RECORD, "run"), "./program"])
+    _, trace, _ = ran([os.path.join(RECORD, "run"), "--all", "./program"])
     calls = {line.split("|", 2)[2] for line in trace.splitlines() if "(racy)" in line}
     with open(os.path.join(FOLDER, "jumps.c"), encoding="ascii") as source:
         line = [text.strip() for text in source].index("touch();") + 1
@@ -225,8 +237,8 @@ def judge_searches(c):
         source.write(SEARCHES)
     words = [os.path.join(RECORD, "cc"), "-O0", "source.c", "-oprogram"]
     status, _, told = ran(words, env=dict(os.environ, RECORD_CC=c))
-    _, trace, said = ran([os.path.join(RECORD, "run"), "./program"])
-    calls = {line.split(" < ", 2)[-1] for line in trace.splitlines() if "|r(sorted)|" in line}
+    _, trace, said = ran([os.path.join(RECORD, "run"), "--all", "./program"])
+    calls = {line.split(" < ", 2)[-1] for line in trace.splitlines() if "|r(sorted[0])|" in line}
     wanted = {f"looks source.c:{line} < main source.c:16" for line in (7, 8, 9, 10, 11)}
     if status or calls != wanted:
         raise Wrong(f"the calls of a search are {sorted(calls)}, and not {sorted(wanted)}: {told}{said}")
@@ -247,10 +259,13 @@ def judge_late(c):
 
 
 def judge_waves(c):
-    """What the C library takes and gives back for threads, as they begin and are joined, is no variable of the trace."""
+    """What the C library takes and gives back for threads, as they begin and are joined, is no variable of the
+    trace."""
     with open("waves.c", "w", encoding="ascii") as source:
         source.write(WAVES)
-    status, _, told = ran([os.path.join(RECORD, "cc"), "-O0", "waves.c", "-oprogram"], env=dict(os.environ, RECORD_CC=c))
+    status, _, told = ran(
+        [os.path.join(RECORD, "cc"), "-O0", "waves.c", "-oprogram"], env=dict(os.environ, RECORD_CC=c)
+    )
     if status:
         raise Wrong(f"waves.c is not compiled: {told[-600:]}")
     for seed in SEEDS:
@@ -287,21 +302,21 @@ def judge_own_names(c):
         ran([cc, "-w", "-fno-builtin", *words], env=environment)
     words = ["first.c", "second.o", "./lib.so", "-L.", "-lpatterns", "-Wl,-rpath,.", "-oprogram"]
     status, _, told = ran([cc, "-w", "-fno-builtin", *words], env=environment)
-    _, trace, said = ran([os.path.join(RECORD, "run"), "./program"])
-    named = "(memmem+4)" in trace and "w(threads)" in trace and "w(ends+4)" in trace
+    _, trace, said = ran([os.path.join(RECORD, "run"), "--all", "./program"])
+    named = "(memmem.b)" in trace and "w(threads)" in trace and "w(ends[1])" in trace
     if status or not said.startswith("47 3 9 texts 7\n") or not named or "ended with status 0" not in said:
         raise Wrong(f"the program's own names are not its own: {told}{said}{trace}")
 
 
 def judge_memory_names(c):
-    """A place in a thread's stack has the name of the stack, and one in mapped memory that grew where it is that of the
+    """A variable in a frame has the name of its function, and one in mapped memory that grew where it is that of the
     memory."""
     with open("source.c", "w", encoding="ascii") as source:
         source.write(MEMORY_NAMES)
     ran([os.path.join(RECORD, "cc"), "-O0", "source.c", "-o", "program"], env=dict(os.environ, RECORD_CC=c))
-    _, trace, told = ran([os.path.join(RECORD, "run"), "./program"])
-    names = {re.sub(r"\+\d{6,}$", "+N", name) for name in re.findall(r"\|w\((.*)\)\|", trace)}
-    wanted = {"stack:T1+N", "stack:T0+N", "heap:source.c:20#1+5000", "sync:posted", "grown", "of_thread"}
+    _, trace, told = ran([os.path.join(RECORD, "run"), "--all", "./program"])
+    names = set(re.findall(r"\|w\((.*)\)\|", trace))
+    wanted = {"work:mine", "main:mine", "heap:source.c:20+5000", "sync:posted#1", "grown", "of_thread"}
     if names != wanted:
         raise Wrong(f"the names are {sorted(names)}, and not {sorted(wanted)}: {told}")
 
@@ -318,7 +333,7 @@ def judge_regions(c, cxx):
         print("record/: OpenMP of clang is not tested, since its library is not here")
         return
     wanted = {"gcc": {"Grid::each(OpenMP)", "main(OpenMP)"}, "clang": {"(OpenMP)"}}[c]
-    status, trace, told = ran([os.path.join(RECORD, "run"), "./program"])
+    status, trace, told = ran([os.path.join(RECORD, "run"), "--all", "--partial", "./program"])
     writes = [line for line in trace.splitlines() if "|w(sum)|" in line or "|w(other)|" in line]
     names = {line.split(" < ")[1].split(" ")[0] for line in writes}
     locks = {line.split("|")[1] for line in trace.splitlines() if "|acq(omp." in line}
@@ -331,7 +346,16 @@ def judge_regions(c, cxx):
 def judge_few_files(c):
     """A low limit of open files does not end the recording."""
     compiled("mutex_kinds.c", os.path.join(RECORD, "cc"), "program", dict(os.environ, RECORD_CC=c))
-    words = ["sh", "-c", 'ulimit -n 64 && exec "$@"', "sh", os.path.join(RECORD, "run"), "--room", "200000", "./program"]
+    words = [
+        "sh",
+        "-c",
+        'ulimit -n 64 && exec "$@"',
+        "sh",
+        os.path.join(RECORD, "run"),
+        "--room",
+        "200000",
+        "./program",
+    ]
     _, trace, told = ran(words)
     with open("source.c", "w", encoding="ascii") as source:
         source.write(LONG)
@@ -348,15 +372,15 @@ def has_own_descriptors():
 
 
 def judge_descriptors(c):
-    """What the recorder opens meanwhile changes no number of a descriptor of the program: its thread beside those of the
-    program has its own."""
+    """What the recorder opens meanwhile changes no number of a descriptor of the program: its thread beside those of
+    the program has its own."""
     if not has_own_descriptors():
         print("record/: descriptors of the recorder are not tested, since a thread can't have its own here")
         return
     with open("source.c", "w", encoding="ascii") as source:
         source.write(DESCRIPTORS)
     status, _, said = ran([os.path.join(RECORD, "cc"), "source.c", "-o", "program"], env=dict(os.environ, RECORD_CC=c))
-    _, _, told = ran([os.path.join(RECORD, "run"), "./program"])
+    _, _, told = ran([os.path.join(RECORD, "run"), "--all", "./program"])
     if status or not told.startswith("a thread has its own\n"):
         raise Wrong(f"the recorder's descriptors are the program's: {said}{told}")
 

@@ -91,7 +91,9 @@ class Slurm:
 
     def asked(self, words):
         """What a command of Slurm's prints."""
-        return subprocess.run(words, capture_output=True, env=self.environment, check=False, timeout=PATIENCE).stdout.decode()
+        return subprocess.run(
+            words, capture_output=True, env=self.environment, check=False, timeout=PATIENCE
+        ).stdout.decode()
 
     def configure(self):
         self.folder.mkdir()
@@ -101,7 +103,9 @@ class Slurm:
         key.touch(mode=0o600)
         key.write_bytes(os.urandom(128))
         host = socket.gethostname().split(".")[0]
-        text = CONFIGURATION.format(host=host, ports=free_ports(3), folder=self.folder, user=getpass.getuser(), lost=LOST, expired=EXPIRED)
+        text = CONFIGURATION.format(
+            host=host, ports=free_ports(3), folder=self.folder, user=getpass.getuser(), lost=LOST, expired=EXPIRED
+        )
         (self.folder / "slurm.conf").write_text(text, encoding="ascii")
 
     def idle(self):
@@ -109,7 +113,10 @@ class Slurm:
 
     def __enter__(self):
         self.configure()
-        files = [f"--{word}={self.folder}/munge.{word.removesuffix('-file')}" for word in ["key-file", "socket", "pid-file", "log-file", "seed-file"]]
+        files = [
+            f"--{word}={self.folder}/munge.{word.removesuffix('-file')}"
+            for word in ["key-file", "socket", "pid-file", "log-file", "seed-file"]
+        ]
         self.start("munged", ["munged", "--foreground", "--force", *files])
         try:
             wait_for("munged", (self.folder / "munge.socket").exists, 30)

@@ -19,7 +19,11 @@ def block():
     at = 0
     while len(lines) + 5 <= BLOCK:
         thread = at % 4
-        lines += [f"T{thread}|acq(l)|lock.c:1", f"T{thread}|r(g{at % 16})|use.c:{at % 16}", f"T{thread}|w(g{at % 16})|use.c:{at % 16}"]
+        lines += [
+            f"T{thread}|acq(l)|lock.c:1",
+            f"T{thread}|r(g{at % 16})|use.c:{at % 16}",
+            f"T{thread}|w(g{at % 16})|use.c:{at % 16}",
+        ]
         lines += [f"T{thread}|w(own{thread})|own.c:{thread}", f"T{thread}|rel(l)|lock.c:2"]
         at += 1
     return lines
@@ -60,7 +64,11 @@ def run(program, events, words):
         status = running.wait()
     usage = resource.getrusage(resource.RUSAGE_CHILDREN)
     count = blocks * size + 1
-    print(f"process {pid}: {count} events in {time.monotonic() - begun:.1f} s, {usage.ru_utime:.1f} s of processor time, {usage.ru_maxrss // 1024} MB", flush=True)
+    print(
+        f"process {pid}: {count} events in {time.monotonic() - begun:.1f} s, {usage.ru_utime:.1f} s of processor "
+        f"time, {usage.ru_maxrss // 1024} MB",
+        flush=True,
+    )
     if status != 0:
         return f"status {status}"
     if f"\nevents {count}\n" not in out:

@@ -1,0 +1,104 @@
+#!/usr/bin/env python3
+"""Judges the rules of tools/lint on texts of this file: fences that never end, lists that lack a name or have it twice,
+the map of crates, and tools that are not installed.
+
+    judge_lint.py PROGRAM
+
+It does not run the program. Says what is wrong, if something is, and ends with status 1 then.
+"""
+
+from __future__ import annotations
+
+import contextlib
+import importlib.machinery
+import importlib.util
+import io
+import os
+import sys
+from types import ModuleType
+
+sys.dont_write_bytecode = True
+import judging
+
+LINT = os.path.join(os.path.dirname(judging.HERE), "tools", "lint")
+# Pages, each with the lines of its fences that never end.
+FENCES: tuple[tuple[str, list[int]], ...] = (
+    ("```\ncode\n```\n", []),
+    ("text\n\n```sh\ncode\n", [3]),
+    ("```text\n```sh\n```\n", [1]),
+    ("````\n```\n````\n", []),
+    ("```\ncode\n```\n\n  ```rust\n  code\n", [5]),
+    ("no fence, `a word`\n", []),
+)
+# Lists of names beside a set, and how many complaints there are.
+LISTS = ((["a", "b"], 0), (["a"], 1), (["a", "b", "b"], 1), (["a", "b", "c"], 1), (["c"], 3))
+MAP = "## Files of the upper crates\n\n- `racebench`: `doing.rt`, `windows/`\n"
+
+
+# Labels of keys, and how a browser names these keys.
+LABELS = ((["Alt ↑ ↓"], {"Alt+ArrowUp", "Alt+ArrowDown"}), (["u  Ctrl Z", "1–9"], {"u", "Ctrl+z", "1", "9"}))
+CODE = """const down = (move) => ({ ArrowDown: () => move(1), j: () => move(1) });
+const IN = {
+  stage: {
+    ...inTurn({ Enter: sheet.enter }), "Alt+ArrowUp": ofShown(up),
+  },
+};
+// The keys that follow
+const ANYWHERE = {
+  "?": showKeys, n: views.fresh,
+  w: () => (state.view ? views.take() : ofAim(views.witness)()),
+};
+// Signs that some
+"""
+BOUND = {"ArrowDown", "j", "Enter", "Alt+ArrowUp", "?", "n", "w"}
+
+
+def lint() -> ModuleType:
+    loader = importlib.machinery.SourceFileLoader("lint", LINT)
+    spec = importlib.util.spec_from_loader("lint", loader)
+    assert spec is not None
+    module = importlib.util.module_from_spec(spec)
+    loader.exec_module(module)
+    return module
+
+
+def complaints_without(rules: ModuleType, missing: list[str], left_out: set[str]) -> tuple[dict[str, list[str]], str]:
+    """What the tools complain of if these are missing and the others find nothing, and what is printed."""
+    rules.missing_tools = lambda: missing  # type: ignore[attr-defined]
+    rules.complaints = lambda *words: []  # type: ignore[attr-defined]
+    printed = io.StringIO()
+    with contextlib.redirect_stdout(printed):
+        found = dict(rules.by_tools(left_out))
+    return {name: lines for name, lines in found.items() if lines}, printed.getvalue()
+
+
+def judged(run: judging.Run) -> None:
+    rules = lint()
+    for text, wanted in FENCES:
+        found = rules.open_fences(text)
+        run.case("fences", [] if found == wanted else [f"{text!r}: the fences in lines {found}, and not {wanted}"])
+    for names, count in LISTS:
+        found = rules.unlike("the list", names, {"a", "b"})
+        run.case("lists", [] if len(found) == count else [f"{names}: {found}, and not {count} complaints"])
+    for labels, keys in LABELS:
+        found = rules.key_names(labels)
+        run.case("labels of keys", [] if found == keys else [f"{labels}: {found}, and not {keys}"])
+    found = rules.keys_of_code(CODE)
+    run.case("keys of code", [] if found == BOUND else [f"{found}, and not {BOUND}"])
+    found = rules.wrong_files(MAP)
+    lacks = [line for line in found if line.startswith("the map of racebench lacks ")]
+    is_right = len(lacks) == len(found) > 10 and not {line.split(" ")[-1] for line in lacks} & {
+        "doing.rt",
+        "windows.rt",
+    }
+    run.case("map", [] if is_right else [f"a map of two files: {found}"])
+    run.case("map of today", rules.wrong_map())
+    found, _ = complaints_without(rules, ["black"], set())
+    run.case("missing tool", [] if list(found) == ["black"] else [f"black is missing, and the complaints are {found}"])
+    found, printed = complaints_without(rules, ["black"], {"black"})
+    is_right = not found and printed == "black: left out\n"
+    run.case("left out", [] if is_right else [f"black is left out, and the complaints are {found}: {printed}"])
+
+
+if __name__ == "__main__":
+    sys.exit(judging.main("lint", judged))

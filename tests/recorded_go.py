@@ -1,0 +1,367 @@
+"""Judges record/ on Go programs: those of tests/recorded/go with ten seeds each, those that end badly, the options of
+record/run, a Go that is unknown, and programs made by chance whose races are known (recorded_go_planted.py).
+
+What no other judge sees: a race of a Go program that is not listed or a false one, a trace that is said to be whole and
+is not, and a seed that is no run.
+"""
+
+import atexit
+import functools
+import glob
+import os
+import re
+import shutil
+import signal
+import subprocess
+import sys
+import tempfile
+import time
+from collections.abc import Callable, Iterator
+
+import recorded_go_planted
+from judging import Wrong
+
+TOP = os.path.dirname(os.path.dirname(os.path.abspath(__file__)))
+RECORD = os.path.join(TOP, "record")
+sys.path.append(RECORD)
+from golang import recording
+
+SOURCES = os.path.join(TOP, "tests", "recorded", "go")
+PATIENCE = 900
+# A recording is made again so often if its seed gave another trace.
+AGAIN = 5
+SEEDS = range(1, 11)
+BEGIN, WHOLE = "recording|begin(RECORDED)|", "recording|end(WHOLE)|"
+# Each program, the options, and the label of the lines that race; no label is a program without a race.
+RACES = (
+    "counter captured mapwrite timer chanrace publish hidden many readers panics sliced condless finalized"
+).split()
+CLEAN = (
+    "mutex rwmutex waitgroup once atomics cond pool trylock handed unbuffered closed pipeline selected files spins "
+    "signals ranges polled syncmap ticker chanfifo"
+).split()
+NONE: list[str] = []
+PROGRAMS: list[tuple[str, list[str], str]] = [
+    *[(name, NONE, name) for name in RACES],
+    *[(name, NONE, "") for name in CLEAN],
+    ("chanfifo", ["--slots"], "chanfifo"),
+    ("many", ["--stream"], "many"),
+    ("hidden", ["--yield", "1"], "hidden"),
+]
+# Programs whose traces take long to judge have three seeds.
+LONG = ("many",)
+# Those that neither sleep nor look at a clock: a seed is a run.
+SAME = "counter mutex waitgroup once pipeline cond pool trylock spins".split()
+Case = tuple[str, Callable[..., None], tuple[object, ...]]
+
+
+@functools.lru_cache(maxsize=None)
+def scenarios() -> str:
+    """The program of tests/recorded/go, which is built once."""
+    folder = tempfile.mkdtemp(prefix="recorded_go")
+    atexit.register(shutil.rmtree, folder, True)
+    program = os.path.join(folder, "scenarios")
+    ran([os.path.join(RECORD, "go"), "build", "-o", program, "."], cwd=SOURCES)
+    return program
+
+
+def ran(words: list[str], wanted: int = 0, cwd: str | None = None, go: str = "") -> tuple[str, str]:
+    """What a command writes on standard output and on standard error; `go` names another Go."""
+    surroundings = {**os.environ, "RECORD_GO": go} if go else None
+    done = subprocess.run(words, capture_output=True, timeout=PATIENCE, check=False, cwd=cwd, env=surroundings)
+    out, said = done.stdout.decode(errors="replace"), done.stderr.decode(errors="replace")
+    if done.returncode != wanted:
+        raise Wrong(f"{' '.join(words)}: status {done.returncode}, and not {wanted}: {said[-600:]}")
+    return out, said
+
+
+def recorded(name: str, *options: str, wanted: int = 0) -> tuple[str, str]:
+    """The trace of a program, and what record/run says; the trace is in `trace.std` too."""
+    words = [os.path.join(RECORD, "run"), *options, scenarios(), *name.split()]
+    out, said = ran(words, wanted)
+    with open("trace.std", "w", encoding="utf-8") as file:
+        file.write(out)
+    return out, said
+
+
+@functools.lru_cache(maxsize=None)
+def labels() -> dict[str, set[str]]:
+    """The lines that race, by their labels."""
+    found: dict[str, set[str]] = {}
+    for path in sorted(glob.glob(os.path.join(SOURCES, "*.go"))):
+        with open(path, encoding="utf-8") as file:
+            for number, line in enumerate(file, start=1):
+                for label in re.findall(r"// RACE (\w+)", line):
+                    found.setdefault(label, set()).add(f"{os.path.basename(path)}:{number}")
+    return found
+
+
+def shown(racebench: str, *options: str) -> set[tuple[str, ...]]:
+    """The pairs of lines of the races in `trace.std`, as triage prints them."""
+    printed, _ = ran([racebench, "triage", *options, "trace.std"])
+    places = re.findall(r"^  T\d+\|[^|]*\|(\S+)", printed, re.MULTILINE)
+    return {tuple(sorted(pair)) for pair in zip(places[::2], places[1::2])}
+
+
+def judge_marks(trace: str, last: str = WHOLE) -> None:
+    lines = trace.splitlines()
+    if lines[0] != BEGIN or not re.fullmatch(re.escape(last).replace("N", r"\d+"), lines[-1]):
+        raise Wrong(f"the trace begins with {lines[0]} and ends with {lines[-1]}, not with {last}")
+
+
+def judge_program(racebench: str, name: str, options: list[str], label: str) -> None:
+    """With each seed the trace is whole and has the races that the program has, and no others."""
+    wanted = labels()[label] if label else set()
+    windows = ["--windows"] if "--stream" in options else []
+    for seed in SEEDS if name not in LONG else SEEDS[:3]:
+        trace, _ = recorded(name, "--seed", str(seed), *options)
+        judge_marks(trace)
+        found = shown(racebench, *windows)
+        if any(set(pair) - wanted for pair in found) or bool(found) != bool(wanted):
+            raise Wrong(f"seed {seed}: the races are {sorted(found)}, and the lines that race are {sorted(wanted)}")
+
+
+def judge_seeds() -> None:
+    """The same seed gives the same trace, and others give others."""
+    for name in SAME:
+        traces = [recorded(name, "--seed", str(seed))[0] for seed in (1, 1, 2, 3, 4)]
+        # Go's runtime may stop a thread of a busy machine at another place, so a pair is made again.
+        again = (recorded(name, "--seed", "1")[0] for _ in range(AGAIN))
+        if traces[0] != traces[1] and traces[0] not in again:
+            raise Wrong(f"{name}: one seed gave {2 + AGAIN} times another trace")
+        if name in ("pipeline", "spins") and len(set(traces)) < 3:
+            raise Wrong(f"{name}: four seeds gave {len(set(traces))} traces")
+
+
+def judge_names() -> None:
+    """Variables are named by their types, and locations have the calls and no others."""
+    trace, _ = recorded("hidden")
+    account = r"T1\|w\(heap:races\.go:\d+ main\.account#1\.balance\)\|races\.go:\d+ < main\.\(\*account\)\.deposit < "
+    if not re.search(account, trace) or "|w(main.audit)|" not in trace:
+        raise Wrong(f"the names are others: {trace}")
+    trace, _ = recorded("panics")
+    calls = sorted({line.split("|")[2] for line in trace.splitlines() if line.startswith("T1|w(x@")})
+    if len(calls) != 1 or not re.fullmatch(r"races\.go:\d+ < main\.panics\.func1", calls[0]):
+        raise Wrong(f"after panics that were recovered a location is {calls}")
+
+
+def judge_ends() -> None:
+    """A program that ends by os.Exit, a panic or a kill is recorded up to there, and the status is its own."""
+    for name, status, text in (
+        ("exits", 3, "status 3"),
+        ("panicked", 2, "status 2"),
+        ("killed", 137, "signal 9 (SIGKILL)"),
+    ):
+        trace, said = recorded(name, "--status", wanted=status)
+        last = f"recording|end(LEFT OUT 0 FROM {len(trace.splitlines()) - 2}: KILLED)|" if name == "killed" else WHOLE
+        judge_marks(trace, last)
+        if text not in said or "|w(x@" not in trace:
+            raise Wrong(f"{name}: {said}")
+    trace, said = recorded("alone", wanted=1)
+    if "no event was recorded" not in said or trace.splitlines() != [
+        BEGIN,
+        "recording|end(LEFT OUT 0 FROM 0: ONE THREAD)|",
+    ]:
+        raise Wrong(f"a program with one goroutine: {said}{trace}")
+
+
+def judge_deadlock() -> None:
+    """A program that hangs is recorded up to the signal that ends it."""
+    with open("out", "wb") as out, open("said", "wb") as said:
+        started = subprocess.Popen([os.path.join(RECORD, "run"), scenarios(), "deadlock"], stdout=out, stderr=said)
+        while not os.path.getsize("said"):
+            time.sleep(0.01)
+        started.send_signal(signal.SIGTERM)
+        started.wait(PATIENCE)
+    with open("out", encoding="utf-8") as out_text:
+        trace = out_text.read()
+    judge_marks(trace, f"recording|end(LEFT OUT 0 FROM {len(trace.splitlines()) - 2}: KILLED)|")
+
+
+def judge_thousands(racebench: str) -> None:
+    """Goroutines that live at once, more than a trace has threads: a line says it, and windows read the trace."""
+    trace, said = recorded("thousands")
+    judge_marks(trace)
+    if "has more than 256 threads" not in said or len({line.split("|")[0] for line in trace.splitlines()}) < 2000:
+        raise Wrong(f"2,000 goroutines: {said}")
+    if shown(racebench, "--windows"):
+        raise Wrong("2,000 goroutines have a race")
+
+
+def judge_options() -> None:
+    """Each option of record/run does what it says, or is refused by a line."""
+    whole = recorded("pipeline")[0].splitlines()[1:-1]
+    trace, said = recorded("pipeline", "--max", "20", wanted=4)
+    judge_marks(trace, f"recording|end(LEFT OUT {len(whole) - 20} FROM 20: MAX)|")
+    if trace.splitlines()[1:-1] != whole[:20] or f"{len(whole) - 20} events left out" not in said:
+        raise Wrong(f"--max: {said}")
+    _, said = recorded("pipeline", "--room", "1", wanted=1)
+    room = int(re.findall(r"(\d+) records left out \(--room\)", said)[0]) - 60
+    trace, said = recorded("pipeline", "--room", str(room), wanted=4)
+    judge_marks(trace, f"recording|end(LEFT OUT 61 FROM {len(trace.splitlines()) - 2}: ROOM)|")
+    recorded("pipeline", "--room", str(room), "--partial")
+    trace, said = recorded("pipeline", "--from", "30")
+    kept = trace.splitlines()[1:-1]
+    held = len(kept) - (len(whole) - 30)
+    if held < 0 or kept[held:] != whole[30:] or any("|acq(" not in line for line in kept[:held]):
+        raise Wrong(f"--from: {said}{trace}")
+
+
+def judge_choices() -> None:
+    """Options that choose what is written, and those that are refused."""
+    trace, _ = recorded("pipeline", "--frames", "0")
+    if " < " in trace or not re.search(r"\|clean\.go:\d+$", trace, re.MULTILINE):
+        raise Wrong(f"--frames 0: {trace[:300]}")
+    trace, said = recorded("pipeline", "--only", "races.go")
+    if "left out, which no line of races.go accesses" not in said or "|r(heap:" in trace:
+        raise Wrong(f"--only: {said}")
+    trace, _ = recorded("counter", "--only", "races.go", "--raw", "raw")
+    if "|w(main.hits)|" not in trace or not os.path.getsize("raw"):
+        raise Wrong("--only of the right file leaves the variable out, or --raw keeps nothing")
+    _, said = recorded("counter", "--clock", "clock", wanted=2)
+    if said != "record/run: --clock: a Go program can't be followed, so it has no clock\n":
+        raise Wrong(f"--clock: {said}")
+
+
+def judge_stop() -> None:
+    """--for ends the log a while after its first record, and the recorder then writes no more."""
+    with open("log", "w+b") as log:
+        log.truncate(4096)
+        recording.stop_recording_after(0.01, log)
+        if any(os.pread(log.fileno(), 8, recording.STOP_AT)):
+            raise Wrong("--for ends a log that has no record")
+        os.pwrite(log.fileno(), b"\1", 8 * recording.APPENDED)
+        while not any(os.pread(log.fileno(), 8, recording.STOP_AT)):
+            time.sleep(0.01)
+        os.pwrite(log.fileno(), bytes(8), 8 * recording.APPENDED)
+        subprocess.run([scenarios(), "mutex"], env={**os.environ, "RACEBENCH_GO_LOG": "log"}, check=True)
+        head = recording.head_of(log)
+    if head[0] != recording.MAGIC or head[recording.APPENDED] or not head[recording.LOST]:
+        raise Wrong(f"a log that is ended has {head[recording.APPENDED]} bytes, and {head[recording.LOST]} are lost")
+
+
+def judge_unknown() -> None:
+    """A Go whose sources have other texts is refused, and so is one that is not there."""
+    words = [os.path.join(RECORD, "go"), "build", "."]
+    _, said = ran(words, 2, SOURCES, "no-such-go")
+    if said != "record/go: there is no no-such-go: install Debian's golang-go, or name a Go by RECORD_GO\n":
+        raise Wrong(f"no Go: {said}")
+    root = ran(["go", "env", "GOROOT"])[0].strip()
+    copy = os.path.abspath("root")
+    names = "runtime sync syscall internal/race internal/poll".split()
+    for name in names:
+        shutil.copytree(os.path.join(root, "src", name), os.path.join(copy, "src", name))
+    path = os.path.join(copy, "src/sync/pool.go")
+    with open(path, encoding="utf-8") as file:
+        text = file.read()
+    with open(path, "w", encoding="utf-8") as file:
+        file.write(text.replace("func poolRaceAddr(", "func otherRaceAddr("))
+    with open("go", "w", encoding="utf-8") as file:
+        file.write(f"#!/bin/sh\nprintf '%s\\n' {copy} go9.9 linux amd64\n")
+    os.chmod("go", 0o755)
+    _, said = ran(words, 2, SOURCES, os.path.abspath("go"))
+    why = "sync/pool.go has the text `func poolRaceAddr(` 0 times, not 1"
+    if said != f"record/go: this Go is unknown (go9.9, {copy}): {why}\n":
+        raise Wrong(f"an unknown Go: {said}")
+
+
+MODULE = {
+    "go.mod": "module example\n\ngo 1.19\n",
+    "a/a.go": "package a\n\nvar N int\n\nfunc Add() { N++ }\n",
+    "a/a_test.go": """package a
+
+import (
+	"os"
+	"testing"
+)
+
+func TestRace(t *testing.T) {
+	if _, err := os.Stat("a_test.go"); err != nil {
+		t.Fatal(err)
+	}
+	done := make(chan bool)
+	go func() { Add(); done <- true }()
+	Add()
+	<-done
+}
+
+func TestOther(t *testing.T) { t.Skip() }
+""",
+    "b/b.go": 'package main\n\nimport "os"\n\nfunc main() { go func() {}(); os.Exit(len(os.Args)) }\n',
+    "c/c_test.go": 'package c\n\nimport "testing"\n\nfunc TestC(t *testing.T) {}\n',
+}
+
+
+def judge_command(racebench: str) -> None:
+    """record/go test records the tests of a package in its folder; run passes arguments on."""
+    for name, text in MODULE.items():
+        os.makedirs(os.path.dirname(name) or ".", exist_ok=True)
+        with open(name, "w", encoding="utf-8") as file:
+            file.write(text)
+    go = os.path.join(RECORD, "go")
+    trace, said = ran([go, "test", "--seed", "2", "--frames", "1", "./a", "-run", "Race", "-v"])
+    with open("trace.std", "w", encoding="utf-8") as file:
+        file.write(trace)
+    if shown(racebench) != {("a.go:5", "a.go:5")} or "PASS: TestRace" not in said or "TestOther" in said:
+        raise Wrong(f"record/go test: {said}{trace}")
+    _, said = ran([go, "run", "--status", "./b", "1", "2"], 3)
+    if "ended with status 3" not in said:
+        raise Wrong(f"record/go run: {said}")
+    _, said = ran([go, "test", "./..."], 2)
+    if said != "record/go: 2 packages have tests: --into FOLDER writes a trace of each\n":
+        raise Wrong(f"several packages: {said}")
+    ran([go, "test", "--into", "traces", "./..."])
+    if sorted(os.listdir("traces")) != ["example_a.std", "example_c.std"]:
+        raise Wrong(f"--into: {os.listdir('traces')}")
+    for words, why in (
+        (["build", "-overlay", "x", "./b"], "record/go: -overlay can't be used: record/go has an overlay already\n"),
+        (["vet"], "record/go: vet is none of build, test and run\n"),
+    ):
+        if ran([go, *words], 2)[1] != why:
+            raise Wrong(f"record/go {' '.join(words)} is not refused so: {why}")
+
+
+FULL_DISK = """mount -t tmpfs -o size=%s none small 2>/dev/null || exit 99
+TMPDIR=$PWD/small exec %s %s works"""
+
+
+def judge_full_disk() -> None:
+    """A disk that gets full ends the trace there, and not the program."""
+    os.mkdir("small")
+    command = FULL_DISK % ("6m", os.path.join(RECORD, "run"), scenarios())
+    words = ["unshare", "--map-root-user", "--mount", "sh", "-c", command]
+    done = subprocess.run(words, capture_output=True, check=False, timeout=PATIENCE)
+    if done.returncode == 99 or b"unshare" in done.stderr:
+        print("record/: a full disk is not tested with Go, since no small one can be mounted here")
+        return
+    said = done.stderr.decode(errors="replace")
+    if done.returncode != 4 or "(less than a tenth of the disk is free)" not in said or "status 0" not in said:
+        raise Wrong(f"a full disk: status {done.returncode}: {said}")
+    trace = done.stdout.decode()
+    judge_marks(trace, f"recording|end(LEFT OUT N FROM {len(trace.splitlines()) - 2}: DISK)|")
+
+
+def all_cases(racebench: str) -> Iterator[Case]:
+    for name, options, label in PROGRAMS:
+        yield " ".join(["Go:", name, *options]), judge_program, (racebench, name, options, label)
+    yield "Go: a seed is a run", judge_seeds, ()
+    yield "Go: names and locations", judge_names, ()
+    yield "Go: ends", judge_ends, ()
+    yield "Go: a deadlock", judge_deadlock, ()
+    yield "Go: 2,000 goroutines", judge_thousands, (racebench,)
+    yield "Go: options", judge_options, ()
+    yield "Go: more options", judge_choices, ()
+    yield "Go: --for", judge_stop, ()
+    yield "Go: an unknown Go", judge_unknown, ()
+    yield "Go: record/go", judge_command, (racebench,)
+    yield "Go: a full disk", judge_full_disk, ()
+    yield from recorded_go_planted.cases(racebench)
+
+
+def cases(racebench: str) -> list[Case]:
+    """The cases; none if Go is not here, and then a line says how many are left out."""
+    found = list(all_cases(racebench))
+    if shutil.which("go"):
+        return found
+    print(f"record/: {len(found)} cases of Go are left out, since there is no go")
+    return []

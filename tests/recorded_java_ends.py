@@ -1,0 +1,187 @@
+"""Judges how record/java ends: by an exception, an exit, a kill, a full disk, a deadlock, with many threads; and what
+its options and the agent alone do.
+
+What no other judge sees: a trace that is cut and seems whole, a lost status, a limit of which nothing is said.
+"""
+from __future__ import annotations
+
+import os
+import re
+import resource
+import signal
+import subprocess
+import tempfile
+from typing import Any
+
+import recorded_java
+from judging import Wrong
+
+BEGIN, WHOLE = "recording|begin(RECORDED)|", "recording|end(WHOLE)|"
+# How the program ends, its status with --status, and the cause in the mark of the trace.
+ENDS = [("throws", 1, ""), ("exits", 7, ""), ("halts", 9, ""), ("kills", 137, "KILLED"), ("overflows", 1, "")]
+THREADS = 300
+# The most bytes of a file while the disk is full.
+SMALL_DISK = 3 << 20
+
+
+def compile_broken() -> None:
+    recorded_java.compiled(os.path.join(recorded_java.SOURCES, "Broken.java"))
+
+
+def judge_end(racebench: str, way: str, status: int, cause: str) -> None:
+    """The trace has all up to the end, and the status is that of the program."""
+    compile_broken()
+    lines, text = recorded_java.recorded("--status", "-cp", ".", "Broken", way, "8", wanted=[status])
+    accesses = [line for line in lines if re.search(r"\|[rw]\(Broken\.shared\)\|", line)]
+    mark = f"recording|end(LEFT OUT 0 FROM {len(lines) - 2}: {cause})|" if cause else WHOLE
+    if lines[0] != BEGIN or lines[-1] != mark or len(accesses) != 32:
+        raise Wrong(f"{len(accesses)} accesses, and it ends with {lines[-1:]}: {text[-600:]}")
+    labels = recorded_java.labels_of(os.path.join(recorded_java.SOURCES, "Broken.java"))
+    if recorded_java.labels_met(racebench, labels, way) != {"shared"}:
+        raise Wrong("the race is not found")
+
+
+def judge_disk(racebench: str) -> None:
+    """With a full disk the program goes on, and the trace says that it is not whole. Its beginning has the race."""
+    compile_broken()
+
+    def limit() -> None:
+        resource.setrlimit(resource.RLIMIT_FSIZE, (SMALL_DISK, SMALL_DISK))
+
+    words = [recorded_java.RECORD, "-cp", ".", "Broken", "ends", "200000"]
+    recorded_java.ran(recorded_java.RECORD, "--jar")
+    status, trace, text = recorded_java.ran(*words, preexec_fn=limit)
+    lines = trace.splitlines()
+    if status != 4 or not re.fullmatch(r"recording\|end\(LEFT OUT 0 FROM \d+: DISK\)\|", lines[-1]):
+        raise Wrong(f"status {status}, and the trace ends with {lines[-1:]}: {text[-600:]}")
+    if "the end\n" not in text or "the disk is full" not in text or len(lines) < 10000:
+        raise Wrong(f"{len(lines)} lines, and record/java says: {text[-600:]}")
+    if recorded_java.ran(*words[:1], "--partial", *words[1:], preexec_fn=limit)[0] != 0:
+        raise Wrong("--partial does not accept the recording")
+    with open("trace.std", "w", encoding="utf-8") as file:
+        file.write("".join(f"{line}\n" for line in lines[:1000]))
+    if not list(recorded_java.races(racebench)):
+        raise Wrong("the race is not found")
+
+
+def judge_threads() -> None:
+    """A trace has threads without a limit; with --max it ends before the 257th."""
+    compile_broken()
+    lines, text = recorded_java.recorded("--raw", "kept.raw", "-cp", ".", "Broken", "threads", str(THREADS))
+    threads = {line.split("|")[0] for line in lines[1:-1]}
+    if len(threads) != THREADS + 2 or lines[-1] != WHOLE or "triage --windows" not in text:
+        raise Wrong(f"{len(threads)} threads, and it ends with {lines[-1:]}: {text[-600:]}")
+    short, text = recorded_java.recorded("--max", "1000000", "--read", "kept.raw", wanted=[4])
+    if len({line.split("|")[0] for line in short[1:-1]}) > 256 or ": THREADS)|" not in short[-1]:
+        raise Wrong(f"with --max: {len(short)} lines, and it ends with {short[-1:]}")
+
+
+def judge_deadlock() -> None:
+    """A deadlock is recorded up to control-C."""
+    compile_broken()
+    words = [recorded_java.RECORD, "--status", "-cp", ".", "Broken", "locks", "1"]
+    with tempfile.TemporaryFile("w+") as out:
+        with subprocess.Popen(words, stdout=out, stderr=subprocess.PIPE, text=True, start_new_session=True) as started:
+            assert started.stderr
+            holds = 0
+            while holds < 2:
+                line = started.stderr.readline()
+                if not line:
+                    raise Wrong("the program ended before it locked itself in")
+                holds += line == "holds\n"
+            os.killpg(started.pid, signal.SIGINT)
+            rest = started.stderr.read()
+            status = started.wait(recorded_java.PATIENCE)
+        out.seek(0)
+        lines = out.read().splitlines()
+    held = [line.split("|")[0] for line in lines if re.search(r"\|acq\(heap:Broken\.java:6 Object", line)]
+    if status != 130 or len(set(held)) != 2 or not lines[-1].startswith("recording|end("):
+        raise Wrong(f"status {status}, and the trace is {lines[-8:]}: {rest[-600:]}")
+
+
+def without_marks(lines: list[str]) -> list[str]:
+    return [line for line in lines if not line.startswith("recording|")]
+
+
+def judge_options() -> None:
+    """Options leave out what they say, and the mark says it too; a seed is a run."""
+    compile_broken()
+    call = ["-cp", ".", "Broken", "ends", "50"]
+    whole, _ = recorded_java.recorded("--raw", "kept.raw", "--seed", "3", *call)
+    events = without_marks(whole)
+    if without_marks(recorded_java.recorded("--seed", "3", *call)[0]) != events:
+        raise Wrong("a second run with the same seed is another")
+    if without_marks(recorded_java.recorded("--read", "kept.raw")[0]) != events:
+        raise Wrong("--read makes another trace of the records")
+    for option, wanted, mark in (  # each with the lines that it leaves, and the mark
+        (["--max", "20"], events[:20], f"LEFT OUT {len(events) - 20} FROM 20: MAX"),
+        (["--from", "30"], events[30:], "LEFT OUT 30 FROM 0: FROM"),
+        (["--frames", "0"], [line.split(" < ")[0] for line in events], "WHOLE"),
+        (["--only", "Broken.java"], events, "WHOLE"),
+        (["--only", "Other.java"], [line for line in events if not re.search(r"\|[rw]\((?!sync:)", line)], "ONLY"),
+    ):
+        lines, _ = recorded_java.recorded(*option, "--partial", "--read", "kept.raw")
+        if without_marks(lines) != wanted or f"{mark})|" not in lines[-1]:
+            raise Wrong(f"{option}: {len(lines)} lines, and it ends with {lines[-1:]}")
+
+
+def judge_refused() -> None:
+    """Wrong options and missing tools are refused with one line."""
+    for words, text in (
+        (["--clock", "x", "-cp", ".", "Main"], "nothing follows a schedule of a Java program yet"),
+        (["--no-free", "-cp", ".", "Main"], "a Java program frees nothing"),
+        (["--frames", "9", "Main"], "--frames is from 0 to 8"),
+        ([], "say what java runs"),
+        (["--read", "kept.raw", "Main"], "--jar and --read run nothing"),
+    ):
+        status, out, said = recorded_java.ran(recorded_java.RECORD, *words)
+        if status != 2 or out or text not in said.splitlines()[-1]:
+            raise Wrong(f"{words}: status {status}: {said[-300:]}")
+    os.mkdir("bin")
+    for name in ("env", "python3"):
+        os.symlink(os.path.realpath(f"/usr/bin/{name}"), f"bin/{name}")
+    lacking: dict[str, Any] = {
+        "env": {"PATH": os.path.abspath("bin"), "XDG_CACHE_HOME": os.getcwd(), "HOME": os.getcwd()}
+    }
+    status, out, said = recorded_java.ran(recorded_java.RECORD, "-cp", ".", "Main", **lacking)
+    if status != 1 or out or said != "record/java: there is no program javac: install openjdk-17-jdk-headless\n":
+        raise Wrong(f"without a JDK: status {status}: {said[-300:]}")
+    with open("none.raw", "wb") as file:
+        file.write(b"no records")
+    status, out, said = recorded_java.ran(recorded_java.RECORD, "--read", "none.raw")
+    if status != 1 or "has no records" not in said:
+        raise Wrong(f"a file without records: status {status}: {out[:100]}{said[-300:]}")
+
+
+def judge_agent() -> None:
+    """The agent by itself writes the trace as the JVM ends; if that is killed, the records are left."""
+    compile_broken()
+    jar = recorded_java.ran(recorded_java.RECORD, "--jar")[1].strip()
+    agent = f"-javaagent:{jar}=out=alone.std,seed=3"
+    status, _, text = recorded_java.ran("java", agent, "-cp", ".", "Broken", "throws", "8")
+    with open("alone.std", encoding="utf-8") as file:
+        lines = file.read().splitlines()
+    if status != 1 or lines[0] != BEGIN or lines[-1] != WHOLE or os.path.exists("alone.std.records"):
+        raise Wrong(f"status {status}, and the trace ends with {lines[-1:]}: {text[-600:]}")
+    status, _, text = recorded_java.ran("java", agent.replace("alone", "killed"), "-cp", ".", "Broken", "kills", "8")
+    if status != -signal.SIGKILL or os.path.exists("killed.std"):
+        raise Wrong(f"status {status}: {text[-600:]}")
+    again, _ = recorded_java.recorded("--read", "killed.std.records")
+    if without_marks(again) != without_marks(lines):
+        raise Wrong("the trace of the records that were left is another")
+    status, _, text = recorded_java.ran("java", f"-javaagent:{jar}=sed=3", "-cp", ".", "Broken", "throws", "8")
+    if status != 2 or text != "planecarmine: no option sed; there are out, raw, seed, yield, room, for\n":
+        raise Wrong(f"a wrong option of the agent: status {status}: {text[-600:]}")
+
+
+def cases(racebench: str) -> list[recorded_java.Case]:
+    found: list[recorded_java.Case] = [
+        (f"java: a program that {way}", judge_end, (racebench, way, status, cause)) for way, status, cause in ENDS
+    ]
+    found.append(("java: a full disk", judge_disk, (racebench,)))
+    found.append((f"java: {THREADS} threads", judge_threads, ()))
+    found.append(("java: a deadlock", judge_deadlock, ()))
+    found.append(("java: options", judge_options, ()))
+    found.append(("java: what is refused", judge_refused, ()))
+    found.append(("java: the agent alone", judge_agent, ()))
+    return found

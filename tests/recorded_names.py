@@ -1,0 +1,214 @@
+"""Judges the names of variables and locks: they are those of the source, the same by each compiler and in each run, and
+no two places have one name.
+
+What no other judge sees: a race on a variable that nobody finds in the source, or on a member that is another one.
+"""
+
+import os
+import random
+import re
+import subprocess
+
+import recorded_options
+from judging import Wrong
+from recorded_places import PATIENCE, RECORD, SOURCES, events_in, ran
+
+# The names of variables that a source has, and those of its locks.
+NAMES = {
+    "named.c": (
+        "counter:count flags.level flags.ready/busy flags.u.i grid[1][2] hosts[12].state hosts[3].next shop.in.b "
+        "shop.visits text[5]",
+        "shop.door table_lock",
+    ),
+    "named.cpp": (
+        "pairs[2].second shop::Counter::next:last shop::Counter::total shop::Table::slot shop::hidden[2] "
+        "shop::pool.done_ shop::pool.items_._M_start shop::pool.last_.id shop::pool.stopping_",
+        "atomic:shop::pool.done_ shop::pool.mutex_",
+    ),
+}
+# A part of a block that a container allocated.
+BLOCKS = {"named.cpp": r"heap:named\.cpp:\d+ Item\[1\]\.price"}
+# What frames.c shares, by the functions: variables, and two without a known name. The lock of each is one of its names.
+JOB = "job.sum job.own job.row job.aside job.pairs[1].b job.lock"
+FRAMES = {
+    "round_of": f"sum {JOB}",
+    "round_of#2": f"sum {JOB}",
+    "deeper": f"mine row[3] aside[1] {JOB}",
+    "deeper#2": f"mine row[3] aside[1] {JOB}",
+    "leave": f"row[3] aside[1] {JOB}",
+    "jumped": f"after row[3] aside[1] {JOB}",
+    "main": "top",
+}
+OF_THREADS = {"own#T0", "of_thread.pairs[1].b#T0", "of_thread.pairs[2].a#T0"}
+# An array whose length is not known, and what alloca gave.
+UNKNOWN = re.compile(r"stack:round_of(#2)?-\d+")
+# Forms of debug information, and how many times it is damaged.
+FORMS = ("-gdwarf-4", "-gdwarf-5", "-gz", "-gsplit-dwarf", "-gdwarf-4 -gsplit-dwarf")
+DAMAGED = 40
+# How many bytes a variable of the environment moves the stack by.
+MOVED = 3000
+# The blocks of sources, without their lines: a type that the source names is marked, and some have none.
+TYPES = {
+    "blocks.c": "config?.limit config?.in.b point_t?[2].y int?[3] item?.value +8 +8 +5",
+    "blocks.cpp": "Entry.id Entry.uses Plain?.b Owner.first Plain?[2].a Plain.a Plain[3].b Plain.b",
+}
+# Variables that are not named by the source alone.
+OTHERS = ("heap:", "stack:", "memory:")
+OPERATION = re.compile(r"T\d+\|(\w+)\((.*)\)\|")
+
+
+def names_of(words, *options):
+    """The names of variables and of locks in a recording of `program`."""
+    variables, locks = set(), set()
+    for line in events_in(ran([os.path.join(RECORD, "run"), "--all", *options, *words])):
+        word, name = OPERATION.match(line).groups()
+        (variables if word in "rw" else locks if word == "acq" else set()).add(name)
+    return variables, locks
+
+
+def of_source(names):
+    return {name for name in names if not name.removeprefix("atomic:").startswith(OTHERS)}
+
+
+def judge_names(source, compilers, level):
+    language = "c++" if source.endswith(".cpp") else "cc"
+    environment = dict(os.environ, RECORD_CC=compilers[0], RECORD_CXX=compilers[1] or "")
+    options = ["-std=c++17"] if language == "c++" else []
+    path = os.path.join(SOURCES, source)
+    ran([os.path.join(RECORD, language), level, *options, path, "-o", "program"], env=environment)
+    variables, locks = names_of(["./program"])
+    wanted = [set(names.split()) for names in NAMES[source]]
+    if of_source(variables) != wanted[0] or of_source(locks) != wanted[1]:
+        wrong = sorted(of_source(variables) ^ wanted[0]) + sorted(of_source(locks) ^ wanted[1])
+        raise Wrong(f"{source} {level}: the names that are missing or should not be there are {wrong}")
+    if source in BLOCKS and not any(re.fullmatch(BLOCKS[source], name) for name in variables):
+        raise Wrong(f"{source} {level}: no block has the type of its container: {sorted(variables)}")
+    judge_raw(variables)
+
+
+def judge_raw(variables):
+    """With --names raw a variable is a symbol and an offset, and there are as many."""
+    raw, _ = names_of(["./program"], "--names", "raw")
+    symbols = {re.sub(PIECE, "", name) for name in raw}
+    if len(raw) != len(variables) or any("." in name.split(":")[-1] and "heap:" not in name for name in symbols):
+        raise Wrong(f"with --names raw: {sorted(raw)}, and without {sorted(variables)}")
+
+
+# What is in symbols after a dot: the number of a static of a function or of a piece of a variable, or a static by
+# clang.
+PIECE = r"\.(\d+|count)$"
+
+
+def judge_frame_names(about):
+    """The names of frames.c as `program` has them: its variables and locks."""
+    variables, locks = names_of(["./program"])
+    wanted = {f"{function}:{name}" for function, names in FRAMES.items() for name in names.split()} | OF_THREADS
+    unknown = {name for name in variables if UNKNOWN.fullmatch(name)}
+    if variables - unknown != wanted or len(unknown) != 4:
+        raise Wrong(f"frames.c {about}: {sorted(variables - unknown ^ wanted)} and {sorted(unknown)}")
+    if locks != {f"{function}:lock" for function in FRAMES if function != "main"}:
+        raise Wrong(f"frames.c {about}: the locks are {sorted(locks)}")
+    return variables, locks
+
+
+def judge_frames(c, level):
+    """Variables of frames and of threads have names of the source. Each activation is another object, and the names are
+    the same wherever the stack is."""
+    path = os.path.join(SOURCES, "frames.c")
+    ran([os.path.join(RECORD, "cc"), level, path, "-o", "program"], env=dict(os.environ, RECORD_CC=c))
+    found = judge_frame_names(level)
+    os.environ["MOVES_THE_STACK"] = "m" * MOVED
+    moved = names_of(["./program"])
+    del os.environ["MOVES_THE_STACK"]
+    if moved != found:
+        raise Wrong(f"frames.c {level}: the names differ with another environment: {sorted(moved[0] ^ found[0])}")
+    recorded_options.judge_decoder("frames.c", [], c)
+
+
+def judge_forms(c):
+    """Debug information of each version, compressed or split, gives the same names."""
+    path, cc, environment = (
+        os.path.join(SOURCES, "frames.c"),
+        os.path.join(RECORD, "cc"),
+        dict(os.environ, RECORD_CC=c),
+    )
+    for form in FORMS:
+        ran([cc, "-O0", *form.split(), "-c", path, "-o", "part.o"], env=environment)
+        ran([cc, *form.split(), "part.o", "-o", "program"], env=environment)
+        judge_frame_names(form)
+
+
+def debug_sections(program):
+    """Where a program has sections of debug information, and their sizes."""
+    listed = ran(["readelf", "-SW", program])
+    found = re.findall(r" \.debug_\w+ +PROGBITS +\w+ (\w+) (\w+) ", listed)
+    return [(int(start, 16), int(size, 16)) for start, size in found if int(size, 16)]
+
+
+def judge_damaged(source, compilers):
+    """Damaged debug information does not end the decoder."""
+    language = "c++" if source.endswith(".cpp") else "cc"
+    environment = dict(os.environ, RECORD_CC=compilers[0], RECORD_CXX=compilers[1] or "")
+    ran(
+        [os.path.join(RECORD, language), "-O1", os.path.join(SOURCES, source), "-o", "program"],
+        env=environment,
+    )
+    ran([os.path.join(RECORD, "run"), "--raw", "kept.raw", "./program"])
+    sections, decoder = debug_sections("program"), recorded_options.decoder()
+    with open("program", "rb") as file:
+        whole = file.read()
+    for seed in range(DAMAGED):
+        chance, damaged = random.Random(seed), bytearray(whole)
+        for _ in range(chance.choice((1, 3, 20, 200))):
+            start, size = chance.choice(sections)
+            damaged[start + chance.randrange(size)] = chance.randrange(256)
+        with open("program", "wb") as file:
+            file.write(damaged)
+        ended = subprocess.run([decoder, "kept.raw"], capture_output=True, timeout=PATIENCE, check=False)
+        if ended.returncode not in (0, 1):
+            raise Wrong(f"{source}, damaged by seed {seed}: the decoder ended with status {ended.returncode}")
+
+
+def judge_types(source, compilers, level):
+    """A block has the type that was allocated, if that can be known, and no other one."""
+    language = "c++" if source.endswith(".cpp") else "cc"
+    environment = dict(os.environ, RECORD_CC=compilers[0], RECORD_CXX=compilers[1] or "")
+    path = os.path.join(SOURCES, source)
+    ran([os.path.join(RECORD, language), level, path, "-o", "program"], env=environment)
+    variables, locks = names_of(["./program"])
+    blocks = [re.sub(r"heap:[\w.]+:\d+ ?", "", name) for name in variables if name.startswith("heap:")]
+    blocks = [name for name in blocks if not name.startswith("_State_impl")]
+    if sorted(blocks) != sorted(TYPES[source].split()):
+        raise Wrong(f"{source} {level}: the blocks are {sorted(blocks)}")
+    if source == "blocks.c" and not any(re.fullmatch(r"heap:blocks\.c:\d+ config\?\.lock", name) for name in locks):
+        raise Wrong(f"{source} {level}: the locks are {sorted(locks)}")
+
+
+def judge_stripped(c):
+    """Without debug information a variable is a symbol and an offset."""
+    path = os.path.join(SOURCES, "named.c")
+    environment = dict(os.environ, RECORD_CC=c)
+    ran([os.path.join(RECORD, "cc"), "-O1", path, "-o", "program"], env=environment)
+    ran(["strip", "--strip-debug", "program"])
+    variables, _ = names_of(["./program"])
+    if not {"hosts+400", "grid+24"} <= variables:
+        raise Wrong(f"without debug information: {sorted(variables)}")
+
+
+def cases(c, cxx):
+    found = [(f"names without debug information, {c}", judge_stripped, (c,))]
+    found.append((f"names by forms of debug information, {c}", judge_forms, (c,)))
+    for source in ("frames.c", "blocks.cpp") if cxx else ("frames.c",):
+        found.append((f"names by damaged debug information, {c} {source}", judge_damaged, (source, (c, cxx))))
+    for level in ("-O0", "-O1"):
+        found.append((f"names of variables in C, {c} {level}", judge_names, ("named.c", (c, cxx), level)))
+        if cxx:
+            found.append((f"names of variables in C++, {cxx} {level}", judge_names, ("named.cpp", (c, cxx), level)))
+        # Clang with -O1 says of few variables where they are, and leaves out what nobody reads.
+        if (c, level) == ("clang", "-O1"):
+            continue
+        found.append((f"names of variables in frames, {c} {level}", judge_frames, (c, level)))
+        found.append((f"names of blocks in C, {c} {level}", judge_types, ("blocks.c", (c, cxx), level)))
+        if cxx:
+            found.append((f"names of blocks in C++, {cxx} {level}", judge_types, ("blocks.cpp", (c, cxx), level)))
+    return found
