@@ -9,6 +9,7 @@
 #
 # The status is 0 if all traces were triaged, and 1 if one was not: then nothing is merged. It is 2 if two reports would
 # have one name: of traces with one name in two folders, or of `merged.std`.
+# shellcheck disable=SC2016 # what is in single quotes is for the shell of a job
 set -u
 export PARTS="${PARTS:-parts}" RACEBENCH="${RACEBENCH:-racebench}"
 # A fault names its file, also in a log.

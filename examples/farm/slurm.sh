@@ -8,6 +8,7 @@
 #
 # If a task fails, nothing is merged. Run the same line again: a trace that is older than its report is not triaged
 # again. The status is 2 if two reports would have one name: of traces with one name in two folders, or of `merged.std`.
+# shellcheck disable=SC2016,SC2086 # single quotes are for the shell of a job; OPTIONS has words
 set -u
 export PARTS="${PARTS:-parts}" RACEBENCH="${RACEBENCH:-racebench}"
 # A fault names its file, also in a log.
