@@ -81,6 +81,9 @@ function closed(event) {
 
 export const isOpen = () => socket?.readyState === WebSocket.OPEN;
 
+// Whether an answer has to come still.
+export const isWaiting = () => waiting.size > 0;
+
 // An answer that is `lost` says nothing of what was asked.
 export function ask(what, given = {}) {
   return new Promise((done) => {

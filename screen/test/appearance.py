@@ -6,7 +6,7 @@ import traces
 from browser import Browser
 from comparing import same
 from two_analysts import session
-from stage import NEXT, ROWS, Screen, focus, is_clean, logged, new, press
+from stage import NEXT, ROWS, Screen, focus, is_clean, logged, new, press, settled
 from workbench import SEVERAL
 
 
@@ -90,6 +90,7 @@ async def test_texts_are_told_from_their_ground(program):
         await press(page, "1", "t")
         await page.key("ArrowRight")
         await session(program, 2, "new C\nadd r7-12 1\n")
+        await settled(page)
         await page.until("!document.getElementById('away').hidden")
         await focus(page, "stage")
         await page.key("Home")
@@ -189,7 +190,8 @@ async def test_what_a_screen_reader_finds(program):
         await page.until("document.querySelectorAll('.race').length === 1")
         await new(page, 3)
         await press(page, "1")
-        await page.until(f"{ROWS} === 1 && document.getElementById('next-list').dataset.length === '1'")
+        await settled(page)
+        same(await page.run(f"[{ROWS}, document.getElementById('next-list').dataset.length]"), [1, "1"])
         found = await spoken(page)
         for role, name in (
             ("listbox", "Races"),
@@ -227,6 +229,7 @@ async def test_what_a_screen_reader_finds(program):
         await page.click(".race")
         await page.until("document.querySelector('#bar h2').textContent === 'Witness'")
         await page.until("document.getElementById('next').hidden")
+        await settled(page)
         same([one for one in await spoken(page) if one[0] == "separator"], [])  # there is nothing to split
         is_clean(page, screen)
 
@@ -377,7 +380,8 @@ async def test_names_from_right_to_left_and_blanks(program):
         await new(page, 2)
         await session(program, 2, "add A 0\nadd A 2\n")
         await session(program, 3, "add A 1\nadd A 3\n")
-        await page.until(f"{ROWS} === 4")
+        await settled(page)
+        same(await page.run(ROWS), 4)
         where = "#at-0 .name", ".race .variable", "#feed .entry .who .whole"
         for selector in where:
             await page.until(f"({LEFTWARD})({json.dumps(selector)}) === 'true,true'", what=selector)

@@ -283,12 +283,12 @@ class Page:
         return told["result"].get("value")
 
     async def until(self, code, seconds=PATIENCE, what=None):
-        """Waits by condition, never by time."""
+        """Waits by condition, never by time. What the condition is may change: then it is made anew for each look."""
         loop = asyncio.get_running_loop()
         end = loop.time() + seconds
         while loop.time() < end:
             try:
-                got = await self.run(code)
+                got = await self.run(code() if callable(code) else code)
             except RuntimeError:
                 got = None
             if got:

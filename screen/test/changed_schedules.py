@@ -7,8 +7,9 @@ import traces
 from browser import ALT, Browser
 from comparing import same
 from two_analysts import session
-from scrolling import FRAMES, HOLD
-from stage import LENGTH, ORDER, ROWS, SAID, SAYINGS, Screen, Socket, comes, focus, is_clean, logged, new, press
+from scrolling import HOLD
+from stage import FRAMES, LENGTH, ORDER, ROWS, SAID, SAYINGS, Screen, Socket, comes, focus, is_clean, logged, new
+from stage import press, press_at_once, settled
 
 # Holds back all that tells the page of what others do, from `hold()` on until `letGo()`.
 DEAF = HOLD.replace('["view"]', '["view", "frontier"]').replace(
@@ -56,7 +57,8 @@ async def deaf(browser, screen, events, threads=8, script=DEAF):
 
 
 async def shows(page, length):
-    """Waits until a schedule of so many events is drawn."""
+    """Waits until a schedule of so many events is drawn, and nothing more has to come."""
+    await settled(page)
     await page.until(
         f"{ROWS} === {length} && {LENGTH} === '{length} event{'' if length == 1 else 's'}' && "
         f"document.getElementById('next-list').dataset.length === '{length}'"
@@ -75,7 +77,7 @@ async def test_a_step_back_is_for_the_event_that_is_shown(program):
         page = await deaf(browser, screen, 2)
         await page.run("hold()")
         await session(program, 2, "add A 2\n")
-        await press(page, "Backspace")
+        await press_at_once(page, "Backspace")
         await not_done(page, 3)
         await page.run("letGo()")
         await shows(page, 3)
@@ -84,7 +86,7 @@ async def test_a_step_back_is_for_the_event_that_is_shown(program):
         await shows(page, 2)
         await page.run("hold()")
         await session(program, 2, "back A\nadd A 5\n")  # as long as it was
-        await press(page, "Backspace")
+        await press_at_once(page, "Backspace")
         await not_done(page, 5)
         await page.run("letGo()")
         await shows(page, 2)
@@ -102,7 +104,7 @@ async def test_a_step_back_whose_event_stays(program):
             before = len(logged())
             await page.run("hold()")
             await session(program, 2, others)
-            await press(page, "Backspace")
+            await press_at_once(page, "Backspace")
             same(logged()[before + others.count("\n") :], ["1 back A"])
             await page.run("letGo()")
             await shows(page, 3)
@@ -124,7 +126,7 @@ async def test_steps_back_that_are_typed_ahead(program):
         await shows(page, 3)
         await page.run("hold()")
         await session(program, 2, "back A\n")
-        await press(page, "Backspace")
+        await press_at_once(page, "Backspace")
         await not_done(page, 10)
         await page.run("letGo()")
         await shows(page, 2)
@@ -158,10 +160,10 @@ async def test_a_step_back_after_a_step_whose_answer_is_lost(program):
     async with Screen(path, "trace", "log") as screen, Browser() as browser:
         page = await deaf(browser, screen, 2)
         await page.run("hold()")
-        await press(page, "Backspace")
+        await press_at_once(page, "Backspace")
         assert "the program ended" in await page.run(SAID), await page.run(SAID)
         same(logged()[3:], ["1 add A 6"])  # as if the session had made it
-        await press(page, "Backspace")
+        await press_at_once(page, "Backspace")
         same(logged()[4:], ["1 back A"])
         await page.run("letGo()")
         await shows(page, 2)
@@ -177,13 +179,30 @@ async def test_steps_back_of_an_event_on_others_that_are_not_shown(program):
         await session(program, 2, "add A 5\n")
         await page.run("import('/act.js').then((page) => page.act('add', { name: 'A', event: 6 }))")
         await comes(lambda: len(logged()) == 5)
-        await press(page, "Backspace")
+        await press_at_once(page, "Backspace")
         same(logged()[3:], ["2 add A 5", "1 add A 6", "1 back A"])
-        await press(page, "Backspace")
+        await press_at_once(page, "Backspace")
         await not_done(page, 3)
         await page.run("letGo()")
         await shows(page, 3)
         same(len(logged()), 6)
+        is_clean(page, screen)
+
+
+async def test_a_key_for_an_event_that_another_added(program):
+    """It is for the event that is shown, so it adds no other. The page says what the program says of that event."""
+    traces.write("trace", "".join(f"T{at % 2}|w(a{at % 2})|a:{at}\n" for at in range(8)))
+    async with Screen(program, "trace", "log") as screen, Browser() as browser:
+        page = await deaf(browser, screen, 2, threads=2)
+        await page.run("hold()")
+        await session(program, 2, "add A 2\n")
+        await press_at_once(page, "1")
+        assert (await page.run(SAID)).startswith("refused"), await page.run(SAID)
+        same(logged()[3:], ["2 add A 2"])
+        await page.run("letGo()")
+        await shows(page, 3)
+        await press(page, "1")  # now the next one is shown
+        same(logged()[4:], ["1 add A 4"])
         is_clean(page, screen)
 
 
@@ -194,7 +213,7 @@ async def test_another_tab_of_the_same_analyst(program):
         page = await deaf(browser, screen, 2)
         await page.run("hold()")
         await session(program, 1, "add A 2\n")
-        await press(page, "Backspace")
+        await press_at_once(page, "Backspace")
         await not_done(page, 3, "you")
         await page.run("letGo()")
         await shows(page, 3)
@@ -212,7 +231,7 @@ async def test_a_move_is_for_the_events_that_are_shown(program):
         await page.key("ArrowDown")
         await page.run("hold()")
         await session(program, 2, "add A 4\nswap A 1\n")
-        await press_alt(page, "ArrowDown")
+        await press_at_once(page, "ArrowDown", ALT)
         await not_done(page, 6)
         await page.run("letGo()")
         await page.until(f"{ORDER} === '0 2 1 3 4'")
@@ -220,17 +239,11 @@ async def test_a_move_is_for_the_events_that_are_shown(program):
         same(logged()[5:], ["2 add A 4", "2 swap A 1"])
         await page.run("hold()")
         await session(program, 2, "add A 5\nswap A 0\n")  # beside it
-        await press_alt(page, "ArrowDown")  # the cursor went with its event
+        await press_at_once(page, "ArrowDown", ALT)  # the cursor went with its event
         await comes(lambda: logged()[9:] == ["1 swap A 2"])
         await page.run("letGo()")
         await page.until(f"{ORDER} === '2 0 3 1 4 5'")
         is_clean(page, screen)
-
-
-async def press_alt(page, key):
-    before = await page.run("document.getElementById('said').dataset.n")
-    await page.key(key, ALT)
-    await page.until(f"document.getElementById('said').dataset.n !== '{before}'", what=f"an answer to Alt {key}")
 
 
 async def test_a_drag_is_for_the_row_that_was_pressed(program):
@@ -246,8 +259,10 @@ async def test_a_drag_is_for_the_row_that_was_pressed(program):
         await page.release(x, y - 44)
         await not_done(page, 6)
         same(logged()[6:], ["2 swap A 2"])
+        await settled(page)
         await page.drag("#space .row[data-p='3'] .lanes", 0, -66)  # what it shows now
         await page.until(f"{ORDER} === '2 0 1 3 4'")
+        await settled(page)
         x, y = await page.press("#space .row[data-p='4'] .lanes")
         await page.mouse("mouseMoved", x, y - 22, button="left", buttons=1)
         await session(program, 2, "back A\n")  # the row is gone
@@ -259,6 +274,8 @@ async def test_a_drag_is_for_the_row_that_was_pressed(program):
 
 
 async def asked(page):
+    """Asks for the name of a branch of what is shown."""
+    await settled(page)
     await page.key("b")
     await page.until(ASKING)
 
@@ -296,7 +313,8 @@ async def test_a_branch_while_another_runs_far(program):
         await asked(page)
         batches = [" ; ".join(f"add A {event}" for event in range(at, at + 60)) for at in range(1, 8941, 60)]
         await session(program, 2, "".join(f"batch {batch}\n" for batch in batches))
-        await page.until(f"{LENGTH} === '8,942 events'")
+        await settled(page)
+        same(await page.run(LENGTH), "8,942 events")
         await page.key("Enter")
         await page.until(f"{OPEN} === 'A.b' && {ROWS} === 2")
         same(logged()[-1], "1 branch A 2 A.b")
@@ -328,9 +346,10 @@ async def test_another_is_faster_than_the_look(program):
         assert " · entry 4 was made and taken back" in await page.run(SAID), await page.run(SAID)
         await shows(page, 3)
         await focus(page, "stage")
+        await settled(page)
         await page.key("End")
         await page.until("document.querySelector('.row.on')?.dataset.p === '2'")
-        await press_alt(page, "ArrowUp")
+        await press_at_once(page, "ArrowUp", ALT)
         await not_done(page, 6)
         await page.until(f"{ORDER} === '1 0 2'")
         await asked(page)
@@ -442,7 +461,6 @@ EVENTS = (
     "[...document.querySelectorAll('#space .row')].sort((one, other) => one.dataset.p - other.dataset.p)"
     ".map((row) => Number(row.querySelector('.event').textContent))"
 )
-IDLE = "import('/queue.js').then((queue) => !queue.isBusy())"
 KEYS = (["Backspace"], ["ArrowUp"], ["ArrowDown"], ["6", "Backspace"], ["Backspace", "Backspace"])
 
 
@@ -467,7 +485,7 @@ async def presses(page, keys, is_held):
     is_faster = "meanwhile" in await page.run(SAID)
     if is_held:
         await page.run("letGo()")
-    await page.until(IDLE)
+    await settled(page)
     return shown, is_faster
 
 

@@ -6,7 +6,7 @@ import traces
 from browser import ALT, CONTROL, META, Browser
 from comparing import same
 from two_analysts import session
-from stage import LENGTH, NEXT, ROWS, SAID, Screen, focus, is_clean, logged, new, press
+from stage import LENGTH, NEXT, ROWS, SAID, Screen, focus, is_clean, logged, new, press, settled
 
 OPEN = "document.querySelector('#bar h2').textContent"
 CHOSEN = "document.querySelector('#next-list .next.on')?.dataset.t"
@@ -200,6 +200,7 @@ async def test_a_press_on_the_map(program):
     async with Screen(program, "trace", "log") as screen, Browser() as browser:
         page = await browser.page(screen.link)
         await page.until(f"{LENGTH} === '900 events' && !document.getElementById('map').hidden")
+        await settled(page)  # the map stays so high
         x, y, height = await page.run(
             "(() => { const b = document.getElementById('map').getBoundingClientRect(); "
             "return [b.left + b.width / 2, b.top, b.height]; })()"
@@ -227,7 +228,7 @@ async def test_a_hand_that_moves_on_the_map(program):
     async with Screen(program, "trace", "log") as screen, Browser() as browser:
         page = await browser.page(screen.link)
         await page.until(f"{LENGTH} === '400 events' && {marks} === '25,75.25'")
-        await page.until("document.getElementById('next-list').dataset.length === '400'")  # the map stays so high
+        await settled(page)  # the map stays so high
         await page.steady("#map")
         x, y, height = await page.run(
             "(() => { const b = document.getElementById('map').getBoundingClientRect(); "

@@ -5,8 +5,8 @@ from browser import SHIFT, Browser
 from comparing import same
 from two_analysts import session
 from changed_schedules import DEAF, FREE, deaf, shows
-from scrolling import AT_END, FRAMES, SCROLLED
-from stage import LENGTH, NEXT, ROWS, SAID, Screen, is_clean, logged, new, press
+from scrolling import AT_END, SCROLLED
+from stage import FRAMES, LENGTH, NEXT, ROWS, SAID, Screen, is_clean, logged, new, press, settled
 
 OPEN = "document.querySelector('#bar h2').textContent"
 
@@ -22,10 +22,11 @@ async def test_where_a_button_goes_up(program):
         await page.mouse("mouseMoved", x + 90, y, button="left", buttons=1)
         await page.release(x + 90, y)
         await page.until(f"{OPEN} === 'A'")
+        await settled(page)
         x, y = await page.press(".sched", 1)
         await page.mouse("mouseMoved", x, y - 24, button="left", buttons=1)
         await page.release(x, y - 24)
-        await page.run(FRAMES)
+        await settled(page)
         same(await page.run(OPEN), "A")
         same(logged(), ["1 new A", "1 new B"])
         is_clean(page, screen)
@@ -91,15 +92,15 @@ async def test_a_proposal_among_steps_of_others(program):
         await page.call("Page.addScriptToEvaluateOnNewDocument", source=TOGETHER)
         await page.open(screen.link)
         await page.until(f"{LENGTH} === '70 events' && {NEXT} === 4 && !document.getElementById('pair').hidden")
-        await page.run(FRAMES)
+        await settled(page)
         await page.run(f"{SCROLLED} = 88")
         await page.run(FRAMES)
         await page.key("p")
         await page.until("window.isKept")
         await session(program, 2, "add A 70\n")
         await page.until(f"{LENGTH} === '71 events' && {SAID}.startsWith('entry 71: proposal 0')")
-        await page.until("document.getElementById('next-list').dataset.length === '71'")
-        await page.run(FRAMES)
+        await settled(page)
+        same(await page.run("document.getElementById('next-list').dataset.length"), "71")
         same(await page.run(f"[{SCROLLED}, {AT_END}]"), [88, False])
         is_clean(page, screen)
 
@@ -171,11 +172,14 @@ async def test_a_step_back_by_a_button(program):
         await press(page, "1", "1", "2")
         await page.click("#back", times=2)
         await page.until(f"{ROWS} === 1")
+        await settled(page)
         x, y = await page.press("#back")
         await session(program, 2, "add A 1\n")
-        await page.until(f"{ROWS} === 2")
+        await settled(page)
+        same(await page.run(ROWS), 2)
         await page.release(x, y)
         await page.until(f"{SAID}.startsWith('not done: entry 6 of 2 changed A meanwhile')")
+        await settled(page)
         await page.click("#back")
         await page.until(f"{ROWS} === 1")
         same(logged()[4:], ["1 back A", "1 back A", "2 add A 1", "1 back A"])

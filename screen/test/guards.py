@@ -13,7 +13,7 @@ from two_analysts import session  # noqa: E402
 from screen_app import server  # noqa: E402
 from screen_app.bench import Bench  # noqa: E402
 from screen_app.trace import Trace  # noqa: E402
-from stage import NEXT, ROWS, Screen, is_clean  # noqa: E402
+from stage import NEXT, ROWS, Screen, is_clean, settled  # noqa: E402
 
 # Sessions of this program are of another trace, as if the screen read its own otherwise than the program.
 OTHER = """#!/bin/sh
@@ -74,6 +74,7 @@ async def test_a_schedule_that_is_shown_otherwise(program):
     async with Screen(script("odd", SHORT.format(program)), "trace", "log") as screen, Browser() as browser:
         page = await browser.page(screen.link)
         await page.until(f"{ROWS} === 1 && {NEXT} === 3")  # of one event: that is the same
+        await settled(page)
         same(await page.run(f"{NOTE}.hidden"), True)
         await page.click(".sched")
         await page.until(f"{ROWS} === 2 && !{NOTE}.hidden")

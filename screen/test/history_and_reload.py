@@ -7,7 +7,7 @@ from browser import Browser
 from comparing import same
 from two_analysts import session
 from scrolling import HOLD, ROW, TOP
-from stage import LENGTH, NEXT, ROWS, SAID, TITLE, Screen, comes, focus, is_clean, logged, new, press
+from stage import LENGTH, NEXT, ROWS, SAID, TITLE, Screen, comes, focus, is_clean, logged, new, press, settled
 from workbench import SEVERAL
 
 OPEN = "document.querySelector('#bar h2').textContent"
@@ -42,6 +42,7 @@ async def test_back_and_forward(program):
         await page.until(f"{OPEN} === 'Witness' && {AIM} === '{first}'")
         await page.run("history.go(2)")
         await page.until(f"{OPEN} === '{name}' && {AIM} === '{second}' && {NEXT} === 2")
+        await settled(page)
         same(logged(), [f"1 new {name}"])
         is_clean(page, screen)
 
@@ -83,6 +84,7 @@ async def test_the_race_that_is_looked_at_is_chosen(program):
         page = await browser.page(screen.link)
         await page.until(f"{OPEN} === 'r4-6' && {RACES} === 2 && {AIM} === '4,6'")
         await page.until(f"{CHOSEN} === 'race-4-6'")
+        await settled(page)
         await page.click("#race-0-5")
         await page.until(f"{OPEN} === 'Witness' && {AIM} === '0,5' && {CHOSEN} === 'race-0-5'")
         await page.run("history.back()")
@@ -125,6 +127,7 @@ async def test_a_cursor_that_moves_on_is_not_put_back(program):
         await page.until(f"{RACES} === 2")
         await page.click(".race", 1)
         await page.until(f"{OPEN} === 'Witness' && {AIM} === '4,6' && {CHOSEN} === 'race-4-6'")
+        await settled(page)
         await focus(page, "race-list")
         same(await page.run(MOVES_ON), "race-0-5")
         await page.until(f"{OPEN} === 'Witness' && {AIM} === '0,5' && {CHOSEN} === 'race-0-5'")
@@ -142,13 +145,16 @@ async def test_no_schedule_is_chosen_if_none_is_open(program):
     async with Screen(program, "trace", "log") as screen, Browser() as browser:
         page = await browser.page(screen.link)
         await page.until(f"{OPEN_ONES} === 'B'")
+        await settled(page)
         await explained(page)
+        await settled(page)
         same(await page.run(OPEN_ONES), "")
         same(await page.run(ACTIVE), None)
         await page.run("history.back()")
         await page.until(f"{OPEN} === 'B' && {OPEN_ONES} === 'B' && {ACTIVE} === 'schedule-B'")
         await page.run("history.forward()")
         await page.until(f"{EXPLAINED} && {OPEN_ONES} === '' && {ACTIVE} === null")
+        await settled(page)
         await page.key("[")  # the one before none is the last
         await page.until(f"{OPEN} === 'B' && {OPEN_ONES} === 'B'")
         is_clean(page, screen)
@@ -191,9 +197,11 @@ async def test_an_aim_that_was_dropped(program):
         await page.until(f"{AIM} === ''")
         await page.call("Page.reload")
         await page.until(f"{there} && {RACES} === 2 && owed === 0")
+        await settled(page)
         same(await page.run(AIM), "")
         before = await page.run("window.socket.close(); window.views")
         await page.until(f"window.views > {before} && {there} && owed === 0")
+        await settled(page)
         same(await page.run(AIM), "")
         await page.click(".sched")
         await page.until(f"{there} && {AIM} === '{aim}'")
@@ -211,6 +219,7 @@ async def test_two_tabs_of_one_analyst(program):
         link = await page.until("document.querySelector('#help input.link')?.value")
         other = await browser.page(link)
         await other.until(f"{LENGTH} === '200 events' && {NEXT} === 2 && !!document.querySelector('[data-p=\"199\"]')")
+        await settled(other)
         await other.run(f"document.getElementById('stage').scrollTop = {40 * ROW}")
         await other.until(f"{TOP} === '40'")
         await page.click("#help button")
@@ -221,6 +230,7 @@ async def test_two_tabs_of_one_analyst(program):
             f"{LENGTH} === '203 events' && document.getElementById('next-list').dataset.length === '203' && "
             f"document.getElementById('space').style.height === '{203 * ROW + 6}px'"
         )
+        await settled(other)
         same(await other.run(TOP), "40")
         is_clean(page, screen)
         is_clean(other, screen)
@@ -333,8 +343,10 @@ async def test_older_entries_stay_if_the_connection_comes_back(program):
         assert not shown.startswith("1000,"), shown[:40]
         before = await page.run("window.socket.close(); window.views")
         await page.until(f"window.views > {before} && {FEED} === {shown!r}")
+        await settled(page)
         await session(program, 2, "new C\n")
-        await page.until("document.getElementById('feed-count').textContent === '1,002'")
+        await settled(page)
+        same(await page.run("document.getElementById('feed-count').textContent"), "1,002")
         same(await page.run(FEED), shown)
         is_clean(page, screen)
 
@@ -351,7 +363,8 @@ async def test_the_newest_entries_again(program):
             await page.run(f"{OLDER}.click()")
             await page.until(f"{FEED}.startsWith('{first},') && {FEED}.endsWith(',{last}')")
         await session(program, 2, "new C\n")
-        await page.until("document.getElementById('feed-count').textContent === '1,002'")
+        await settled(page)
+        same(await page.run("document.getElementById('feed-count').textContent"), "1,002")
         same((await page.run(FEED)).split(",")[0], "800")
         await page.run(f"{NEWEST}.click()")
         await page.until(f"{FEED}.startsWith('1001,') && {FEED}.endsWith(',882')")
@@ -373,7 +386,8 @@ async def test_news_stay_news_if_the_connection_comes_back(program):
         await page.until(f"{ROWS} === 1 && {fresh}")
         before = await page.run("window.socket.close(); window.views")
         await page.until(f"window.views > {before} && {ROWS} === 1 && {NEXT} === 3 && owed === 0")
-        same(await page.run(fresh), True)
+        await settled(page)
+        await page.until(fresh)
         await press(page, "s")
         same(await page.run(SAID), "the log is marked as seen")
         await page.until("document.getElementById('away').hidden")

@@ -4,7 +4,7 @@ from browser import Browser
 from comparing import same
 from two_analysts import session
 from scrolling import HOLD, Reading
-from stage import LENGTH, NEXT, ROWS, Screen, is_clean, logged, new, press
+from stage import LENGTH, NEXT, ROWS, Screen, is_clean, logged, new, press, press_at_once, settled
 from traces import COUNT, write
 
 # The first request for a key fails, as where the browser's network changes.
@@ -67,9 +67,8 @@ async def test_keys_while_another_works_all_the_time(program):
         await page.open(screen.link)
         await new(page, 2)
         await page.run("window.endless = true")
-        await press(page, "1")
-        await press(page, "2")
-        await press(page, "1")
+        for key in "121":
+            await press_at_once(page, key)
         assert await page.run("window.came") > 2
         await page.run("window.endless = false")
         await page.until(f"{ROWS} === 3 && {NEXT} === 2")
@@ -87,7 +86,8 @@ async def test_a_schedule_that_another_works_on_all_the_time(program):
         await page.open(screen.link)
         await page.until(f"document.querySelector('#bar h2').textContent === 'B' && {NEXT} === 2")
         await session(program, 2, "add A 1\n")  # the news that come again and again
-        await page.until("document.querySelector('.sched .num').textContent === '2'")
+        await settled(page)
+        same(await page.run("document.querySelector('.sched .num').textContent"), "2")
         await page.run("window.endless = true")
         await page.click(".sched")
         await page.key("1")

@@ -6,7 +6,7 @@ import traces
 from browser import ALT, CAPS, SHIFT, Browser
 from comparing import same
 from two_analysts import session
-from stage import NEXT, ROWS, SAID, Screen, focus, is_clean, logged, new, press
+from stage import NEXT, ROWS, SAID, Screen, focus, is_clean, logged, new, press, settled
 
 FOLDER = "/build/product-1.22.4/src/modules/scheduler/internal"
 CALLS = " < third_party/library/src/crypto/montgomery_inverse.cc:34 < main.cpp:7"
@@ -430,6 +430,7 @@ async def test_clients_whose_names_look_alike(program):
         ):
             for client in clients:
                 await session(program, client, f"new S{client}\n")
+            await settled(page)
             for width in (1440, 1000, 768, 360):
                 await page.size(width, 900)
                 if width < 980:
@@ -530,9 +531,11 @@ async def test_colours_of_the_system(program):
         await page.until("document.querySelectorAll('.sched').length === 2 && matchMedia('(forced-colors)').matches")
         shown = "[...document.querySelectorAll('.sched > .fresh')].map((e) => getComputedStyle(e).visibility).join()"
         outlined = "[...document.querySelectorAll('.sched')].map((e) => getComputedStyle(e).outlineStyle).join()"
+        await settled(page)
         same(await page.run(f"[{shown}, {outlined}]"), ["hidden,hidden", "none,solid"])
         await session(program, 2, "add A 0\n")
-        await page.until(f"{shown} === 'visible,hidden'")
+        await settled(page)
+        same(await page.run(shown), "visible,hidden")
         await page.until("document.querySelector('.entry.fresh')?.checkVisibility({ visibilityProperty: true })")
         pressed = "[...document.querySelectorAll('.chip')].map((c) => getComputedStyle(c).backgroundColor)"
         same(await page.run(f"new Set({pressed}).size"), 2)

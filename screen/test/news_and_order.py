@@ -7,7 +7,8 @@ from comparing import same
 from two_analysts import session
 from changed_schedules import DEAF, FREE, deaf, shows
 from scrolling import HOLD
-from stage import LENGTH, NEXT, ORDER, ROWS, SAID, TITLE, Screen, focus, is_clean, logged, new, press
+from stage import LENGTH, NEXT, ORDER, ROWS, SAID, TITLE, Screen, focus, is_clean, logged, new, press, press_at_once
+from stage import settled
 from workbench import SEVERAL
 
 OPEN = "document.querySelector('#bar h2').textContent"
@@ -29,7 +30,8 @@ async def test_keys_for_a_schedule_that_another_dropped(program):
         await new(page, 8)
         await press(page, "1", "2")
         await session(program, 2, "drop A\n")
-        await page.until("document.querySelector('#bar .bad')?.textContent === 'dropped'")
+        await settled(page)
+        same(await page.run("document.querySelector('#bar .bad')?.textContent"), "dropped")
         for key in ("Backspace", "r", "t", "f", "p", "1", "b"):
             await page.run("document.getElementById('said').replaceChildren()")
             await page.key(key)
@@ -65,6 +67,7 @@ async def test_rows_below_a_block_move_up(program):
         page = await browser.page(screen.link)
         await new(page, 2)
         await session(program, 2, "".join(f"add A {event}\n" for event in range(16)))
+        await settled(page)
         await page.until(f"{LENGTH} === '16 events' && !!document.querySelector('[data-p=\"15\"]')")
         await page.until(f"{ASTRAY} === ''")
         rows = await page.run(ROWS)
@@ -72,6 +75,7 @@ async def test_rows_below_a_block_move_up(program):
         await page.until(f"{LENGTH} === '32 events' && !!document.querySelector('[data-p=\"31\"]')")
         await page.until(f"{ASTRAY} === ''")
         await session(program, 2, "back A\n" * 16)
+        await settled(page)
         await page.until(f"{LENGTH} === '16 events' && {ROWS} === {rows}")
         await page.until(f"{ASTRAY} === ''")
         same(await page.run(NUMBERS), ",".join(f"{number}/{rows}" for number in range(1, rows + 1)))
@@ -88,6 +92,7 @@ async def test_schedules_of_one_entry(program):
         for key, name in (("]", "M"), ("]", "Z"), ("[", "M"), ("[", "K"), ("[", "B")):
             await page.key(key)
             await page.until(f"{OPEN} === '{name}'")
+        await settled(page)
         said = "[...document.querySelectorAll('.sched')].map((e) => `${e.ariaPosInSet}/${e.ariaSetSize}`).join()"
         same(await page.run(said), "1/4,2/4,3/4,4/4")
         is_clean(page, screen)
@@ -130,13 +135,15 @@ async def test_the_cursor_stays_on_its_event(program):
             await page.key(key)
         await page.until(f"{CURSOR} === '2'")
         await session(program, 2, "swap A 1\n")
-        await page.until(f"{ORDER} === '0 4 3 8 9' && {CURSOR} === '1'")
+        await settled(page)
+        same(await page.run(f"[{ORDER}, {CURSOR}]"), ["0 4 3 8 9", "1"])
         await page.key("ArrowDown", ALT)
         await page.until(f"{ORDER} === '0 3 4 8 9' && {CURSOR} === '2'")
         await page.key("ArrowDown")
         await page.until(f"{CURSOR} === '3'")  # the first of its thread
         await session(program, 2, "".join(f"add A {event}\n" for event in (*range(10, 14), *range(16, 26))))
-        await page.until("document.querySelector('#space .row.on')?.dataset.block === '5'")
+        await settled(page)
+        same(await page.run("document.querySelector('#space .row.on')?.dataset.block"), "5")
         same(await page.run(CURSOR), "3")
         await page.key("ArrowUp")
         await page.until(f"{CURSOR} === '2'")
@@ -157,6 +164,7 @@ async def test_the_cursor_stays_if_the_connection_comes_back(program):
         same(await page.run(CURSOR), "1")
         await page.key("ArrowUp", ALT)
         await page.until(f"{ORDER} === '1 0 2 3' && {CURSOR} === '0'")
+        await settled(page)
         await new(page, 8, "B")
         await page.key("[")
         await shows(page, 4)
@@ -234,6 +242,7 @@ async def test_answers_of_the_program_in_words(program):
         await page.run("document.getElementById('said').replaceChildren()")
         undo = "import('/act.js').then((page) => void page.act('undo', { entries: [2] }))"
         await session(program, 1, "undo 2\n")
+        await settled(page)
         await page.run(undo)
         await page.until(f"{SAID}.startsWith('refused: that entry was taken back already')")
         is_clean(page, screen)
@@ -263,7 +272,9 @@ async def test_long_names_leave_room(program):
         await page.until("document.querySelectorAll('.race').length > 2")
         await page.click(".race")
         await page.until(f"{OPEN} === 'Witness' && !document.getElementById('pair').hidden")
+        await settled(page)
         await session(program, 2, f"new {name}\nadd {name} 0\nback {name}\nadd {name} 0\n")
+        await settled(page)
         await page.until("!document.getElementById('away').hidden")
         for width, parts in ((1440, 3), (1180, 3), (1000, 3), (760, 2), (560, 2), (320, 2)):
             await page.size(width, 900)
@@ -287,10 +298,12 @@ async def test_names_as_long_as_names_may_be(program):
             same(await page.run("document.getElementById('ask-input').value"), branch)
             await page.key("Enter")
             await page.until(f"{OPEN} === '{branch}'")
+            await settled(page)
             await page.key("[")
             await page.until(f"{OPEN} !== '{branch}'")
             if end == ".b":
                 await page.until(f"{OPEN} === '{name}'")
+                await settled(page)
         same(logged()[2:], [f"1 branch {name} 1 {name[:62]}.b", f"1 branch {name} 1 {name[:60]}.b.2"])
         is_clean(page, screen)
 
@@ -359,6 +372,7 @@ async def test_news_begin_where_the_last_look_ended(program):
         await press(page, "s")
         await page.until(f"{DID}.startsWith('A + 2 events') && {fresh} === ''")
         await session(program, 2, "add A 2\nadd A 3\n")
+        await settled(page)
         await page.until(f"{fresh} === '3–4' && {lines} === 'entry,divide,entry,entry'")
         same(await page.run(f"{DID}.split('; ')[0]"), "A + 2 events T2 T3")
         await press(page, "s")
@@ -376,7 +390,6 @@ async def test_what_was_taken_back_is_struck_out(program):
         await new(page, 8)
         await press(page, "1")
         await session(program, 2, "new B\n")
-        await page.until("document.querySelectorAll('.entry').length === 3")
         await press(page, "u")
         await page.until(is_dead.format(1))
         await session(program, 2, "undo\n")
@@ -497,8 +510,9 @@ async def test_news_that_come_after_they_were_seen(program):
         await page.run("hold()")
         await session(program, 2, "new B\n")
         await page.until("held.length === 1 && document.querySelectorAll('.entry.fresh').length === 1")
-        await press(page, "s")
+        await press_at_once(page, "s")
         await page.run("letGo()")
+        await settled(page)
         same(await page.run("document.getElementById('away').hidden"), True)
         await session(program, 2, "new C\n")
         await page.until("!document.getElementById('away').hidden")
@@ -517,6 +531,7 @@ async def test_how_far_a_run_to_an_event_goes(program):
         await page.until(f"{until} === 'add,' + [2, 3, 4, 5, 6, 7, 8, 9].map((n) => `run to here (${{n}})`).join()")
         await page.click(".coming", 2)
         await page.until(f"{SAID}.startsWith('added 3 events') && {ROWS} === 3")
+        await settled(page)
         await page.until(f"{until} === 'add,' + [2, 3, 4, 5, 6].map((n) => `run to here (${{n}})`).join()")
         await page.click(".coming")
         await page.until(f"{SAID}.startsWith('added 1 event ') && {ROWS} === 4")
@@ -561,8 +576,10 @@ async def test_an_event_that_is_moved_over_a_long_block(program):
     async with Screen(program, "trace", "log") as screen, Browser() as browser:
         page = await browser.page(screen.link)
         await page.until(f"{LENGTH} === '101 events' && !!document.querySelector('.row[data-p=\"100\"]')")
+        await settled(page)
         await page.drag("#space .row[data-p='100'] .lanes", 0, -300)
         await page.until(f"{SAID}.startsWith('moved by 64') && {CURSOR} === '36'")
+        await settled(page)
         same(logged()[-1].count(" ; ") + 1, 64)
         await page.drag("#space .row[data-p='36'] .lanes", 0, -300)
         await page.until(f"{SAID}.startsWith('moved by 36') && {CURSOR} === '0'")
@@ -580,8 +597,10 @@ async def test_where_a_move_that_stays_says_so(program):
         await shows(page, 4)
         await page.drag("#space .row[data-p='3'] .lanes", 0, -66)
         await page.until(f"{ORDER} === '0 1 3 2' && {top} === 2 * 22")
+        await settled(page)
         await page.drag("#space .row[data-p='1'] .lanes", 0, 44)
         await page.until(f"{ORDER} === '0 1 3 2' && {top} === 2 * 22 && {CURSOR} === '1'")
+        await settled(page)
         await page.drag("#space .row[data-p='0'] .lanes", 0, 66)
         await page.until(f"{ORDER} === '1 0 3 2' && {top} === 2 * 22 && {CURSOR} === '1'")
         is_clean(page, screen)
@@ -604,6 +623,7 @@ async def test_who_reads_whom_of_the_cursor_again(program):
         await page.key("Home")
         await page.until("document.querySelector('#space .row.on').dataset.p === '0'")
         await page.key("ArrowDown")
+        await settled(page)
         await session(program, 2, "new B\nback A\n")
         await shows(page, 2)
         same(await page.run(reads), "reads the write at 0")

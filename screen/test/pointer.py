@@ -6,7 +6,7 @@ import traces
 from browser import Browser
 from comparing import same
 from two_analysts import session
-from stage import LENGTH, ROWS, SAID, Screen, comes, focus, is_clean, logged, new, press
+from stage import LENGTH, ROWS, SAID, Screen, comes, focus, is_clean, logged, new, press, settled
 
 SCHEDULES = "document.querySelectorAll('.sched').length"
 NEXT_LENGTH = "document.getElementById('next-list').dataset.length"
@@ -20,15 +20,18 @@ async def test_a_click_on_a_schedule_that_another_changes(program):
         page = await browser.page(screen.link)
         await new(page, 3)
         await session(program, 2, "new B\nnew C\n")
-        await page.until(f"{SCHEDULES} === 3")
+        await settled(page)
         at = await page.press(".sched", 1)
         await session(program, 3, "add B 0\nadd B 1\n")
-        await page.until("document.querySelectorAll('.sched .num')[1].textContent === '2'")
+        await settled(page)
+        same(await page.run("document.querySelectorAll('.sched .num')[1].textContent"), "2")
         await page.release(*at)
         await page.until(f"{OPEN} === 'B' && {ROWS} === 2")
+        await settled(page)
         at = await page.press(".sched", 2)
         await session(program, 1, "drop A\n")  # the one that is pressed moves up, from under the hand
-        await page.until(f"{SCHEDULES} === 2")
+        await settled(page)
+        same(await page.run(SCHEDULES), 2)
         await page.release(*at)
         await page.until(f"{OPEN} === 'C'")
         is_clean(page, screen)
@@ -39,15 +42,19 @@ async def test_a_click_on_what_may_come_next(program):
     async with Screen(program, "trace", "log") as screen, Browser() as browser:
         page = await browser.page(screen.link)
         await new(page, 2)
+        await settled(page)
         at = await page.press(".next", 1)
         await session(program, 2, "add A 0\n")
-        await page.until(f"{ROWS} === 1 && document.querySelector('.next .num').textContent === '2'")
+        await settled(page)
+        same(await page.run(f"[{ROWS}, document.querySelector('.next .num').textContent]"), [1, "2"])
         await page.release(*at)
         await page.until(f"{ROWS} === 2")
         same(logged()[-1], "1 add A 1")
+        await settled(page)
         at = await page.press(".next .do button", 2)  # run
         await session(program, 2, "add A 2\nadd A 4\n")
-        await page.until(f"{ROWS} === 4 && {NEXT_LENGTH} === '4'")
+        await settled(page)
+        same(await page.run(f"[{ROWS}, {NEXT_LENGTH}]"), [4, "4"])
         await page.release(*at)
         await page.until(f"{LENGTH} === '12 events'")
         assert logged()[-1].startswith("1 batch add A 3 ; add A 5 "), logged()[-1]
@@ -62,11 +69,12 @@ async def test_a_click_on_an_undo_that_moves_down(program):
         await new(page, 3)
         await press(page, "1")
         await session(program, 2, "new B\n")
-        await page.until(f"{SCHEDULES} === 2")
+        await settled(page)
         at = await page.press(".entry .quiet", 0)
         await session(program, 1, "new D\nadd D 0\n")  # another tab of this analyst
         await session(program, 3, "new C\n")
-        await page.until(f"{SCHEDULES} === 4 && document.querySelectorAll('.entry').length === 6")
+        await settled(page)
+        same(await page.run(f"[{SCHEDULES}, document.querySelectorAll('.entry').length]"), [4, 6])
         await page.release(*at)
         await page.until(f"{LENGTH} === '0 events'")
         same(logged()[-1], "1 undo 1")
@@ -81,20 +89,25 @@ async def test_clicks_over_and_beside_the_schedule(program):
         await new(page, 3, "A")
         await press(page, "1", "1")
         await session(program, 2, "add A 2\n")
+        await settled(page)
         await page.until(f"{ROWS} === 3 && {NEXT_LENGTH} === '3' && !document.getElementById('away').hidden")
         at = await page.press("#away button")
         await session(program, 2, "add A 3\n")
+        await settled(page)
         await page.until("document.querySelector('.away-line').textContent.includes('+2')")
         await page.release(*at)
         await page.until(f"document.getElementById('away').hidden && {ROWS} === 4 && {NEXT_LENGTH} === '4'")
+        await settled(page)
         at = await page.press("#space .row[data-p='1'] .info")
         await session(program, 2, "add A 4\n")
-        await page.until(f"{ROWS} === 5")
+        await settled(page)
+        same(await page.run(ROWS), 5)
         await page.release(*at)
         await page.until("document.querySelector('.row.on')?.dataset.p === '1'")
         at = await page.press("#bar button")  # branch
         await session(program, 2, "add A 5\n")
-        await page.until(f"{LENGTH} === '6 events'")
+        await settled(page)
+        same(await page.run(LENGTH), "6 events")
         await page.release(*at)
         await page.until("document.getElementById('ask').open")
         await page.key("Enter")

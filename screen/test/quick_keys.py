@@ -7,7 +7,7 @@ from browser import DOUBLE, Browser
 from comparing import same
 from two_analysts import session
 from scrolling import HOLD
-from stage import LENGTH, NEXT, ROWS, SAID, Screen, focus, is_clean, logged, new, press
+from stage import LENGTH, NEXT, ROWS, SAID, Screen, focus, is_clean, logged, new, press, settled
 
 OPEN = "document.querySelector('#bar h2').textContent"
 NEXT_LENGTH = "document.getElementById('next-list').dataset.length"
@@ -63,13 +63,15 @@ async def test_quick_clicks_at_one_place(program):
     async with Screen(program, "trace", "log") as screen, Browser() as browser:
         page = await browser.page(screen.link)
         await page.until(f"document.querySelectorAll('.sched').length === 4 && {NEXT} === 3")
+        await settled(page)
         began = time.time()
         x, y = await page.press(".sched", 0, timestamp=began)
         await page.release(x, y, timestamp=began)
         await page.until(f"{OPEN} === 'B' && {ROWS} === 1")
         for number, name, clicks, there in ((1, "B", 1, "C"), (2, "C", 2, "C"), (3, "D", 1, "E")):
             await session(program, 2, f"drop {name}\n")  # the one below it comes to its place
-            await page.until(f"document.querySelectorAll('.sched').length === {4 - number}")
+            await settled(page)
+            same(await page.run("document.querySelectorAll('.sched').length"), 4 - number)
             now = began + DOUBLE * number
             await page.mouse("mousePressed", x, y, button="left", clickCount=clicks, timestamp=now)
             await page.release(x, y, clicks, timestamp=now)
@@ -115,7 +117,8 @@ async def test_runs_are_taken_back_in_their_order(program):
         await press(page, "r")  # T2, which is the one that is left: four entries
         await page.until(f"{LENGTH} === '500 events'")
         await session(program, 2, "new B\n" + "add B 0\nback B\n" * 300)
-        await page.until("document.getElementById('feed-count').textContent === '612'")
+        await settled(page)
+        same(await page.run("document.getElementById('feed-count').textContent"), "612")
         steps = (("took back 4 entries", 301), ("entry 616: took back 6", 300), ("took back 5 entries", 0))
         for said, length in steps:
             await press(page, "u")
@@ -134,6 +137,7 @@ async def test_links_by_the_keyboard(program):
     async with Screen(program, "trace", "log") as screen, Browser() as browser:
         page = await browser.page(screen.link)
         await page.until("document.querySelectorAll('.entry').length === 5")
+        await settled(page)
         await focus(page, "feed")
         found = []
         while len(found) < 6:  # both ends of the log are links or buttons
@@ -202,9 +206,12 @@ async def test_a_drop_that_is_taken_back(program):
         await page.until(f"{OPEN} === 'No schedule'")
         await press(page, "u")
         await page.until(f"{OPEN} === 'A' && {ROWS} === 1 && {NEXT} === 3 && {buttons} === 'b,Drop'")
+        await settled(page)
         await session(program, 2, "drop A\n")
+        await settled(page)
         await page.until(f"document.querySelector('#bar .line').textContent === 'Adropped' && {buttons} === ''")
         await session(program, 2, "undo\n")
+        await settled(page)
         await page.until(f"{OPEN} === 'A' && {ROWS} === 1 && {NEXT} === 3 && {buttons} === 'b,Drop'")
         await page.click("#bar button", 1)
         await page.until(f"{OPEN} === 'No schedule'")
@@ -227,6 +234,7 @@ async def test_a_double_click_on_a_block(program):
         await page.open(screen.link)
         await page.until(f"{ROWS} === 7 && {NEXT} === 2")
         for is_late in (False, True):
+            await settled(page)
             began = time.time()
             if is_late:
                 await page.run("hold()")

@@ -10,26 +10,11 @@ import traces
 from browser import ALT, Browser
 from comparing import same
 from two_analysts import session
-from stage import TITLE, Screen, is_clean
+from stage import TITLE, Screen, is_clean, settled
 
-# How long the page may take until it shows what the program says, in seconds, and how often it has to be at rest.
+# How long the page may take until it shows what the program says, in seconds, and how often it has to be settled.
 PATIENCE, REST = 240, 3
 STEPS = 30
-# Counts the requests that have no answer yet.
-COUNTED = """(() => {
-  const send = WebSocket.prototype.send;
-  window.open_requests = new Set();
-  WebSocket.prototype.send = function (text) {
-    if (text.startsWith("{")) window.open_requests.add(JSON.parse(text).id);
-    if (!this.isHeard) {
-      this.addEventListener("message", (message) => window.open_requests.delete(JSON.parse(message.data).id));
-      this.addEventListener("close", () => window.open_requests.clear());
-    }
-    this.isHeard = true;
-    send.call(this, text);
-  };
-})()"""
-AT_REST = "import('/queue.js').then((queue) => !queue.isBusy() && window.open_requests.size === 0)"
 SHOWN = r"""(() => {
   const [id, all] = [(name) => document.getElementById(name), (one) => [...document.querySelectorAll(one)]];
   const number = (text) => Number(text.replaceAll(",", ""));
@@ -141,9 +126,8 @@ class Hand:
         self.program, self.did = Program(program), []
 
     async def rest(self, page):
-        found = 0
-        while found < REST:
-            found = found + 1 if await page.until(f"{TITLE} && {AT_REST}") else 0
+        for _ in range(REST):
+            await settled(page)
             await asyncio.sleep(0.03)
 
     async def judge(self, page):
@@ -223,9 +207,7 @@ async def by_chance(program, seed, tabs):
     async with Screen(program, "trace", "log") as screen, Browser() as browser:
         links, pages = [screen.link], []
         for at in range(tabs):
-            page = await browser.page("about:blank", 1280, 800)
-            await page.call("Page.addScriptToEvaluateOnNewDocument", source=COUNTED)
-            await page.open(links[at])
+            page = await browser.page(links[at], 1280, 800)
             await page.until(TITLE)
             pages.append(page)
             links.append(await page.run("import('/net.js').then((net) => net.ask('link')).then((told) => told.link)"))

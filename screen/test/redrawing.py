@@ -8,8 +8,7 @@ import traces
 from browser import ALT, Browser
 from comparing import same
 from two_analysts import session
-from changed_schedules import IDLE
-from stage import LENGTH, NEXT, ROWS, Screen, comes, focus, is_clean, logged, press
+from stage import LENGTH, NEXT, ROWS, Screen, comes, focus, is_clean, logged, press, settled
 
 OPEN = "document.querySelector('#bar h2').textContent"
 # What is drawn and not hidden, as trees of names, attributes and texts.
@@ -49,25 +48,25 @@ async def asked(page, what, of):
     return await page.run(f"import('/net.js').then(({{ ask }}) => ask('{what}')).then((told) => told.{of})")
 
 
-async def is_settled(page):
-    """Waits until a page shows all entries and races, and chooses the first line and the last event."""
-    await page.until(f"document.getElementById('feed-count').textContent === '{len(logged())}'")
+async def choose(page):
+    """Chooses the first line and the last event, once a page shows all entries and races."""
     await page.until("document.querySelectorAll('.race').length === 3")
+    await settled(page)
     for pane, key in (("stage", "End"), ("next-list", "Home")):
         await focus(page, pane)
         await page.key(key)
-    await page.until(IDLE)
+    await settled(page)
 
 
 async def is_as_anew(browser, page):
     """Compares what is drawn with what a page draws that is opened now."""
-    await is_settled(page)
+    await choose(page)
     await press(page, "s")  # the other page begins with what this one has seen
     while await asked(page, "hello", "seen") != len(logged()):
         await asyncio.sleep(0.05)
     other = await browser.page(await asked(page, "link", "link"))
     await other.until(f"JSON.stringify({THERE}) === {json.dumps(await page.run(f'JSON.stringify({THERE})'))}")
-    await is_settled(other)
+    await choose(other)
     same(await different(page, other), [])
     return other
 
@@ -99,9 +98,9 @@ async def test_what_is_drawn_is_as_if_it_were_opened_now(program):
         traces.write("log.names", "2 Ada\n")
         calls = "new B\nadd B 0\nadd B 1\nadd B 2\nundo\npropose 2 3 0 1\nnew C\nadd r0-1 0\n"
         await session(program, 2, "add r2-3 2\n" + calls)
-        await page.until(f"{LENGTH} === '3 events'")
-        await press(page, "1", "1")  # a lock is held
-        await page.until(f"{LENGTH} === '5 events' && {ROWS} === 5")
+        await press(page, "1", "1")  # once their events are shown: a lock is held
+        await settled(page)
+        same(await page.run(f"[{LENGTH}, {ROWS}]"), ["5 events", 5])
         await focus(page, "stage")
         for key in ("End", "ArrowUp", "ArrowUp"):
             await page.key(key)
@@ -111,7 +110,6 @@ async def test_what_is_drawn_is_as_if_it_were_opened_now(program):
         is_clean(await is_as_anew(browser, page), screen)
         await session(program, 2, "drop C\nadd B 3\nadd r2-3 6\n")
         traces.write("log.names", "2 Grace\n")
-        await page.until(f"{LENGTH} === '6 events'")
         await press(page, "1", "Backspace", "u", "2", "2")
         is_clean(await is_as_anew(browser, page), screen)
         is_clean(page, screen)

@@ -6,7 +6,7 @@ import os
 from browser import ALT, Browser
 from comparing import same
 from two_analysts import session
-from stage import LENGTH, NEXT, Screen, focus, is_clean, press
+from stage import FRAMES, LENGTH, NEXT, Screen, focus, is_clean, press_at_once, settled
 from traces import COUNT, write
 
 # Holds back the answers to what is asked so, from `hold()` on until `letGo()`.
@@ -46,7 +46,6 @@ TOP = (
     "return document.elementFromPoint(s.left + 60, s.top + 4)?.closest('.row')?.dataset.p; })()"
 )
 AT_END = f"Math.abs({STAGE}.scrollHeight - {STAGE}.clientHeight - {SCROLLED}) < 2"
-FRAMES = "new Promise((done) => requestAnimationFrame(() => requestAnimationFrame(() => setTimeout(done))))"
 OPEN = "document.querySelector('#bar h2').textContent"
 LAST = "document.querySelector('.row[data-p=\"{}\"]')"
 NARROWER = (
@@ -63,6 +62,7 @@ class Reading:
 
     async def drawn(self):
         """Waits until all that the log has is drawn."""
+        await settled(self.page)
         await self.page.until(
             f"document.getElementById('space').style.height === '{self.length * ROW + 6}px' && owed === 0 && "
             f"{LENGTH} === '{self.length} events' && "
@@ -182,7 +182,7 @@ async def test_an_own_step_while_another_adds(program):
         await page.until(f"{TOP} === '41' && owed === 0")
         await focus(page, "next-list")
         await page.run("hold()")
-        await press(page, "1")
+        await press_at_once(page, "1")
         reading.length += 1
         await reading.told()
         await session(program, 2, "add A 201\n")
@@ -198,7 +198,7 @@ async def test_a_schedule_that_opens_while_another_adds(program):
     async with reading_of(program) as reading:
         page = reading.page
         await session(program, 2, "branch A 200 B\n")
-        await page.until("document.querySelectorAll('.sched').length === 2")
+        await settled(page)
         await page.run(f"{SCROLLED} = 900")
         await page.until(f"{TOP} === '41' && owed === 0")
         await page.run("hold()")
@@ -263,6 +263,7 @@ async def test_a_move_above_the_end_stays_in_sight(program):
         await page.until(f"{TOP} === '41' && owed === 0")
         await page.click("#space .row[data-p='46'] .info")
         await page.until("document.querySelector('.row.on')?.dataset.p === '46'")
+        await settled(page)
         await page.run("hold()")
         await page.key("ArrowUp", ALT)
         await page.until("held.length > 0 && owed === 0")

@@ -9,7 +9,7 @@ from browser import ALT, PATIENCE, Browser
 from comparing import same
 from two_analysts import children, kill_sessions, session
 from scrolling import HOLD
-from stage import LENGTH, NEXT, ROWS, SAID, Screen, comes, focus, is_clean, logged, new, press
+from stage import LENGTH, NEXT, ROWS, SAID, Screen, comes, focus, is_clean, logged, new, press, settled
 
 OPEN = "document.querySelector('#bar h2').textContent"
 EMPTY = "document.querySelector('#{} .empty')?.textContent"
@@ -86,12 +86,13 @@ async def test_three_hundred_schedules(program):
         page = await browser.page(screen.link)
         await page.until("document.getElementById('row-count').textContent === '300'")
         await page.until(f"{OPEN} === 'S299' && !!document.querySelector('.sched.on')")
+        await settled(page)
         same(await page.run("document.querySelectorAll('.sched').length < 40"), True)
         await page.run("document.getElementById('row-list').scrollTop = 1200")
         await page.until("!!document.getElementById('schedule-S50')")
         await session(program, 2, "new Z\nadd S50 0\nadd S299 0\n")
-        await page.until("document.querySelector('#schedule-S50 .num').textContent === '1'")
-        await page.until(f"{ROWS} === 1")
+        await settled(page)
+        same(await page.run(f"[document.querySelector('#schedule-S50 .num').textContent, {ROWS}]"), ["1", 1])
         same(await page.run("document.getElementById('row-list').scrollTop"), 1200)
         await page.click("#schedule-S50")
         await page.until(f"{OPEN} === 'S50' && {ROWS} === 1")
@@ -375,12 +376,14 @@ async def test_reading_above_while_another_adds(program):
     async with Screen(program, "trace", "log") as screen, Browser() as browser:
         page = await browser.page(screen.link)
         await page.until(f"{LENGTH} === '200 events' && !!document.querySelector('.row[data-p=\"199\"]')")
+        await settled(page)
         await page.run("document.getElementById('stage').scrollTop = 900")
         await page.until("!!document.querySelector('.row[data-p=\"41\"]')")
+        await settled(page)
         before = await page.until(TOP)
         await session(program, 2, "".join(f"add A {event}\n" for event in range(200, 240)))
-        await page.until(f"{LENGTH} === '240 events'")
-        await page.until("document.getElementById('next-list').dataset.length === '240'")
+        await settled(page)
+        same(await page.run("document.getElementById('next-list').dataset.length"), "240")
         same(await page.run(TOP), before)
         is_clean(page, screen)
 
@@ -489,6 +492,7 @@ async def test_proposals_of_a_long_log(program):
         page = await browser.page(screen.link)
         latest = "p10,p9,p8,p7,p6,p5"
         await page.until(f"{PROPOSALS} === '{latest}'")
+        await settled(page)
         line, whole = "p10 shows 7–12 · 11 events", "p10: 11 events that show 7 and 12, proposed by 2 in entry 411"
         same(await page.run(PROPOSAL), f"{line}; {whole}; Adopt p10")
         older = "[...document.querySelectorAll('#feed button')].find((b) => b.textContent === 'older')"
@@ -517,7 +521,8 @@ async def test_proposals_while_another_does_much(program):
         page = await browser.page(screen.link)
         await page.until(f"{PROPOSALS} === 'p0'")
         await session(program, 2, "add A 0\nback A\n" * 4000)
-        await page.until("document.getElementById('feed-count').textContent === '8,002'")
+        await settled(page)
+        same(await page.run("document.getElementById('feed-count').textContent"), "8,002")
         same(await page.run(PROPOSALS), "p0")
         is_clean(page, screen)
 
@@ -540,6 +545,7 @@ async def test_proposals_that_are_not_left(program):
     async with Screen(program, "trace", "log") as screen, Browser() as browser:
         page = await browser.page(screen.link)
         await page.until(f"{PROPOSALS} === 'p0'")
+        await settled(page)
         await page.run(GROWS)
         await page.until("document.getElementById('feed-count').textContent === '9,000'")
         same(await page.run(KNOWN), "8000,false,true")
@@ -556,6 +562,7 @@ async def test_an_event_that_is_moved_into_a_block(program):
     async with Screen(program, "trace", "log") as screen, Browser() as browser:
         page = await browser.page(screen.link)
         await page.until(f"{LENGTH} === '22 events' && !!document.querySelector('.row[data-p=\"11\"]')")
+        await settled(page)
         await page.click(".row[data-p='11'] .info")
         await focus(page, "stage")
         await page.key("ArrowUp", ALT)
@@ -611,6 +618,7 @@ async def test_a_witness_that_is_kept_no_longer(program):
             await other.key("ArrowDown")
             await other.until(f"{chosen} === '{at}' && {opened} === '{at - 1},{at + 59}'")
             await other.until(f"{OPEN} === 'Witness' && {LENGTH}.startsWith('{2 * at - 2} events')")
+        await settled(page, other)
         before = await page.run("window.views")
         await page.click("#space .block")  # this asks for rows in vain, and then for those of the new witness
         await page.until(f"window.views >= {before + 2} && owed === 0 && {OPEN} === 'Witness' && {ROWS} > 0")

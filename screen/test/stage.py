@@ -23,6 +23,13 @@ SAID = "document.getElementById('said').textContent"
 SAYINGS = "(document.getElementById('said').dataset.n ?? '')"
 LENGTH = "document.querySelector('#bar .line > .dim')?.textContent"
 TITLE = "!!document.getElementById('title').textContent"
+FRAMES = "new Promise((done) => requestAnimationFrame(() => requestAnimationFrame(() => setTimeout(done))))"
+# Whether a page has so many entries, does no step and waits for no answer, and whether that is so two frames later.
+SETTLED = (
+    "(async () => {{ const [net, queue, words] = await Promise.all(['net', 'queue', 'words']"
+    ".map((name) => import(`/${{name}}.js`))); const is = () => words.state.title && words.state.n === {entries} && "
+    "!queue.isBusy() && !net.isWaiting(); if (!is()) return false; await " + FRAMES + "; return is(); }})()"
+)
 ORDER = (
     "[...document.querySelectorAll('#space .row')].sort((a, b) => a.dataset.p - b.dataset.p)"
     ".map((r) => r.querySelector('.event').textContent).join(' ')"
@@ -127,30 +134,53 @@ async def focus(page, name):
     await page.run(f"document.getElementById('{name}').focus()")
 
 
+def entries():
+    """How many entries the log has; none before the program makes it."""
+    return len(logged()) if os.path.exists("log") else 0
+
+
+async def settled(*pages):
+    """Waits until each page shows the whole log, no step is under way, and no answer has to come.
+
+    Another analyst's step reaches a page in parts: the length of a schedule, its rows and what may come next are drawn
+    one after another. A key or a click that comes in between is for what is drawn at that moment.
+    """
+    for page in pages:
+        await page.until(lambda: SETTLED.format(entries=entries()), what="all entries, and no answer to come")
+
+
 async def press(page, *keys):
-    """Presses keys one after another, and waits for the answer to each."""
+    """Presses keys one after another, each on a page that is settled, and waits until all that they do is drawn."""
     for key in keys:
-        before = await page.run(SAYINGS)
-        await page.key(key)
-        try:
-            await page.until(f"{SAYINGS} !== {json.dumps(before)}", what=f"an answer to {key}")
-        except AssertionError as why:
-            told = await page.run(
-                f"document.activeElement?.id + ' | ' + {SAID} + ' | ' + "
-                "(document.querySelector('#next-list .on')?.textContent ?? 'none chosen')"
-            )
-            raise AssertionError(f"{why}; {told}") from why
+        await settled(page)
+        await press_at_once(page, key)
+    await settled(page)
+
+
+async def press_at_once(page, key, modifiers=0):
+    """Presses a key, though news or answers may have to come, and waits for the answer to it."""
+    before = await page.run(SAYINGS)
+    await page.key(key, modifiers)
+    try:
+        await page.until(f"{SAYINGS} !== {json.dumps(before)}", what=f"an answer to {key}")
+    except AssertionError as why:
+        told = await page.run(
+            f"document.activeElement?.id + ' | ' + {SAID} + ' | ' + "
+            "(document.querySelector('#next-list .on')?.textContent ?? 'none chosen')"
+        )
+        raise AssertionError(f"{why}; {told}") from why
 
 
 async def new(page, threads, name=None):
-    """Makes a schedule by the key, and waits until so many threads have a next event."""
-    await page.until(TITLE)
+    """Makes a schedule by the key, and waits until it is open and so many threads have a next event."""
+    await settled(page)
     await page.key("n")
     await page.until("document.getElementById('ask').open")
     if name:
         await page.run("document.getElementById('ask-input').select()")
         await page.type(name)
     await page.key("Enter")
+    await settled(page)
     await page.until(f"{NEXT} === {threads}")
     await focus(page, "next-list")
 

@@ -9,7 +9,7 @@ import signal
 import traces
 from browser import Browser
 from comparing import same
-from stage import LENGTH, NEXT, ROWS, SAID, TITLE, Screen, comes, focus, is_clean, logged, new, press
+from stage import LENGTH, NEXT, ROWS, SAID, TITLE, Screen, comes, focus, is_clean, logged, new, press, settled
 
 AWAY = "[...document.querySelectorAll('.away-line')].map((l) => l.textContent.trim().replace(/ +/g, ' ')).join('; ')"
 
@@ -47,10 +47,11 @@ async def test_two_analysts(program):
         await other.until("document.querySelectorAll('.sched').length === 1")
         await other.click(".sched")
         await other.until(f"{ROWS} === 2")
+        await settled(other)
         await other.key("b")
         await other.until("document.getElementById('ask').open")
         await other.key("Enter")
-        await page.until("document.querySelectorAll('.sched').length === 2")
+        await comes(lambda: logged()[-1] == "2 branch A 2 A.b")
         await press(page, "u")
         said = await page.run(SAID)
         assert said.startswith("not taken back: entry 5 of 2 rests on it"), said
@@ -58,8 +59,9 @@ async def test_two_analysts(program):
         await page.until(f"{AWAY} === '2 A.b made'")
         await page.key("s")
         await page.until("document.getElementById('away').hidden")
-        await other.key("u")
-        await page.until("document.querySelectorAll('.sched').length === 1")
+        await press(other, "u")
+        await settled(page)
+        same(await page.run("document.querySelectorAll('.sched').length"), 1)
         await press(page, "u")
         await page.until(f"{ROWS} === 1")
         is_clean(page, one)
@@ -83,6 +85,7 @@ async def test_both_type_at_once(program):
             await asyncio.gather(page.key("1"), other.key("2"))
         for each in (page, other):
             await each.until(f"{LENGTH} === '40 events'")
+        await settled(page, other)
         events = "[...document.querySelectorAll('#bar h2, #feed-count')].map((e) => e.textContent).join()"
         same(await page.run(events), await other.run(events))
         shown = (await session(program, 3, "show A\n")).split()

@@ -4,7 +4,7 @@ import traces
 from browser import ALT, Browser
 from comparing import same
 from two_analysts import session
-from stage import LENGTH, NEXT, ROWS, SAID, SAYINGS, Screen, focus, is_clean, logged, new, press
+from stage import LENGTH, NEXT, ROWS, SAID, Screen, focus, is_clean, logged, new, press, press_at_once, settled
 
 OPEN = "document.querySelector('#bar h2').textContent"
 LINES = "[...document.querySelectorAll('.away-line')].map((l) => l.textContent.trim().replace(/ +/g, ' '))"
@@ -23,14 +23,13 @@ async def test_news_of_each_kind(program):
         await session(program, 2, "adopt A 0\nswap A 5\nswap A 5\n")
         await page.until(f"{LINES}.join('; ') === '2 A took a proposal, 2 swaps'")
         await session(program, 3, "drop C\nadd B 0\nadd B 1\nback B\nundo\n")
-        await page.until(f"{LINES}.length === 4")
-        same(
-            await page.run(LINES),
-            ["3 took back 1 entry", "3 B +2, −1", "3 C dropped", "2 A took a proposal, 2 swaps"],
-        )
+        told = "3 took back 1 entry; 3 B +2, −1; 3 C dropped; 2 A took a proposal, 2 swaps"
+        await page.until(f"{LINES}.join('; ') === {told!r}")
         await session(program, 4, "branch A 2 D\nnew E\nnew F\nnew G\n" + PROPOSAL)
-        await page.until(f"{LINES}.length === 6")
-        same((await page.run(LINES))[:3], ["4 1 proposal", "4 G made", "4 F made"])
+        await page.until(
+            f"{LINES}.length === 6 && {LINES}.join('; ').startsWith('4 1 proposal; 4 G made; 4 F made; ')"
+        )
+        await settled(page)
         same(await page.run("document.querySelector('#away > .dim').textContent"), "and 3 more")
         same(await page.run("[...document.querySelectorAll('#feed .divide')].map((d) => d.textContent)"), ["seen"])
         below = "document.querySelector('.divide').nextElementSibling.querySelector('.at').textContent"
@@ -59,7 +58,8 @@ async def test_names_that_are_taken_or_gone(program):
         link = "[...document.querySelectorAll('.entry a')].find((a) => a.textContent === 'B')"
         await page.until(f"!!{link}")
         await session(program, 2, "drop B\n")
-        await page.until("document.querySelectorAll('.sched').length === 1")
+        await settled(page)
+        same(await page.run("document.querySelectorAll('.sched').length"), 1)
         await page.run(f"{link}.click()")
         await page.until(f"{SAID} === 'there is no schedule B any more'")
         same(logged(), ["1 new A", "2 new B", "2 drop B"])
@@ -75,7 +75,8 @@ async def test_a_group_that_another_rests_on(program):
         await press(page, "1", "1", "1", "1")
         await page.until(f"{ROWS} === 4")
         await session(program, 2, "branch A 2 B\n")
-        await page.until("document.querySelectorAll('.entry').length === 3")
+        await settled(page)
+        same(await page.run("document.querySelectorAll('.entry').length"), 3)
         await page.hover(".entry", 1)
         await page.click(".entry .quiet", 0)
         await page.until(f"{SAID}.startsWith('not taken back: entry 5 of 2 rests on it (branch A 2 B)')")
@@ -375,15 +376,15 @@ async def test_moves_in_words(program):
         ):
             for _ in range(downs):
                 await page.key("ArrowDown")
-            before = await page.run(SAYINGS)
-            await page.key(key, ALT)
-            await page.until(f"{SAYINGS} !== '{before}' && {STOP} === 'stays: {words}'")
+            await settled(page)
+            await press_at_once(page, key, ALT)
+            await page.until(f"{STOP} === 'stays: {words}'")
             assert (await page.run(SAID)).startswith(f"not moved · {words}"), await page.run(SAID)
         same(len(logged()), 7)
         await page.key("End")
-        before = await page.run(SAYINGS)
-        await page.key("ArrowUp", ALT)
-        await page.until(f"{SAYINGS} !== '{before}' && {STOP} === undefined")
+        await settled(page)
+        await press_at_once(page, "ArrowUp", ALT)
+        await page.until(f"{STOP} === undefined")
         assert (await page.run(SAID)).startswith("moved by 1"), await page.run(SAID)
         same(logged()[7:], ["1 swap A 4"])
         is_clean(page, screen)
@@ -406,7 +407,9 @@ async def test_what_a_screen_reader_says_of_lines(program):
         await page.until(f"{OPEN} === 'Witness'")
         await page.click(".sched")
         await page.until(f"{OPEN} === 'A' && {NEXT} === 1")
+        await settled(page)
         await session(program, 2, "add A 12\nnew B\n")
+        await settled(page)
         await page.until(f"{LENGTH} === '14 events' && {NEXT} === 0")
         await page.until("document.querySelectorAll('.sched').length === 2")
         same(
@@ -443,6 +446,7 @@ async def test_who_put_the_events_of_a_block_there(program):
         await page.until(f"{LENGTH} === '4 events' && {NEXT} === 1")
         await press(page, "s")
         await session(program, 2, "".join(f"add A {event}\n" for event in range(4, 16)))
+        await settled(page)
         await page.until(f"{LENGTH} === '16 events' && {position}?.title === 'put here by 2 in entry 10'")
         same(await page.run("document.querySelector('.row.block').dataset.block"), "10")
         same(await page.run(f"{position}.classList.contains('new')"), True)

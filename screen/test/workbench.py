@@ -5,7 +5,7 @@ import os
 import traces
 from browser import ALT, Browser
 from comparing import same
-from stage import LENGTH, NEXT, ORDER, ROWS, SAID, Screen, focus, is_clean, logged, new, press
+from stage import LENGTH, NEXT, ORDER, ROWS, SAID, Screen, focus, is_clean, logged, new, press, settled
 
 # Two races of a list that is filtered, and a pair that a lock keeps apart.
 SEVERAL = """T1|w(x)|one.c:1
@@ -122,7 +122,8 @@ async def test_work_on_a_witness(program):
         await page.click("#bar button", 1)  # drop
         await page.until("document.querySelectorAll('.sched').length === 1")
         same(logged()[-1], "1 drop copy")
-        await page.until("document.querySelector('#bar h2').textContent === 'No schedule'")  # no more than that
+        await settled(page)
+        same(await page.run("document.querySelector('#bar h2').textContent"), "No schedule")  # no more than that
         same(await page.run("document.querySelectorAll('#bar .line:last-child button').length"), 4)
         await page.key("w")
         await page.until("document.querySelector('#bar h2').textContent === 'Witness'")
@@ -222,11 +223,14 @@ async def test_swaps_by_keys_and_by_hand(program):
         await page.until(f"{ORDER} === '0 2 1 3'")
         await page.key("ArrowUp", ALT)
         await page.until(f"{ORDER} === '2 0 1 3'")
+        await settled(page)
         await page.drag("#space .row[data-p='3'] .lanes", 0, -66)
         await page.until("document.querySelector('.stop')?.textContent === 'stays: both access b, and one writes'")
+        await settled(page)
         same(await page.run(ORDER), "2 0 1 3")
         await page.drag("#space .row[data-p='0'] .lanes", 0, 44)
         await page.until(f"{ORDER} === '0 1 2 3'")
+        await settled(page)
         same(logged()[-1], "1 batch swap A 0 ; swap A 1")
         await page.drag("#space .row[data-p='2'] .place", 0, -22)  # who marks the text of a place moves nothing
         await press(page, "Backspace")
@@ -312,11 +316,13 @@ async def test_a_branch_at_the_cursor_and_who_did_what(program):
         await page.until("document.querySelector('#space .pos')?.title === 'put here by you in entry 1'")
         await page.key("[")
         await page.until("document.querySelector('#bar h2').textContent === 'A'")
+        await settled(page)
         feed = await page.run("document.getElementById('feed').textContent")
         assert "branched A.b from A at 2" in feed and "A + 3 events" in feed, feed
         await page.hover(".entry", 2)
         await page.click(".entry .quiet", 0)  # undo of the branch, which is the newest group
         await page.until("document.querySelectorAll('.sched').length === 1")
+        await settled(page)
         same(logged()[-1], "1 undo 4")
         await page.click(".entry .quiet", 0)  # undo of the three that were added
         await page.until(f"{LENGTH} === '0 events'")
