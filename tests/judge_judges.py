@@ -4,12 +4,15 @@ there is nothing to judge.
 
     judge_judges.py PROGRAM [JUDGE ..]      with names, such as judge_cut, only these
 
-The gate is judged too, under the name `gate`: a part that cannot start is one failure, and the others are run.
+The gate is judged too, under the name `gate`: a part that cannot start is one failure, and the others are run; a part
+that tries cases again waits for the others. So is which cases the recorder's judge tries again.
 A wrong program is a shell script that runs the right one and changes what it prints. The last line is `N passed, M
 failed`.
 """
 
 import concurrent.futures
+import contextlib
+import io
 import os
 import pathlib
 import shutil
@@ -17,6 +20,7 @@ import subprocess
 import sys
 
 sys.dont_write_bytecode = True
+import judge_record
 import judging
 
 HERE = pathlib.Path(__file__).resolve().parent
@@ -113,6 +117,7 @@ NOTHING = {
     },
 }
 
+Parts = dict[str, tuple[int, str]]
 # The gate, and parts of it that stand in for the real ones; all others are missing. It finds no other commands.
 GATE = HERE.parent / "tools/test"
 PARTS = {
@@ -124,24 +129,86 @@ PARTS = {
 }
 # What the gate counts: three parts pass, and six cannot start or are not there.
 COUNTED = "7 passed, 6 failed"
+# A part that tries a case again: it waits for one that is at work, and both pass.
+AGAIN = {
+    "lint": (0o755, "#!/bin/sh\necho 1 passed, 0 failed\n"),
+    "test-screen": (
+        0o755,
+        f"""#!{sys.executable}
+import pathlib, sys, time
+sys.path.insert(0, "tests")
+import second_tries
+while not pathlib.Path("begun").exists():
+    time.sleep(0.01)
+second_tries.wait_until_alone()
+print(second_tries.last_line(int(pathlib.Path("ended").exists()), 0, ["one, two", "three"]))
+""",
+    ),
+    "test-record": (
+        0o755,
+        f"""#!{sys.executable}
+import pathlib, time
+pathlib.Path("begun").touch()
+time.sleep(1)
+pathlib.Path("ended").touch()
+print("5 passed, 0 failed, 1 at the second try: four")
+""",
+    ),
+}
+COUNTED_AGAIN = "7 passed, 6 failed, 3 at the second try: four; one, two; three"
+
+
+def gate_ran(folder: pathlib.Path, parts: Parts) -> subprocess.CompletedProcess[str]:
+    """Runs the gate in a folder where each part has this mode and text, and where no other commands are found."""
+    (folder / "tools").mkdir(parents=True)
+    (folder / "tests").mkdir()
+    for name, (mode, text) in parts.items():
+        (folder / "tools" / name).write_text(text, encoding="ascii")
+        (folder / "tools" / name).chmod(mode)
+    shutil.copy(HERE / "second_tries.py", folder / "tests")
+    words = [sys.executable, "-B", str(shutil.copy(GATE, folder / "tools/test"))]
+    alone = {"PATH": str(folder / "tools")}
+    return subprocess.run(words, capture_output=True, text=True, timeout=LONGEST, check=False, env=alone)
 
 
 def gate_told(folder: pathlib.Path) -> list[str]:
     """What is wrong with the gate on parts that cannot start."""
-    tools = folder / "tools"
-    tools.mkdir()
-    for name, (mode, text) in PARTS.items():
-        (tools / name).write_text(text, encoding="ascii")
-        (tools / name).chmod(mode)
-    gate = shutil.copy(GATE, tools / "test")
-    words = [sys.executable, "-B", str(gate)]
-    alone = {"PATH": str(tools)}
-    done = subprocess.run(words, capture_output=True, text=True, timeout=LONGEST, check=False, env=alone)
+    done = gate_ran(folder, PARTS)
     last = done.stdout.splitlines()[-1:]
     if (done.returncode, last, done.stderr) != (1, [COUNTED], ""):
         return [f"status {done.returncode}, and the last line is {last}, not `{COUNTED}`: {done.stderr[-600:]}"]
     unable = ("rt", "tools/test-record", "tools/test-screen", "tools/test-faults")
     return [f"it does not say why {part} cannot start" for part in unable if f"\n{part}: " not in done.stdout]
+
+
+def gate_told_again(folder: pathlib.Path) -> list[str]:
+    """What is wrong with the gate on parts that try cases again."""
+    done = gate_ran(folder, AGAIN)
+    last = done.stdout.splitlines()[-1:]
+    return [] if last == [COUNTED_AGAIN] else [f"the last line is {last}, not `{COUNTED_AGAIN}`: {done.stderr[-600:]}"]
+
+
+def fails(path: pathlib.Path, times: int) -> None:
+    """A case that fails so many times, and then passes. The file has a byte for each try."""
+    with path.open("ab") as tries:
+        tries.write(b".")
+    if path.stat().st_size <= times:
+        raise judging.Wrong("as it has to")
+
+
+def record_told(folder: pathlib.Path) -> list[str]:
+    """What is wrong with the recorder's judge on cases that fail never, once, and always."""
+    tries = {times: folder / f"tries-{times}" for times in (0, 1, 9)}
+    run = judging.Run("", [], [])
+    judge_record.cases[:] = [(f"fails {times}", fails, (path, times)) for times, path in tries.items()]
+    with contextlib.redirect_stdout(io.StringIO()) as printed:
+        judge_record.judge_cases(run)
+    judge_record.cases.clear()
+    counted = [run.passed, run.failed, run.second, [path.stat().st_size for path in tries.values()]]
+    lines = [f"first try: fails {times}: as it has to" for times in (1, 9)]
+    wanted = [*lines, "ok (second try)  fails 1", "fails 9: as it has to"]
+    is_right = counted == [2, 1, ["fails 1"], [1, 2, 2]] and printed.getvalue().splitlines() == wanted
+    return [] if is_right else [f"it counts {counted}, and prints {printed.getvalue()!r}"]
 
 
 def wrong_program(folder: pathlib.Path, program: str, what: str) -> str:
@@ -183,7 +250,10 @@ def judged(run: judging.Run) -> None:
             judge, program, arguments = case
             run.case(f"{judge}, {os.path.basename(program)} {' '.join(arguments)}", wrong)
     if not run.texts or "gate" in run.texts:
-        run.case("the gate, on parts that cannot start", gate_told(pathlib.Path.cwd()))
+        folder = pathlib.Path.cwd()
+        run.case("the gate, on parts that cannot start", gate_told(folder / "gate"))
+        run.case("the gate, on parts that try cases again", gate_told_again(folder / "again"))
+        run.case("the recorder's judge, on cases that fail", record_told(folder))
 
 
 if __name__ == "__main__":

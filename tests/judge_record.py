@@ -4,8 +4,9 @@
 
     judge_record.py PROGRAM [CASE ..]      with texts, only the cases whose names have one of them
 
-Says what is wrong; the last line is `N passed, M failed`. If no C compiler with the hooks is there, nothing is judged,
-and a line says so.
+Says what is wrong; the last line is `N passed, M failed`. A case that fails is tried once more, when all others have
+ended; one that passes then is a defect to be mended, and the last line names it. If no C compiler with the hooks is
+there, nothing is judged, and a line says so.
 """
 
 import multiprocessing
@@ -37,6 +38,7 @@ import recorded_rust
 import recorded_strangers
 import recorded_tries
 import recorded_whole
+import second_tries
 from judging import Wrong
 
 TOP = os.path.dirname(os.path.dirname(os.path.abspath(__file__)))
@@ -284,10 +286,27 @@ def judged(run):
     cases.extend(
         case for case in cases_of(run.program, pairs) if not run.texts or any(text in case[0] for text in run.texts)
     )
-    with multiprocessing.get_context("fork").Pool(workers()) as pool:
-        for (name, *_), wrong in zip(cases, pool.imap(wrong_with, range(len(cases)))):
-            run.case(name, wrong)
+    judge_cases(run)
     return None
+
+
+def judge_cases(run):
+    """Judges all cases side by side, and then those that failed once more, one after another: threads and real
+    programs depend on what else the machine does. A case that passes at its second try is a defect to be mended, of
+    the recorder or of the case."""
+    context, failed = multiprocessing.get_context("fork"), []
+    with context.Pool(workers()) as pool:
+        for number, wrong in enumerate(pool.imap(wrong_with, range(len(cases)))):
+            if wrong:
+                failed.append(number)
+                print("".join(f"first try: {cases[number][0]}: {what}\n" for what in wrong), end="", flush=True)
+            else:
+                run.case(cases[number][0], wrong)
+    if failed:
+        second_tries.wait_until_alone()
+    for number in failed:
+        with context.Pool(1) as pool:
+            run.case(cases[number][0], pool.apply(wrong_with, (number,)), is_second=True)
 
 
 if __name__ == "__main__":

@@ -19,6 +19,7 @@ import tempfile
 import traceback
 from collections.abc import Callable, Iterable, Iterator, Mapping, Sequence
 
+from second_tries import last_line
 
 HERE = os.path.dirname(os.path.abspath(__file__))
 
@@ -59,15 +60,19 @@ class Run:
         self.program, self.numbers, self.texts = program, numbers, texts
         self.tally: collections.Counter[str] = collections.Counter()
         self.passed = self.failed = 0
+        self.second: list[str] = []
 
     def seeds(self) -> range:
         """As many seeds as the first number says, from the second one on."""
         count, first = self.numbers
         return range(first, first + count)
 
-    def case(self, name: str, wrong: Iterable[str]) -> None:
-        """Counts a case, and prints what is wrong with it, if anything is."""
+    def case(self, name: str, wrong: Iterable[str], is_second: bool = False) -> None:
+        """Counts a case, and prints what is wrong with it, if anything is, or that it passed at its second try."""
         told = [f"{name}: {what}" for what in wrong]
+        if is_second and not told:
+            print(f"ok (second try)  {name}", flush=True)
+            self.second.append(name)
         print("".join(f"{line}\n" for line in told), end="", flush=True)
         self.passed += not told
         self.failed += bool(told)
@@ -133,10 +138,10 @@ def main(
     failed = False
     try:
         report = judged(judge, run, reached)
-        print(report if report is not None else f"{run.passed} passed, {run.failed} failed")
+        print(report if report is not None else last_line(run.passed, run.failed, run.second))
     except Wrong as wrong:
         print(f"{name}: {wrong}", file=sys.stderr)
         failed = True
         if run.passed + run.failed:
-            print(f"{run.passed} passed, {run.failed + 1} failed")
+            print(last_line(run.passed, run.failed + 1, run.second))
     return 1 if failed or run.failed else 0

@@ -90,7 +90,9 @@ def judge_objects(lines, expected):
     for line, other in zip(lines, expected):
         (name, rest), (place, wanted) = operand(line), operand(other)
         if rest != wanted or named.setdefault(place, name) != name or places.setdefault(name, place) != place:
-            raise Wrong(f"{line} is {other} for the judge; {place} is {named[place]}, and {name} is {places.get(name)}")
+            raise Wrong(
+                f"{line} is {other} for the judge; {place} is {named[place]}, and {name} is {places.get(name)}"
+            )
 
 
 def operand(line):

@@ -1,7 +1,8 @@
 #!/usr/bin/python3
 """Tests the screen: run.py PROGRAM [NAME..] by all tests, or those whose names have one of the words.
 
-Each test runs in a folder of its own. The last line is `N passed, M failed`.
+Each test runs in a folder of its own. One that fails is tried once more, when all others have ended; a test that
+passes then is a defect to be mended, and the last line names it. The last line is `N passed, M failed` otherwise.
 """
 
 import asyncio
@@ -14,7 +15,10 @@ import time
 import traceback
 
 sys.dont_write_bytecode = True
-sys.path.insert(0, os.path.dirname(os.path.abspath(__file__)))
+HERE = os.path.dirname(os.path.abspath(__file__))
+sys.path.insert(0, HERE)
+sys.path.append(os.path.join(os.path.dirname(os.path.dirname(HERE)), "tests"))
+from second_tries import last_line, wait_until_alone  # noqa: E402
 
 # A test that takes longer has failed.
 LIMIT = 3600
@@ -27,7 +31,7 @@ def modules():
     if importlib.util.find_spec("aiohttp") is None:
         print("aiohttp is not here: nothing but the reading is tested (apt-get install python3-aiohttp)")
         return
-    yield from ("security", "failures", "limits", "long_texts", "steps_by_position")
+    yield from ("tried_twice", "security", "failures", "limits", "long_texts", "steps_by_position")
     if not any(map(os.path.exists, CHROMIUM)):
         print("chromium is not here: what needs a browser is not tested (apt-get install chromium)")
         return
@@ -65,7 +69,7 @@ def tests(wanted):
                 yield name.removeprefix("test_").replace("_", " "), test
 
 
-async def passes(name, test, program):
+async def passes(name, test, program, which=""):
     began = time.monotonic()
     with tempfile.TemporaryDirectory(ignore_cleanup_errors=True) as folder:  # what was killed may write still
         os.chdir(folder)
@@ -75,27 +79,48 @@ async def passes(name, test, program):
             if inspect.isawaitable(done):
                 await asyncio.wait_for(done, LIMIT)
         except Exception as why:
-            print(f"FAIL  {name}: {type(why).__name__}: {why}", flush=True)
+            print(f"FAIL{which}  {name}: {type(why).__name__}: {why}", flush=True)
             traceback.print_exc(limit=-2)
             return False
         finally:
             os.chdir("/")
-    print(f"ok    {name} ({time.monotonic() - began:.1f} s)", flush=True)
+    print(f"ok{which}    {name} ({time.monotonic() - began:.1f} s)", flush=True)
     return True
 
 
-async def outcomes_of(program, wanted):
-    outcomes = [await passes(name, test, program) for name, test in tests(wanted)]
+async def end_browser():
     if "browser" in sys.modules:
         await sys.modules["browser"].Browser.end()
-    return outcomes
+
+
+async def outcomes_of(program, cases):
+    """Runs tests, and then those that failed once more: drawing and processes depend on what else the machine does.
+
+    Gives how many passed and how many failed, and the names of those that passed at their second try. Each of them is
+    a defect to be mended, of the page or of the test, which waits for less than its next step needs.
+    """
+    number, failed, second = 0, [], []
+    for name, test in cases:
+        number += 1
+        if not await passes(name, test, program):
+            failed.append((name, test))
+    await end_browser()
+    if failed:
+        wait_until_alone()
+    for name, test in failed:
+        if await passes(name, test, program, " (second try)"):
+            second.append(name)
+        await end_browser()
+    lost = len(failed) - len(second)
+    return number - lost, lost, second
 
 
 def main():
     program, *wanted = sys.argv[1:]
-    outcomes = asyncio.run(outcomes_of(os.path.abspath(program), wanted))
-    print(f"{outcomes.count(True)} passed, {outcomes.count(False)} failed")
-    sys.exit(1 if False in outcomes or not outcomes else 0)
+    passed, failed, second = asyncio.run(outcomes_of(os.path.abspath(program), tests(wanted)))
+    print(last_line(passed, failed, second))
+    sys.exit(1 if failed or not passed else 0)
 
 
-main()
+if __name__ == "__main__":
+    main()
