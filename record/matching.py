@@ -36,7 +36,10 @@ def same_file(one: str, other: str) -> bool:
 
 
 def function_of(text: str) -> str:
-    """A function's name without namespaces, templates and arguments."""
+    """A function's name without namespaces, templates and arguments. A method of Go keeps its package and its type,
+    as `main.(*account).close`."""
+    if ".(*" in text:
+        return text
     return re.split(r"[(<]", text)[0].split("::")[-1]
 
 

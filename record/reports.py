@@ -1,5 +1,5 @@
-"""Reads reports of data races: ThreadSanitizer's text as gcc and clang print it, Helgrind's and DRD's text and
-XML.
+"""Reads reports of data races: ThreadSanitizer's text as gcc, clang and rustc print it, that of Go's race detector,
+and Helgrind's and DRD's text and XML.
 
 Of each report the accesses are kept, and of each access whether it reads or writes and its calls: function, path,
 line.
@@ -14,9 +14,11 @@ from collections.abc import Iterator
 # A call of a stack: its function, its path and its line; 0 if the line is not known.
 Call = tuple[str, str, int]
 
-# Calls in these are none of the program: the sanitizer's own, and those of the libraries of C++ and of Rust.
+# Calls in these are none of the program: the sanitizer's own, and those of the libraries of C++, Rust and Go. A folder
+# of another author's package of Go begins with a host's name, which has a dot.
 NOT_THE_PROGRAMS = re.compile(
     r"libsanitizer/|sanitizer_common/|/compiler-rt/|<null>|/include/(.*/)?c\+\+/|/rustlib/src/|/rustc[-/][^/]+/library/"
+    r"|/go(?:-?[\d.]+)?/src/(?![^/]*\.)"
 )
 TSAN_HEAD = re.compile(r"WARNING: ThreadSanitizer: (.+?) \(pid=\d+\)")
 TSAN_ACCESS = re.compile(
@@ -27,6 +29,12 @@ TSAN_MODULE = re.compile(r"( \([^()]*\+0x[0-9a-f]+\)| \(BuildId: [^()]*\))+$")
 TSAN_PLACE = re.compile(r"^(.+?):(\d+)(?::\d+)?$")
 # What may follow the arguments of a function of C++.
 AFTER_ARGUMENTS = re.compile(r"(?: const| volatile| &&?| \[[^\]]*\])* ")
+GO_HEAD = "WARNING: DATA RACE"
+GO_RULE = "=" * 18
+GO_ACCESS = re.compile(r"(?:Previous )?(read|write) at 0x[0-9a-f]+ by (main goroutine|goroutine \d+):$", re.IGNORECASE)
+GO_FUNCTION = re.compile(r"  (\S.*)\(\)$")
+GO_PLACE = re.compile(r"      (.+):(\d+) \+0x[0-9a-f]+$")
+GO_VARIABLE = re.compile(r"Global var (\S+) of size ")
 VALGRIND_LINE = re.compile(r"^(?:==\d+==|--\d+--) ?(.*)$")
 VALGRIND_ACCESS = re.compile(
     r"(Possible data race during|This conflicts with a previous|Conflicting) (read|write|load|store)\b"
@@ -128,6 +136,34 @@ def read_tsan(lines: list[str]) -> Reports:
     return found
 
 
+def read_go(lines: list[str]) -> Reports:
+    """The text of Go's race detector: a report begins with its warning and ends with a line of equal signs. A frame has
+    two lines: the function, then the file and line."""
+    found = Reports()
+    report: Report | None = None
+    access: Access | None = None
+    for number, line in enumerate(lines, start=1):
+        if line == GO_HEAD:
+            report, access = Report("data race", number), None
+            found.all.append(report)
+        elif report and line == GO_RULE:
+            report.ended, report = True, None
+        elif report:
+            began, function, place = GO_ACCESS.match(line), GO_FUNCTION.match(line), GO_PLACE.match(line)
+            if began:
+                access = Access(began[1], began[2])
+                report.accesses.append(access)
+            elif access and function:
+                access.calls.append((function[1], "<null>", 0))
+            elif access and place and access.calls:
+                access.calls[-1] = (access.calls[-1][0], place[1], int(place[2]))
+            elif not line.strip():
+                access = None
+            elif variable := GO_VARIABLE.match(line):
+                report.variable = variable[1]
+    return found
+
+
 def read_valgrind(lines: list[str]) -> Reports:
     """Helgrind's and DRD's text. A report ends with an empty line behind its last access; one that has none is cut."""
     found = Reports()
@@ -218,10 +254,12 @@ def read(text: str) -> Reports:
         found = read_xml(text)
     elif "WARNING: ThreadSanitizer:" in text:
         found = read_tsan(text.splitlines())
+    elif re.search(f"^{GO_HEAD}$", text, re.MULTILINE):
+        found = read_go(text.splitlines())
     elif re.search(r"^==\d+==", text, re.MULTILINE):
         found = read_valgrind(text.splitlines())
     else:
-        raise Unreadable("this is no report of ThreadSanitizer, Helgrind or DRD")
+        raise Unreadable("this is no report of ThreadSanitizer, Go, Helgrind or DRD")
     cut = [report for report in found.all if not report.ended or not report.accesses]
     if cut and not found.cut:
         found.cut = f"the report that begins in line {cut[0].line} is cut"

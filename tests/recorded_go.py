@@ -321,6 +321,55 @@ def judge_command(racebench: str) -> None:
             raise Wrong(f"record/go {' '.join(words)} is not refused so: {why}")
 
 
+# Programs of tests/recorded/go that `go build -race` reports nearly always: a variable, a map and a pointer.
+REPORTED = ("counter", "mapwrite", "publish")
+RULE = "=" * 18
+
+
+@functools.lru_cache(maxsize=None)
+def watched() -> str:
+    """The program of tests/recorded/go with Go's own race detector, which is built once."""
+    program = os.path.join(os.path.dirname(scenarios()), "watched")
+    ran(["go", "build", "-race", "-o", program, "."], cwd=SOURCES)
+    return program
+
+
+def race_report(name: str) -> str:
+    """A report of Go's race detector on a program."""
+    for _ in range(200):
+        done = subprocess.run([watched(), name], capture_output=True, timeout=PATIENCE, check=False)
+        if b"WARNING: DATA RACE" in done.stderr:
+            return done.stderr.decode()
+    raise Wrong(f"Go's race detector reports nothing of {name} in 200 runs")
+
+
+def answered(racebench: str, report: str, wanted: int = 0) -> tuple[str, str]:
+    """What record/reported answers to a report by `trace.std`."""
+    with open("report", "w", encoding="utf-8") as file:
+        file.write(report)
+    return ran([os.path.join(RECORD, "reported"), "--racebench", racebench, "report", "trace.std"], wanted)
+
+
+def judge_reported(racebench: str) -> None:
+    """A report of Go's race detector leads to the race of the trace. One that is cut is told so; a report on another
+    method of the same type, or on another line, is not met."""
+    for name in REPORTED:
+        recorded(name, "--seed", "1")
+        report = race_report(name)
+        out, said = answered(racebench, report)
+        races = shown(racebench)
+        places = re.findall(r"^  \d+  T\d+\|[^|]*\|(\S+)", out, re.MULTILINE)
+        if "1 a race here, 0 apart, 0 undecided, 0 not met" not in out or tuple(sorted(places[:2])) not in races:
+            raise Wrong(f"the report {report} is answered by {out}{said}")
+        _, said = answered(racebench, report[: report.rindex(RULE)], 1)
+        if not said.endswith("is cut\n"):
+            raise Wrong(f"a report that is cut: {said}")
+        other = report.replace("races.go:", "races.go:9")
+        out, said = answered(racebench, other.replace(f"main.{name}", "main.(*other).call"))
+        if "0 a race here, 0 apart, 0 undecided, 1 not met" not in out:
+            raise Wrong(f"a report on other lines is answered by {out}{said}")
+
+
 FULL_DISK = """mount -t tmpfs -o size=%s none small 2>/dev/null || exit 99
 TMPDIR=$PWD/small exec %s %s works"""
 
@@ -355,6 +404,7 @@ def all_cases(racebench: str) -> Iterator[Case]:
     yield "Go: an unknown Go", judge_unknown, ()
     yield "Go: record/go", judge_command, (racebench,)
     yield "Go: a full disk", judge_full_disk, ()
+    yield "Go: reports of its race detector", judge_reported, (racebench,)
     yield from recorded_go_planted.cases(racebench)
 
 
