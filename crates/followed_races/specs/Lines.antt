@@ -4,9 +4,16 @@ use Rattle.serde_json.specs.Data.{Data}
 use Rattle.serde_json.specs.Read.{read}
 use Rattle.followed_races.specs.Entries.{is_entry, IsSaid}
 use Rattle.followed_races.specs.declared.entries.Followed.{Followed}
-use Rattle.followed_races.specs.declared.lines.TheConstants.{MAX_LINE, MAX_LINES}
 use Rattle.followed_races.specs.declared.lines.FollowedRefusal.{FollowedRefusal}
 use Rattle.followed_races.specs.declared.lines.FollowedRefusal.TheVariants.{Line, OutOfMemory}
+
+-- the most lines of a text
+abbrev pub line_count_limit : ℕ
+line_count_limit = 16384
+
+-- the most bytes of a line, without its line feed
+abbrev pub line_limit : ℕ
+line_limit = 65536
 
 -- no byte is a line feed
 abbrev pub HasNoFeed : List ℕ → Type 0
@@ -14,7 +21,7 @@ HasNoFeed bytes = (k : ℕ) → k < length bytes → slice_index bytes k ≢ 10
 
 -- the bytes are the JSON text of a value that has what a line must have
 pub record IsEntryOf (bytes : List ℕ) (d : Data) : Type 0 where
-  pub short : length bytes ≤ MAX_LINE
+  pub short : length bytes ≤ line_limit
   pub utf8 : IsUtf8 bytes
   pub value : read bytes ≡ Some d
   pub entry : is_entry d ≡ true
@@ -33,7 +40,7 @@ pub data AreLines : List ℕ → List Followed → Type 0 where
 abbrev pub IsNoLine : ℕ → List ℕ → Type 0
 IsNoLine before rest =
     HasNoFeed rest
-    ⊎ ((MAX_LINES ≤ before)
+    ⊎ ((line_count_limit ≤ before)
     ⊎ ((bytes behind : List ℕ) × (rest ≡ bytes ++ 10 ∷ behind) × HasNoFeed bytes × ¬ ((d : Data) × IsEntryOf bytes d)))
 
 -- The text is refused at this line, counted from 1. The lines before it have entries, more text follows, and that text

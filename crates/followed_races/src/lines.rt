@@ -4,7 +4,7 @@ ghost use Rattle.rapid_text.specs.Appended.{Appended, IfFound};
 ghost use Rattle.serde_json.specs.Data.{Data};
 ghost use Rattle.serde_json.specs.Read.{read};
 ghost use Rattle.serde_json.specs.View.{view};
-ghost use Rattle.followed_races.specs.Lines.{AreLines, HasNoFeed, IsEntryOf, IsReadOn, IsRefusal, IsStopped, Tells};
+ghost use Rattle.followed_races.specs.Lines.{line_count_limit, AreLines, HasNoFeed, IsEntryOf, IsReadOn, IsRefusal, IsStopped, Tells};
 
 use crate::entries::{Followed, entry_of};
 use crate::members::is_entry;
@@ -43,7 +43,7 @@ impl From<OutOfMemory> for FollowedRefusal {
 /// memory runs out.
 pub fn followed_in(alloc: Global, text: &[u8]) -> Result<Vec<Followed>, FollowedRefusal>
     ensures ok { IfOk result (λ found. AreLines text.now found.items) }
-    ensures few { IfOk result (λ found. length found.items ≤ MAX_LINES) }
+    ensures few { IfOk result (λ found. length found.items ≤ line_count_limit) }
     ensures err { IfErr result (IsRefusal text.now) }
 {
     let mut found = Vec::new(alloc);
@@ -55,7 +55,7 @@ pub fn followed_in(alloc: Global, text: &[u8]) -> Result<Vec<Followed>, Followed
 fn read_lines(alloc: Global, found: &mut Vec<Followed>, text: &[u8]) -> Result<(), FollowedRefusal>
     requires { found.old.items ≡ [] }
     ensures ok { OnOk result (AreLines text.now found.new.items) }
-    ensures few { length found.new.items ≤ MAX_LINES }
+    ensures few { length found.new.items ≤ line_count_limit }
     ensures err { IfErr result (IsRefusal text.now) }
 {
     let mut rest = text;
@@ -71,9 +71,9 @@ fn read_on<'a>(
     found: &mut Vec<Followed>,
     text: &'a [u8],
 ) -> Result<&'a [u8], FollowedRefusal>
-    requires { length found.old.items ≤ MAX_LINES }
+    requires { length found.old.items ≤ line_count_limit }
     ensures ok { IfOk result (λ behind. IsReadOn found.old.items text.now behind.now found.new.items) }
-    ensures few { length found.new.items ≤ MAX_LINES }
+    ensures few { length found.new.items ≤ line_count_limit }
     ensures err { IfErr result (IsStopped (length found.old.items) text.now) }
 {
     let number = found.len() as u64 + 1;
