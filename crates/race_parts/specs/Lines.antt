@@ -3,9 +3,12 @@
 use Rattle.std.specs.Prelude.{◌≡◌, ◌≢◌, ◌≤◌, ◌<◌, ◌⊎◌, ℕ, List, [], ◌∷◌, ◌++◌, length, cond, nat_eq, Some, None, IsUtf8, slice_index, ⊤}
 use Rattle.serde_json.specs.Data.{Data}
 use Rattle.serde_json.specs.Read.{read}
-use Rattle.race_parts.specs.declared.lines.TheConstants.{MAX_LINES}
 use Rattle.race_parts.specs.declared.lines.PartRefusal.{PartRefusal}
 use Rattle.race_parts.specs.declared.lines.PartRefusal.TheVariants.{Line, Version, Clash, OutOfMemory}
+
+-- the most lines of a text
+abbrev pub line_count_limit : ℕ
+line_count_limit = 4194304
 
 -- no byte is a line feed
 abbrev pub HasNoFeed : List ℕ → Type 0
@@ -25,7 +28,7 @@ pub data AreLines : List ℕ → List Data → Type 0 where
 abbrev pub IsNoLine : ℕ → List ℕ → Type 0
 IsNoLine before rest =
     HasNoFeed rest
-    ⊎ ((MAX_LINES ≤ before)
+    ⊎ ((line_count_limit ≤ before)
     ⊎ ((bytes behind : List ℕ) × (rest ≡ bytes ++ 10 ∷ behind) × HasNoFeed bytes × (IsUtf8 bytes → read bytes ≡ None)))
 
 -- The text stops at the line with this 0-based index. The lines before it are JSON values, more text follows, and

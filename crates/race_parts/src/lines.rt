@@ -1,5 +1,5 @@
 //! Reads the lines of a text, each a JSON value.
-ghost use Rattle.std.specs.Prelude.{◌≡◌, ◌≢◌, ◌++◌, ◌∷◌, [], List, map, None, Some, IfErr, IfOk, IfSome, OnErr, OnOk, true};
+ghost use Rattle.std.specs.Prelude.{◌≡◌, ◌≢◌, ◌<◌, ◌++◌, ◌∷◌, [], List, map, None, Some, IfErr, IfOk, IfSome, OnErr, OnOk, true};
 ghost use Rattle.rapid_text.specs.Appended.{Appended};
 ghost use Rattle.serde_json.specs.View.{view};
 ghost use Rattle.serde_json.specs.declared.value.Value.{Value as OneValue};
@@ -7,7 +7,7 @@ ghost use Rattle.race_parts.specs.Marks.{HasMarks};
 ghost use Rattle.race_parts.specs.Rows.{HasMark};
 ghost use Rattle.race_parts.specs.Kept.{AreKept, IsRowOn};
 ghost use Rattle.race_parts.specs.declared.kept.KeptRow.{KeptRow};
-ghost use Rattle.race_parts.specs.Lines.{AreLines, HasNoFeed, IsLineCut, IsReadOn, IsStopped, IsUnread};
+ghost use Rattle.race_parts.specs.Lines.{line_count_limit, AreLines, HasNoFeed, IsLineCut, IsReadOn, IsStopped, IsUnread};
 
 use crate::facts::{Seen, seen_of, value_of};
 use crate::kept::KeptRow;
@@ -173,6 +173,7 @@ fn kept_if(all: bool, rows: Vec<KeptRow>) -> Option<Vec<KeptRow>>
 /// 4,194,303.
 fn line_on(text: &[u8], place: usize) -> Result<(&[u8], &[u8]), PartRefusal>
     ensures ok { IfOk result (λ cut. IsLineCut text.now cut.0.now cut.1.now) }
+    ensures few { IfOk result (λ cut. place < line_count_limit) }
     ensures err { IfErr result (IsStopped place text.now) }
 {
     if place >= MAX_LINES {
