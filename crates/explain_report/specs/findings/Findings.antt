@@ -18,7 +18,10 @@ use Rattle.explain_report.specs.declared.verdict.How.{How}
 use Rattle.explain_report.specs.declared.verdict.How.TheVariants.{Candidate, Beyond, Turned}
 use Rattle.explain_report.specs.declared.findings.finding.Finding.{Finding}
 use Rattle.explain_report.specs.declared.findings.finding.Finding.TheVariants.{Race, Forced, Guarded, Undecided}
-use Rattle.explain_report.specs.declared.findings.searching.TheConstants.{BUDGET}
+
+-- the most steps of the search for a schedule in another order than that of the trace
+abbrev pub search_limit : ℕ
+search_limit = 1048576
 
 -- Q, in the order of the trace, is a correct reordering that shows the pair
 abbrev pub IsListInOrder : List Event → ℕ → ℕ → List ℕ → Type 0
@@ -40,7 +43,7 @@ IsShownAs r a b Turned = IsKind r a b OpenKind × IsNeverShownInOrder r.events a
 abbrev pub IsFoundAs : List Event → ℕ → ℕ → How → List ℕ → Type 0
 IsFoundAs T a b Candidate P = IsInOrder T a b P
 IsFoundAs T a b Beyond P = IsInOrder T a b P
-IsFoundAs T a b Turned P = IsTurned T a b BUDGET (Some P)
+IsFoundAs T a b Turned P = IsTurned T a b search_limit (Some P)
 
 -- these are the events of that list, each as often
 abbrev pub AreFound : List Event → ℕ → ℕ → How → List ℕ → Type 0
@@ -60,7 +63,7 @@ IsFinding r a b (Race how events) =
     IsCorrectReordering r.events events × Shows r.events events a b × IsShownAs r a b how × AreFound r.events a b how events
 IsFinding r a b (Forced chains) = IsKind r a b ForcedKind × AreReasons r.events a b chains.items
 IsFinding r a b (Guarded lock) = IsKind r a b GuardedKind × IsLeastShared r a b lock
-IsFinding r a b (Undecided events) = IsKind r a b OpenKind × IsNeverShownInOrder r.events a b × IsTurned r.events a b BUDGET None
+IsFinding r a b (Undecided events) = IsKind r a b OpenKind × IsNeverShownInOrder r.events a b × IsTurned r.events a b search_limit None
 
 -- no correct reordering shows the pair, in either order
 abbrev pub IsShownByNone : List Event → ℕ → ℕ → Type 0
