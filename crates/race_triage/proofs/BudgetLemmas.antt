@@ -9,7 +9,7 @@ use Rattle.rapid_text.specs.Recording.{Recording}
 use Rattle.must_order.specs.Kinds.{IsKind}
 use Rattle.must_order.specs.declared.kind.Kind.{Kind}
 use Rattle.must_order.specs.declared.kind.Kind.TheVariants.{Candidate as CandidateKind, Open as OpenKind, Guarded as GuardedKind, Forced as ForcedKind}
-use Rattle.explain_report.specs.declared.findings.searching.TheConstants.{BUDGET}
+use Rattle.explain_report.specs.findings.Findings.{search_limit}
 use Rattle.race_groups.specs.Found.{AreComplete, AreOnce, HaveConflict}
 use Rattle.race_groups.specs.Groups.{group_of, IsCountOf}
 use Rattle.race_groups.specs.Kinds.{IsRow, IsRowAt}
@@ -108,5 +108,5 @@ IsBudget-unique r place m n one other =
     let same : count_by has_tries one.rows ≡ count_by has_tries other.rows = omega (arith, up, down) in
     one.is ∙ ap budget_for same ∙ sym other.is
 
-pub budget_few : (r : Recording) (place : ℕ → ℕ) (budget : ℕ) → IsBudget r place budget → budget ≤ BUDGET
+pub budget_few : (r : Recording) (place : ℕ → ℕ) (budget : ℕ) → IsBudget r place budget → budget ≤ search_limit
 budget_few r place budget shared = omega (arith, shared.is)

@@ -18,8 +18,7 @@ use Rattle.witness_search.specs.trace_order.Refusals.{IsNeverShownInOrder}
 use Rattle.witness_search.specs.trace_order.Sizes.{HasSize}
 use Rattle.explain_report.specs.declared.verdict.How.{How}
 use Rattle.explain_report.specs.declared.verdict.How.TheVariants.{Candidate, Beyond, Turned}
-use Rattle.explain_report.specs.findings.Findings.{IsFoundAs, IsShownAs}
-use Rattle.explain_report.specs.declared.findings.searching.TheConstants.{BUDGET}
+use Rattle.explain_report.specs.findings.Findings.{search_limit, IsFoundAs, IsShownAs}
 use Rattle.race_groups.specs.Groups.{IsCountOf}
 use Rattle.race_groups.specs.Kinds.{IsRowAt}
 use Rattle.race_groups.specs.declared.kinds.Counts.{Counts}
@@ -83,7 +82,7 @@ module _ (T : List Event) where
     pub IsFoundAs-unique : (how : How) (P Q : List ℕ) → IsFoundAs T a b how P → IsFoundAs T a b how Q → P ≡ Q
     IsFoundAs-unique Candidate P Q one other = AreNeeded-unique T _ P Q one other
     IsFoundAs-unique Beyond P Q one other = AreNeeded-unique T _ P Q one other
-    IsFoundAs-unique Turned P Q one other = same_Some P Q (IsTurned-unique T a b BUDGET (Some P) (Some Q) one other)
+    IsFoundAs-unique Turned P Q one other = same_Some P Q (IsTurned-unique T a b search_limit (Some P) (Some Q) one other)
 
     pub sizes_same : (how : How) (n k m l : ℕ) → IsShownBy T a b how n k → IsShownBy T a b how m l → (n ≡ m) × (k ≡ l)
     sizes_same how n k m l one other =

@@ -1,6 +1,7 @@
 pub mod Blocks
 pub mod Chosen
 pub mod Known
+pub mod Limits
 pub mod Located
 pub mod Pieces
 pub mod Places

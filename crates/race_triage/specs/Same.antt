@@ -8,7 +8,7 @@ use Rattle.race_triage.specs.Texts.{AreTotals, IsTriageText}
 use Rattle.race_triage.specs.Verdicts.{AreAllTold, AreOnceTold, AreRising, IsVerdict}
 use Rattle.race_triage.specs.declared.chosen.Chosen.{Chosen}
 use Rattle.race_triage.specs.declared.totals.Totals.{Totals}
-use Rattle.race_triage.specs.declared.verdicts.TheConstants.{MAX_PLACES}
+use Rattle.race_triage.specs.Limits.{place_pair_limit}
 use Rattle.race_triage.specs.declared.verdicts.Verdict.{Verdict}
 
 -- the trace is well formed and keeps the rules
@@ -20,7 +20,7 @@ pub record AreRight (r : Recording) (place : ℕ → ℕ) (tries : ℕ) (apart :
   pub verdicts : All (IsVerdict r place tries apart) vs
   pub complete : AreAllTold r.events place vs
   pub once : AreOnceTold vs
-  pub few : length vs ≤ MAX_PLACES
+  pub few : length vs ≤ place_pair_limit
   pub rising : AreRising vs
 
 -- two correct lists have the same verdicts in the same order, and the same counts

@@ -12,7 +12,7 @@ use Rattle.race_groups.specs.declared.least_pairs.least.Least.{Least}
 use Rattle.race_groups.specs.declared.least_pairs.wanted.Wanted.TheVariants.{Any as AnyPair}
 use Rattle.race_triage.specs.declared.tables.Tables.{Tables}
 use Rattle.race_triage.specs.declared.verdicts.Effort.{Effort}
-use Rattle.race_triage.specs.declared.verdicts.TheConstants.{MAX_PLACES}
+use Rattle.race_triage.specs.Limits.{place_pair_limit}
 
 -- The classes are those of the trace, whose events have the numbers of their locations.
 pub record AreClassesOf (r : Recording) (numbers : List ℕ) (c : Classes) : Type 0 where
@@ -41,9 +41,9 @@ HasConflictIn t places = HaveConflict t.indexed.now.events (slice_index t.places
 abbrev pub AreCompleteIn : Tables → List Row → Type 0
 AreCompleteIn t rows = AreComplete t.indexed.now.events (slice_index t.places.now) rows
 
--- more than `MAX_PLACES` pairs of locations have a conflicting pair of events
+-- more than 1,048,576 pairs of locations have a conflicting pair of events
 abbrev pub HaveTooManyPlaces : Tables → Type 0
-HaveTooManyPlaces t = AreTooMany t.indexed.now.events (slice_index t.places.now) MAX_PLACES
+HaveTooManyPlaces t = AreTooMany t.indexed.now.events (slice_index t.places.now) place_pair_limit
 
 -- The rows are those of all pairs of locations with conflicting events.
 pub record AreGroupsIn (t : Tables) (groups : Groups) : Type 0 where
@@ -51,7 +51,7 @@ pub record AreGroupsIn (t : Tables) (groups : Groups) : Type 0 where
   pub complete : AreCompleteIn t groups.rows.items
   pub there : All (λ (row : Row). HasConflictIn t row.places) groups.rows.items
   pub once : AreOnce groups.rows.items
-  pub few : length groups.rows.items ≤ MAX_PLACES
+  pub few : length groups.rows.items ≤ place_pair_limit
 
 -- the least pairs of these two locations, with as many open pairs as the effort asks for
 abbrev pub AreLeastsIn : Tables → Effort → ℕ × ℕ → Least → Type 0

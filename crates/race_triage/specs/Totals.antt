@@ -12,7 +12,7 @@ use Rattle.race_groups.specs.Groups.{conflicts, is_between, IsCountOf}
 use Rattle.race_triage.specs.Texts.{AreTotals}
 use Rattle.race_triage.specs.Verdicts.{AreAllTold, AreOnceTold, IsVerdict}
 use Rattle.race_triage.specs.declared.totals.Totals.{Totals}
-use Rattle.race_triage.specs.declared.verdicts.TheConstants.{MAX_PLACES}
+use Rattle.race_triage.specs.Limits.{place_pair_limit}
 use Rattle.race_triage.specs.declared.verdicts.Verdict.{Verdict}
 
 -- These are the pairs of locations of the trace's conflicting pairs. Each occurs once, with the lesser number first.
@@ -46,6 +46,6 @@ TotalsAreOfTheTrace =
     → All (IsVerdict r place tries apart) vs
     → AreAllTold r.events place vs
     → AreOnceTold vs
-    → length vs ≤ MAX_PLACES
+    → length vs ≤ place_pair_limit
     → AreTotals r vs t
     → AreTotalsOf r place t

@@ -9,7 +9,7 @@ use Rattle.race_triage.specs.Verdicts.{AreAllTold, IsVerdict}
 use Rattle.race_triage.specs.declared.places.Places.{Places}
 use Rattle.race_triage.specs.declared.totals.Totals.{Totals}
 use Rattle.race_triage.specs.declared.verdicts.Effort.{Effort}
-use Rattle.race_triage.specs.declared.verdicts.TheConstants.{MAX_PLACES}
+use Rattle.race_triage.specs.Limits.{place_pair_limit}
 use Rattle.race_triage.specs.declared.verdicts.Verdict.{Verdict}
 use Rattle.race_triage.specs.declared.verdicts.Verdicts.{Verdicts}
 
@@ -21,9 +21,9 @@ AreVerdictsAt r p effort vs = All (IsVerdict r (slice_index p.numbers.items) eff
 abbrev pub AreAllToldAt : Recording → Places → List Verdict → Type 0
 AreAllToldAt r p vs = AreAllTold r.events (slice_index p.numbers.items) vs
 
--- more than `MAX_PLACES` pairs of these locations have a conflicting pair of events
+-- more than 1,048,576 pairs of these locations have a conflicting pair of events
 abbrev pub AreTooManyAt : Recording → Places → Type 0
-AreTooManyAt r p = AreTooMany r.events (slice_index p.numbers.items) MAX_PLACES
+AreTooManyAt r p = AreTooMany r.events (slice_index p.numbers.items) place_pair_limit
 
 -- the same, for the verdicts and the locations that `triage` returns
 abbrev pub AreVerdictsOf : Recording → Effort → Verdicts → Type 0
@@ -36,6 +36,6 @@ AreAllToldOf r found = AreAllToldAt r found.places found.verdicts.items
 abbrev pub AreCountedOf : Recording → Verdicts → Type 0
 AreCountedOf r found = (t : Totals) → AreTotalsIn r found t → AreTotalsOf r (slice_index found.places.numbers.items) t
 
--- more than `MAX_PLACES` pairs of locations of the trace have a conflicting pair of events
+-- more than 1,048,576 pairs of locations of the trace have a conflicting pair of events
 abbrev pub IsCrowded : Recording → Type 0
-IsCrowded r = (numbers : List ℕ) × AreNumbers r numbers × AreTooMany r.events (slice_index numbers) MAX_PLACES
+IsCrowded r = (numbers : List ℕ) × AreNumbers r numbers × AreTooMany r.events (slice_index numbers) place_pair_limit

@@ -15,8 +15,7 @@ use Rattle.explain_report.specs.declared.verdict.How.{How}
 use Rattle.explain_report.specs.declared.verdict.How.TheVariants.{Candidate, Beyond, Turned}
 use Rattle.must_order.specs.Kinds.{IsKind}
 use Rattle.must_order.specs.declared.kind.Kind.TheVariants.{Open as OpenKind}
-use Rattle.explain_report.specs.findings.Findings.{IsFoundAs, IsShownAs, IsShownInOrder}
-use Rattle.explain_report.specs.declared.findings.searching.TheConstants.{BUDGET}
+use Rattle.explain_report.specs.findings.Findings.{search_limit, IsFoundAs, IsShownAs, IsShownInOrder}
 use Rattle.race_groups.specs.Found.{AreComplete, AreOnce, HaveConflict}
 use Rattle.race_groups.specs.Groups.{IsCountOf}
 use Rattle.race_groups.specs.Kinds.{IsRow, IsNeverShownBetween}
@@ -28,7 +27,7 @@ use Rattle.race_groups.specs.declared.least_pairs.tries.Try.{Try}
 use Rattle.race_groups.specs.declared.least_pairs.wanted.Wanted.TheVariants.{Candidate as CandidatePair, Open as OpenPair, Any as AnyPair}
 use Rattle.race_triage.specs.Tables.{AreTables}
 use Rattle.race_triage.specs.declared.found.Found.{Found}
-use Rattle.race_triage.specs.declared.between.TheConstants.{USUAL_TRIES}
+use Rattle.race_triage.specs.Limits.{usual_tries}
 use Rattle.race_triage.specs.declared.tables.Tables.{Tables}
 use Rattle.race_triage.specs.declared.verdicts.Effort.{Effort}
 use Rattle.race_triage.specs.declared.verdicts.Outcome.{Outcome}
@@ -82,7 +81,7 @@ has_tries row = row.counts.candidates == 0 && nat_lt 0 row.counts.open_pairs
 
 -- how many search steps the tries of one row share, if n rows have tries
 abbrev pub budget_for : ℕ → ℕ
-budget_for n = min BUDGET (4294967296 / max n 1)
+budget_for n = min search_limit (4294967296 / max n 1)
 
 -- The tries of one row share this many search steps. The rows of all pairs of locations decide the number.
 pub record IsBudget (r : Recording) (place : ℕ → ℕ) (budget : ℕ) : Type 0 where
@@ -189,7 +188,7 @@ AreVerdictsIn t effort vs = All (IsVerdict t.indexed.now (slice_index t.places.n
 
 -- the same with the usual number of tries, for a verdict that always names its pair
 abbrev pub IsUsualVerdict : Tables → Verdict → Type 0
-IsUsualVerdict t = IsVerdict t.indexed.now (slice_index t.places.now) USUAL_TRIES true
+IsUsualVerdict t = IsVerdict t.indexed.now (slice_index t.places.now) usual_tries true
 
 -- the tries of one row share this many search steps
 abbrev pub IsBudgetIn : Tables → ℕ → Type 0

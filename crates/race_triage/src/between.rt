@@ -2,6 +2,7 @@
 ghost use Rattle.std.specs.Prelude.{◌≡◌, ℕ, ◌<◌, None, Ok, length, slice_index, true};
 ghost use Rattle.race_groups.specs.Found.{HaveConflict};
 ghost use Rattle.race_groups.specs.Groups.{is_between};
+ghost use Rattle.race_triage.specs.Limits.{usual_tries};
 ghost use Rattle.race_triage.specs.Tables.{AreCompleteIn, AreTables, HasConflictIn};
 ghost use Rattle.race_triage.specs.Verdicts.{IsFoundIn, IsUsualVerdict, IsVerdict, IsVerdictOf};
 ghost use Rattle.rapid_text.specs.Appended.{IfFound};
@@ -29,7 +30,7 @@ pub fn verdict_between(
     requires places { length places.now ≡ length analysis.now.events }
     requires few { (e : ℕ) → slice_index places.now e < 3 }
     // The verdict is the one that `triage` gives with these numbers of locations.
-    ensures verdict { IfFound result (IsVerdict analysis.now (slice_index places.now) USUAL_TRIES true) }
+    ensures verdict { IfFound result (IsVerdict analysis.now (slice_index places.now) usual_tries true) }
     ensures between { IfFound result (λ v. is_between v.row.places.0 v.row.places.1 between.0 between.1 ≡ true) }
     ensures none { result ≡ Ok None → ¬ HaveConflict analysis.now.events (slice_index places.now) between }
 {

@@ -1,5 +1,6 @@
 //! Counts the pairs of events for each pair of locations, and finds the least ones.
 ghost use Rattle.std.specs.Prelude.{◌≡◌, ◌<◌, ◌≤◌, Err, count_by, IfOk, Some, length, max, slice_get};
+ghost use Rattle.race_triage.specs.Limits.{place_pair_limit};
 ghost use Rattle.race_triage.specs.Tables.{AreCompleteIn, AreGroupsIn, AreLeastsFound, AreTables, HaveTooManyPlaces};
 ghost use Rattle.race_triage.specs.Verdicts.{IsFoundIn, budget_for, has_tries};
 
@@ -43,7 +44,7 @@ pub(crate) fn found_of<'a>(tables: Tables<'a>, effort: Effort) -> Result<Found<'
     ensures tables { IfOk result (λ found. found.tables ≡ tables.entry) }
     ensures effort { IfOk result (λ found. found.effort ≡ effort) }
     ensures complete { IfOk result (λ found. AreCompleteIn tables.entry found.groups.rows.items) }
-    ensures few { IfOk result (λ found. length found.groups.rows.items ≤ MAX_PLACES) }
+    ensures few { IfOk result (λ found. length found.groups.rows.items ≤ place_pair_limit) }
     ensures too_many { result ≡ Err TriageRefusal.TooMany → HaveTooManyPlaces tables.entry }
 {
     let groups = counted(tables)?;
@@ -63,7 +64,7 @@ pub(crate) fn found_by_workers<'a, R: Threads + Sync>(
     ensures tables { IfOk result (λ found. found.tables ≡ tables.entry) }
     ensures effort { IfOk result (λ found. found.effort ≡ effort) }
     ensures complete { IfOk result (λ found. AreCompleteIn tables.entry found.groups.rows.items) }
-    ensures few { IfOk result (λ found. length found.groups.rows.items ≤ MAX_PLACES) }
+    ensures few { IfOk result (λ found. length found.groups.rows.items ≤ place_pair_limit) }
     ensures too_many { result ≡ Err TriageRefusal.TooMany → HaveTooManyPlaces tables.entry }
 {
     if effort.workers < 2 {
@@ -138,7 +139,7 @@ fn found_in<'a>(
     ensures tables { IfOk result (λ found. found.tables ≡ tables.entry) }
     ensures effort { IfOk result (λ found. found.effort ≡ effort) }
     ensures complete { IfOk result (λ found. AreCompleteIn tables.entry found.groups.rows.items) }
-    ensures few { IfOk result (λ found. length found.groups.rows.items ≤ MAX_PLACES) }
+    ensures few { IfOk result (λ found. length found.groups.rows.items ≤ place_pair_limit) }
 {
     let budget = budget_of(groups.rows.as_slice());
     let firsts = if effort.apart {
@@ -164,7 +165,7 @@ fn found_in<'a>(
 
 // How many search steps the tries of one of these rows share.
 fn budget_of(rows: &[Row]) -> u32
-    requires few { length rows.now ≤ MAX_PLACES }
+    requires few { length rows.now ≤ place_pair_limit }
     ensures { result ≡ budget_for (count_by has_tries rows.now) }
 {
     let mut count = 0u64;

@@ -1,7 +1,7 @@
 //! Gives the verdict on a row.
 ghost use Rattle.std.specs.Prelude.{◌≡◌, ◌<◌, ◌≤◌, IfOk, Some, length, slice_get, slice_index, take};
 ghost use Rattle.race_groups.specs.Kinds.{IsNeverShownBetween};
-ghost use Rattle.explain_report.specs.declared.findings.searching.TheConstants.{BUDGET};
+ghost use Rattle.explain_report.specs.findings.Findings.{search_limit};
 ghost use Rattle.race_triage.specs.Tables.{AreLeastsIn, AreTables, HasConflictIn, IsFirstPairIn, IsRowIn};
 ghost use Rattle.race_triage.specs.Verdicts.{AreAllMissed, AreOpenPairs, IfNoneFound, IsBudgetIn, IsFirstShown, IsFoundIn, IsVerdictBy, IsVerdictOf};
 ghost use Rattle.rapid_text.specs.Appended.{IfFound};
@@ -121,7 +121,7 @@ impl Tables<'_> {
     ) -> Result<Option<(Pair, Outcome)>, OutOfMemory>
         requires tables { AreTables self.now }
         requires opens { AreOpenPairs self.now.indexed.now tried.now }
-        requires few { budget ≤ BUDGET }
+        requires few { budget ≤ search_limit }
         ensures shown { IfFound result (IsFirstShown self.now.indexed.now budget tried.now) }
         ensures none { IfNoneFound result (AreAllMissed self.now.indexed.now budget tried.now) }
     {

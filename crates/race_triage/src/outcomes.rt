@@ -9,7 +9,7 @@ ghost use Rattle.witness_search.specs.trace_order.Refusals.{IsNeverShownInOrder}
 ghost use Rattle.witness_search.specs.trace_order.Sizes.{IsSizeInOrder};
 ghost use Rattle.witness_search.specs.declared.trace_order.refusal.InOrderRefusal.TheVariants.{OutOfMemory as NoMemory};
 ghost use Rattle.explain_report.specs.declared.verdict.How.TheVariants.{Candidate, Turned};
-ghost use Rattle.explain_report.specs.declared.findings.searching.TheConstants.{BUDGET};
+ghost use Rattle.explain_report.specs.findings.Findings.{search_limit};
 ghost use Rattle.race_triage.specs.Tables.{AreTables};
 ghost use Rattle.race_triage.specs.Verdicts.{IfNoneFound, IsFoundBy, IsMissed, IsOpenRace, IsRaceOf};
 ghost use Rattle.race_triage.specs.declared.verdicts.Outcome.TheVariants.{Race};
@@ -53,7 +53,7 @@ impl Tables<'_> {
         requires first { first < length self.now.indexed.now.events }
         requires second { second < length self.now.indexed.now.events }
         requires conflict { IsConflicting self.now.indexed.now.events first second }
-        requires few { left.old ≤ BUDGET }
+        requires few { left.old ≤ search_limit }
         requires kind { IsKind self.now.indexed.now first second OpenKind }
         ensures race { IfFound result (IsOpenRace self.now.indexed.now first second) }
         ensures none { IfNoneFound result (IsMissed self.now.indexed.now.events first second left.old left.new) }
@@ -77,7 +77,7 @@ impl Tables<'_> {
     ) -> Result<Option<Outcome>, OutOfMemory>
         requires tables { AreTables self.now }
         requires conflict { IsConflicting self.now.indexed.now.events first second }
-        requires few { left.old ≤ BUDGET }
+        requires few { left.old ≤ search_limit }
         requires kind { IsKind self.now.indexed.now first second OpenKind }
         requires never { IsNeverShownInOrder self.now.indexed.now.events first second }
         ensures race { IfFound result (IsRaceOf self.now.indexed.now first second Turned) }

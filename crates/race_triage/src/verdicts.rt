@@ -2,6 +2,7 @@
 ghost use Rattle.std.specs.Prelude.{◌≡◌, ◌≤◌, All, Err, IfOk, length};
 ghost use Rattle.race_triage.specs.Located.{IsLocated};
 ghost use Rattle.race_triage.specs.Places.{AreFirstUsesOf, AreNumbers, AreSpotsOf};
+ghost use Rattle.race_triage.specs.Limits.{place_pair_limit};
 ghost use Rattle.race_triage.specs.Tables.{AreTables, HaveTooManyPlaces};
 ghost use Rattle.race_triage.specs.Triaged.{AreAllToldAt, AreAllToldOf, AreCountedOf, AreTooManyAt, AreVerdictsAt, AreVerdictsOf, IsCrowded};
 ghost use Rattle.race_triage.specs.Verdicts.{AreAllToldIn, AreOnceTold, AreRising, AreVerdictsIn, IsVerdictOf};
@@ -152,7 +153,7 @@ pub fn triage<R: Threads + Sync, W: Watch + Sync>(
     // there are at most `MAX_PLACES`.
     ensures complete { IfOk result (AreAllToldOf analysis.now) }
     ensures once { IfOk result (λ found. AreOnceTold found.verdicts.items) }
-    ensures few { IfOk result (λ found. length found.verdicts.items ≤ MAX_PLACES) }
+    ensures few { IfOk result (λ found. length found.verdicts.items ≤ place_pair_limit) }
     ensures rising { IfOk result (λ found. AreRising found.verdicts.items) }
     // The counts over the verdicts are the counts over the whole trace.
     ensures totals { IfOk result (AreCountedOf analysis.now) }
@@ -180,7 +181,7 @@ fn verdicts_at<R: Threads + Sync, W: Watch + Sync>(
     ensures verdicts { IfOk result (λ vs. AreVerdictsAt analysis.now located.now.places effort vs.items) }
     ensures complete { IfOk result (λ vs. AreAllToldAt analysis.now located.now.places vs.items) }
     ensures once { IfOk result (λ vs. AreOnceTold vs.items) }
-    ensures few { IfOk result (λ vs. length vs.items ≤ MAX_PLACES) }
+    ensures few { IfOk result (λ vs. length vs.items ≤ place_pair_limit) }
     ensures rising { IfOk result (λ vs. AreRising vs.items) }
     ensures too_many { result ≡ Err TriageRefusal.TooMany → AreTooManyAt analysis.now located.now.places }
 {
@@ -207,7 +208,7 @@ fn verdicts_by<R: Threads + Sync, W: Watch + Sync>(
     ensures verdicts { IfOk result (λ vs. AreVerdictsIn tables.entry effort vs.items) }
     ensures complete { IfOk result (λ vs. AreAllToldIn tables.entry vs.items) }
     ensures once { IfOk result (λ vs. AreOnceTold vs.items) }
-    ensures few { IfOk result (λ vs. length vs.items ≤ MAX_PLACES) }
+    ensures few { IfOk result (λ vs. length vs.items ≤ place_pair_limit) }
     ensures rising { IfOk result (λ vs. AreRising vs.items) }
     ensures too_many { result ≡ Err TriageRefusal.TooMany → HaveTooManyPlaces tables.entry }
 {
@@ -226,11 +227,11 @@ fn sort(_found: &Found<'_>, verdicts: &mut Vec<Verdict>)
     requires verdicts { All (IsVerdictOf _found.now) verdicts.old.items }
     requires complete { AreAllToldIn _found.now.tables verdicts.old.items }
     requires once { AreOnceTold verdicts.old.items }
-    requires few { length verdicts.old.items ≤ MAX_PLACES }
+    requires few { length verdicts.old.items ≤ place_pair_limit }
     ensures verdicts { All (IsVerdictOf _found.now) verdicts.new.items }
     ensures complete { AreAllToldIn _found.now.tables verdicts.new.items }
     ensures once { AreOnceTold verdicts.new.items }
-    ensures few { length verdicts.new.items ≤ MAX_PLACES }
+    ensures few { length verdicts.new.items ≤ place_pair_limit }
     ensures rising { AreRising verdicts.new.items }
 {
     let _len = _found.tables.indexed.len();

@@ -11,10 +11,9 @@ use Rattle.witness_search.specs.trace_order.Orders.{IsTurned}
 use Rattle.witness_search.specs.trace_order.Refusals.{IsNeverShownInOrder}
 use Rattle.explain_report.specs.Told.{IsForcedTold, IsGuardedTold, IsRaceTold, IsUndecidedTold}
 use Rattle.explain_report.specs.declared.verdict.How.{How}
-use Rattle.explain_report.specs.findings.Findings.{IsFinding, IsNeverShown, IsShownByNone}
+use Rattle.explain_report.specs.findings.Findings.{search_limit, IsFinding, IsNeverShown, IsShownByNone}
 use Rattle.explain_report.specs.declared.findings.finding.Finding.{Finding}
 use Rattle.explain_report.specs.declared.findings.finding.Finding.TheVariants.{Race, Forced, Guarded, Undecided}
-use Rattle.explain_report.specs.declared.findings.searching.TheConstants.{BUDGET}
 use Rattle.client_scripts.specs.Loading.{IsTraceOf}
 use Rattle.client_scripts.specs.Replay.{AppendsPart, IsFault, of_trace}
 use Rattle.client_scripts.specs.declared.fault.ReplayFault.TheVariants.{Write, OutOfMemory}
@@ -63,7 +62,7 @@ IsNotShown r a b CandidateKind = ⊥
 IsNotShown r a b ForcedKind = IsConflicting r.events a b × IsKind r a b ForcedKind × IsShownByNone r.events a b
 IsNotShown r a b GuardedKind = IsConflicting r.events a b × IsKind r a b GuardedKind × IsShownByNone r.events a b
 IsNotShown r a b OpenKind =
-    IsConflicting r.events a b × IsKind r a b OpenKind × IsNeverShownInOrder r.events a b × IsTurned r.events a b BUDGET None
+    IsConflicting r.events a b × IsKind r a b OpenKind × IsNeverShownInOrder r.events a b × IsTurned r.events a b search_limit None
 
 -- these events are a correct reordering that shows the pair
 abbrev pub IsListed : Recording → ℕ → ℕ → List ℕ → Type 0

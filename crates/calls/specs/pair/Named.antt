@@ -8,7 +8,7 @@ use Rattle.event_index.specs.Relations.{IsConflicting}
 use Rattle.race_groups.specs.Found.{HaveConflict}
 use Rattle.race_groups.specs.Groups.{is_between}
 use Rattle.race_triage.specs.Verdicts.{IsVerdict}
-use Rattle.race_triage.specs.declared.between.TheConstants.{USUAL_TRIES}
+use Rattle.race_triage.specs.Limits.{usual_tries}
 use Rattle.race_triage.specs.declared.verdicts.Verdict.{Verdict}
 use Rattle.explain_report.specs.places.Accesses.{AreApart, HaveSeveral, HaveShared, IsAtOnePlace, flags_of}
 use Rattle.explain_report.specs.declared.places.name.Name.{Name}
@@ -39,7 +39,7 @@ AreMixed is_event one other = (is_event ≡ false) × (¬ AreSame one other) × 
 -- a and b are the pair of the verdict that `triage` has on the accesses with these marks, if it takes marks for places
 pub record IsReported (r : Recording) (place : ℕ → ℕ) (marks : ℕ × ℕ) (a b : ℕ) : Type 0 where
   pub verdict : Verdict
-  pub is : IsVerdict r place USUAL_TRIES true verdict
+  pub is : IsVerdict r place usual_tries true verdict
   pub between : is_between verdict.row.places.0 verdict.row.places.1 marks.0 marks.1 ≡ true
   pub first : a ≡ verdict.first
   pub second : b ≡ verdict.second

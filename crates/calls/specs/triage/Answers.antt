@@ -17,7 +17,7 @@ use Rattle.race_triage.specs.Triaged.{IsCrowded}
 use Rattle.race_triage.specs.Verdicts.{IsVerdict, AreAllTold, AreOnceTold, AreRising}
 use Rattle.race_triage.specs.declared.chosen.Chosen.{Chosen}
 use Rattle.race_triage.specs.declared.totals.Totals.{Totals}
-use Rattle.race_triage.specs.declared.verdicts.TheConstants.{MAX_PLACES}
+use Rattle.race_triage.specs.Limits.{place_pair_limit}
 use Rattle.race_triage.specs.declared.verdicts.Verdict.{Verdict}
 use Rattle.toml.specs.declared.value.Value.{Value}
 use Rattle.triage_file.specs.Matching.{is_left_out}
@@ -40,7 +40,7 @@ pub record AreVerdicts (r : Recording) (numbers : List ℕ) (tries : ℕ) (apart
   pub verdicts : All (IsVerdict r (slice_index numbers) tries apart) vs
   pub complete : AreAllTold r.events (slice_index numbers) vs
   pub once : AreOnceTold vs
-  pub few : length vs ≤ MAX_PLACES
+  pub few : length vs ≤ place_pair_limit
   pub rising : AreRising vs
   pub totals : (t : Totals) → AreTotals r vs t → AreTotalsOf r (slice_index numbers) t
 

@@ -4,7 +4,7 @@ use Rattle.rapid_text.specs.Recording.{Recording}
 use Rattle.race_groups.specs.Found.{AreTooMany}
 use Rattle.race_triage.specs.Tables.{AreClassesOf}
 use Rattle.race_triage.specs.Verdicts.{AreAllTold, IsVerdict}
-use Rattle.race_triage.specs.declared.verdicts.TheConstants.{MAX_PLACES}
+use Rattle.race_triage.specs.Limits.{place_pair_limit}
 use Rattle.race_triage.specs.declared.verdicts.TriageRefusal.TheVariants.{TooMany}
 use Rattle.race_triage.proofs.BothLemmas.{both_along}
 use Rattle.race_triage.proofs.verdicts.verdicts_at.Goals as goal
@@ -38,5 +38,5 @@ returns-clause-complete g c =
 
 pub returns-clause-too_many : goal.returns-clause-too_many
 returns-clause-too_many g c = λ refused.
-    both_along (λ (r : Recording) (ns : List ℕ). AreTooMany r.events (slice_index ns) MAX_PLACES) _ _ _ _
+    both_along (λ (r : Recording) (ns : List ℕ). AreTooMany r.events (slice_index ns) place_pair_limit) _ _ _ _
     c.indexed.ensures c.as_slice.ensures.value (c.verdicts_by.ensures.too_many refused)
