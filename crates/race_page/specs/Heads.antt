@@ -5,6 +5,21 @@ use Rattle.markup.specs.Escaped.{escaped}
 use Rattle.race_page.specs.declared.merged_head.LeftOut.{LeftOut}
 use Rattle.race_page.specs.declared.style.TheConstants.{BODY, TOP}
 
+-- the policy of a page: it may fetch nothing and run nothing, and has its own style
+abbrev pub policy : List ℕ
+policy = codes "default-src 'none'; style-src 'unsafe-inline'; base-uri 'none'; form-action 'none'"
+
+-- what comes before the title: the head of a page with its policy
+abbrev pub top_text : List ℕ
+top_text =
+    codes "<!DOCTYPE html>\n<html lang=\"en\">\n<head>\n<meta charset=\"utf-8\">\n"
+    ++ codes "<meta http-equiv=\"Content-Security-Policy\" content=\""
+    ++ policy
+    ++ codes "\">\n"
+    ++ codes "<meta name=\"viewport\" content=\"width=device-width, initial-scale=1\">\n"
+    ++ codes "<meta name=\"color-scheme\" content=\"light dark\">\n"
+    ++ codes "<meta name=\"referrer\" content=\"no-referrer\">\n"
+
 -- no byte is a slash
 abbrev pub HasNoSlash : List ℕ → Type 0
 HasNoSlash bytes = All (λ b. (b == 47) ≡ false) bytes

@@ -7,6 +7,23 @@ use Rattle.race_page.specs.MergedRows.{rows_text}
 use Rattle.race_page.specs.declared.merged.TheConstants.{END}
 use Rattle.race_page.specs.declared.merged_head.LeftOut.{LeftOut}
 
+-- the end of a merged page: what its words mean
+abbrev pub words_text : List ℕ
+words_text =
+    codes "<section>\n"
+    ++ codes "<h2>What the words mean</h2>\n"
+    ++ codes "<p>A part is the report of one trace, or of one window that <code>triage --windows</code> cuts from a trace. Events have\n"
+    ++ codes "their numbers in that trace, and not in the window.</p>\n"
+    ++ codes "<p>Race: a schedule of the part, a correct reordering of its trace, brings the two accesses next to each other. The row\n"
+    ++ codes "is that of the part with the shortest schedule.</p>\n"
+    ++ codes "<p>Undecided: no part has a schedule for the pair, and the search of one was not complete.</p>\n"
+    ++ codes "<p>Apart: no correct reordering of the trace of a part that met the pair brings the two next to each other.</p>\n"
+    ++ codes "<p>If the part is a window, <code>racebench cut</code> and the name of the part print the window as a trace.</p>\n"
+    ++ codes "</section>\n"
+    ++ codes "</main>\n"
+    ++ codes "</body>\n"
+    ++ codes "</html>\n"
+
 -- the pair is of this rank
 abbrev pub has_rank : ℕ → Pair → Bool
 has_rank rank p = nat_eq p.rank rank

@@ -9,7 +9,6 @@ use Rattle.race_page.specs.declared.shown.Seen.TheVariants.{Unasked, NotFollowed
 use Rattle.race_page.specs.declared.shown.Shown.{Shown}
 use Rattle.race_page.specs.declared.shown.Sort.{Sort}
 use Rattle.race_page.specs.declared.shown.Sort.TheVariants.{Race, Undecided, Apart}
-use Rattle.race_page.specs.declared.style.TheConstants.{FOOT}
 
 -- how an element begins
 abbrev pub begin_text : Tag → List ℕ
@@ -61,7 +60,7 @@ end_text Wide = codes "</div>\n"
 
 -- a part that is always the same
 abbrev pub part_text : Part → List ℕ
-part_text Foot = FOOT.now
+part_text Foot = codes "</main>\n</body>\n</html>\n"
 part_text LineEnd = codes "\n"
 
 -- how a row of the sort begins, up to its numbers

@@ -9,12 +9,15 @@ use Rattle.race_page.specs.declared.about.About.{About}
 use Rattle.race_triage.specs.declared.verdicts.Outcome.{Outcome}
 use Rattle.race_triage.specs.declared.verdicts.Outcome.TheVariants.{Race as RaceOutcome, Undecided as UndecidedOutcome, Apart as ApartOutcome}
 use Rattle.race_triage.specs.declared.verdicts.Verdict.{Verdict}
-use Rattle.race_page.specs.declared.rows.TheConstants.{MOST_ROWS}
 use Rattle.race_page.specs.declared.shown.Seen.{Seen}
 use Rattle.race_page.specs.declared.shown.Seen.TheVariants.{Unasked, NotFollowed, Departed, OtherMemory, Matters, Same, Unknown}
 use Rattle.race_page.specs.declared.shown.Shown.{Shown}
 use Rattle.race_page.specs.declared.shown.Sort.{Sort}
 use Rattle.race_page.specs.declared.shown.Sort.TheVariants.{Race, Undecided, Apart}
+
+-- the most rows of each sort
+abbrev pub row_limit : ℕ
+row_limit = 2000
 
 -- of which sort an outcome is
 abbrev pub outcome_sort : Outcome → Sort
@@ -89,7 +92,7 @@ is_of sort v = is_sort (outcome_sort v.outcome) sort
 
 -- the rows of these verdicts: as many as a page has of a sort
 abbrev pub rows_of : Recording → Option (List Followed) → List Verdict → List Shown
-rows_of r told vs = map (row_of r told) (take MOST_ROWS vs)
+rows_of r told vs = map (row_of r told) (take row_limit vs)
 
 -- the rows of the verdicts of a sort
 abbrev pub sort_rows : Recording → Option (List Followed) → Sort → List Verdict → List Shown

@@ -1,7 +1,9 @@
 //! The page of a merged report: a row for each pair of locations, with what the parts say of it.
 ghost use Rattle.std.specs.Prelude.{◌≡◌, IfOk, OnErr, take};
 ghost use Rattle.std.specs.List.{filter};
-ghost use Rattle.race_page.specs.Merged.{apart_section, has_rank, heading_of, kept_text, lead_text, left_text, merged_text, none_text, opening_text, rank_section, section_text};
+ghost use Rattle.race_page.specs.Heads.{top_text};
+ghost use Rattle.race_page.specs.Merged.{apart_section, has_rank, heading_of, kept_text, lead_text, left_text, merged_text, none_text, opening_text, rank_section, section_text, words_text};
+ghost use Rattle.race_page.specs.declared.style.TheConstants.{TOP};
 ghost use Rattle.rapid_text.specs.Appended.{Appended};
 
 use crate::marks::{Mark, append_marks};
@@ -43,6 +45,9 @@ pub fn merged_page(
 ) -> Result<(), OutOfMemory>
     ensures ok { Appended result out.old out.new (merged_text parts pairs.now apart left) }
     ensures err { OnErr result (out.new.items ≡ out.old.items) }
+    // The head of each page has the policy `default-src 'none'`: a page fetches nothing and runs nothing.
+    ensures policy { TOP.now ≡ top_text }
+    ensures words { END.now ≡ words_text }
 {
     let mut text = Vec::new(*out.allocator());
     append_page(&mut text, parts, pairs, apart, left)?;

@@ -1,9 +1,11 @@
 //! The whole page.
 ghost use Rattle.std.specs.Prelude.{◌≡◌, ◌++◌, [], OnErr};
 ghost use Rattle.rapid_text.specs.Appended.{Appended, AppendedOne};
+ghost use Rattle.race_page.specs.Heads.{top_text};
 ghost use Rattle.race_page.specs.Pages.{AddedRows, AppendedPage, IsChosenPage, left_of};
 ghost use Rattle.race_page.specs.Rows.{all_rows_about, rows_about, sort_rows_about};
 ghost use Rattle.race_page.specs.declared.merged_head.LeftOut.{LeftOut};
+ghost use Rattle.race_page.specs.declared.style.TheConstants.{TOP};
 
 use crate::about::About;
 use crate::ending::append_end;
@@ -45,6 +47,8 @@ pub fn page_text(
     // was left out.
     ensures ok { AppendedOne result out.old out.new (IsChosenPage analysis.now verdicts.now chosen.now apart about.entry) }
     ensures err { OnErr result (out.new.items ≡ out.old.items) }
+    // The head of each page has the policy `default-src 'none'`: a page fetches nothing and runs nothing.
+    ensures policy { TOP.now ≡ top_text }
 {
     let mut page = Page::new(*out.allocator(), analysis);
     append_page(&mut page, verdicts, chosen, apart, about, out)
