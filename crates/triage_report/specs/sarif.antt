@@ -6,5 +6,6 @@ pub mod Merged
 pub mod Places
 pub mod Prints
 pub mod Results
+pub mod Rules
 pub mod Stacks
 pub mod Words

@@ -6,6 +6,7 @@ ghost use Rattle.serde_json.specs.Written.{compact_text, has_float};
 ghost use Rattle.triage_report.specs.Appending.{AppendedAs, AppendedText};
 ghost use Rattle.triage_report.specs.sarif.Logs.{base_object, item_text, joined, left_object, rest_text, AreResults, IsResult, IsSarif};
 ghost use Rattle.triage_report.specs.sarif.Results.{shown_result};
+ghost use Rattle.triage_report.specs.sarif.Rules.{tail_text, AreFrames, AreLimits};
 
 use crate::sarif::bases::{base_of, left_of};
 use crate::sarif::results::result_of;
@@ -55,6 +56,10 @@ pub fn triage_sarif(
     // The text is determined by the trace, the chosen verdicts and the code.
     ensures ok { AppendedText result out.old out.new (IsSarif analysis.now sources.entry chosen.now) }
     ensures err { OnErr result (out.new.items ≡ out.old.items) }
+    // The log has these rules, with their ids, texts and levels. The other fixed texts and the limits are these too.
+    ensures rules { TAIL.now ≡ tail_text }
+    ensures frames { AreFrames }
+    ensures limits { AreLimits }
 {
     let mut text = Vec::new(*out.allocator());
     append_log(&mut text, analysis, chosen, sources)?;
