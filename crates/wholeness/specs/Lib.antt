@@ -1,3 +1,4 @@
+pub mod Losses
 pub mod Marks
 pub mod Saying
 pub mod Status

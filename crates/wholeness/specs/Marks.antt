@@ -1,6 +1,6 @@
 -- What a recording says of itself in its first and its last line. All notions here are this project's own.
-use Rattle.std.specs.Prelude.{◌≡◌, ◌⊎◌, ℕ, ◌+◌, ◌-◌, ◌==◌, ◌&&◌, ◌||◌, nat_eq, nat_le, nat_lt, not, Bool, true, false, List, [], ◌∷◌, ◌++◌, length, take, slice_index, codes, Option, Some, None, Vec, if◌then◌else◌, ⊤}
-use Rattle.std.specs.List.{list_all, starts_with, ends_with}
+use Rattle.std.specs.Prelude.{◌≡◌, ℕ, ◌+◌, ◌-◌, ◌==◌, ◌&&◌, ◌||◌, nat_eq, nat_le, nat_lt, not, Bool, true, false, List, [], ◌++◌, length, take, slice_index, codes, Option, Some, None, Vec, if◌then◌else◌}
+use Rattle.std.specs.List.{after_last, list_all, starts_with, ends_with}
 use Rattle.std.specs.declared.alloc.Global.{Global}
 use Rattle.wholeness.specs.declared.marks.Wholeness.{Wholeness}
 use Rattle.wholeness.specs.declared.marks.Wholeness.TheVariants.{Unmarked, Whole, LeftOut, NoEnd}
@@ -54,26 +54,30 @@ pub record IsLoss (line count from cause : List ℕ) : Type 0 where
   pub from_is : is_number from ≡ true
   pub cause_is : is_cause cause ≡ true
 
--- this is what the text has after some line feed, or all of it
-abbrev pub EndsWith : List ℕ → List ℕ → Type 0
-EndsWith text line = (text ≡ line) ⊎ ((before : List ℕ) × (text ≡ before ++ 10 ∷ line))
+-- the line says that something was left out
+abbrev pub TellsLoss : List ℕ → Type 0
+TellsLoss line = (count from cause : List ℕ) × IsLoss line count from cause
+
+-- what the text has after its last line feed, or all of it
+abbrev pub last_line : List ℕ → List ℕ
+last_line text = after_last (λ b. b == 10) text
 
 -- what this line says of a recording that does not end as a whole one
 abbrev pub IsLossIn : List ℕ → Wholeness → Type 0
 IsLossIn line (LeftOut words last) =
     (last.items ≡ line) × ((count from cause : List ℕ) × IsLoss line count from cause × (words.items ≡ loss_words count from cause))
-IsLossIn line NoEnd = ⊤
+IsLossIn line NoEnd = ¬ TellsLoss line
 IsLossIn line Unmarked = ⊥
 IsLossIn line Whole = ⊥
 
--- What a text says of itself. It has no marks if it does not begin with one. Else it is whole if its last line says so, and only then. Else it may say
--- in its last line what it left out.
+-- What a text says of itself. It has no marks if it does not begin with one. Else it is whole if its last line says so,
+-- and only then. Else its last line says what was left out, or its end is missing if that line does not say so.
 abbrev pub IsWholeness : List ℕ → Wholeness → Type 0
 IsWholeness text Unmarked = begins text ≡ false
 IsWholeness text Whole = (begins text ≡ true) × (ends_whole text ≡ true)
 IsWholeness text (LeftOut words last) =
-    (begins text ≡ true) × (ends_whole text ≡ false) × EndsWith (without_end text) last.items × IsLossIn last.items (LeftOut words last)
-IsWholeness text NoEnd = (begins text ≡ true) × (ends_whole text ≡ false)
+    (begins text ≡ true) × (ends_whole text ≡ false) × IsLossIn (last_line (without_end text)) (LeftOut words last)
+IsWholeness text NoEnd = (begins text ≡ true) × (ends_whole text ≡ false) × IsLossIn (last_line (without_end text)) NoEnd
 
 -- nothing is known to be missing
 abbrev pub is_whole : Wholeness → Bool

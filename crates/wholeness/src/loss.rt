@@ -1,8 +1,9 @@
 //! The last line of a recording that is not whole: `recording|end(LEFT OUT 12 FROM 340: DISK)|`.
-ghost use Rattle.std.specs.Prelude.{◌≡◌, IfOk, IfSome, true};
+ghost use Rattle.std.specs.Prelude.{◌≡◌, ◌≤◌, ◌++◌, ◌∷◌, drop, false, IfOk, IfSome, length, List, None, true, ℕ};
 ghost use Rattle.rapid_text.specs.Appended.{Appended};
 ghost use Rattle.std.specs.List.{list_all};
-ghost use Rattle.wholeness.specs.Marks.{is_cause, is_digit, is_number, is_plain, loss_line, loss_words, IsLoss};
+ghost use Rattle.wholeness.specs.Losses.{is_formed, AreParts, HasNo};
+ghost use Rattle.wholeness.specs.Marks.{is_cause, is_digit, is_number, is_plain, loss_line, loss_words, IsLoss, TellsLoss};
 
 use memchr::memchr;
 use rapid_text::OutOfMemory;
@@ -58,21 +59,36 @@ fn are_plain(bytes: &[u8]) -> bool
     bytes.iter().all(|byte| is_plain(*byte))
 }
 
-/// What comes before the first of these bytes, and what comes after it.
-fn split_at(text: &[u8], byte: u8) -> (&[u8], &[u8]) {
-    match memchr(byte, text) {
-        Some(at) => (&text[..at], &text[at + 1..]),
+/// What comes before the first of these bytes, and what comes after it. Without such a byte, all, and nothing.
+fn split_at(text: &[u8], byte: u8) -> (&[u8], &[u8])
+    ensures { (first rest : List ℕ) → text.now ≡ first ++ byte ∷ rest → HasNo byte first → (result.0.now ≡ first) × (result.1.now ≡ rest) }
+{
+    match cut_first(text, byte) {
+        Some(parts) => parts,
         None => (text, b""),
     }
 }
 
+/// What comes before the first of these bytes, and what comes after it; None if there is no such byte.
+fn cut_first(text: &[u8], byte: u8) -> Option<(&[u8], &[u8])>
+    ensures some { IfSome result (λ cut. (text.now ≡ cut.0.now ++ byte ∷ cut.1.now) × HasNo byte cut.0.now) }
+    ensures none { result ≡ None → HasNo byte text.now }
+{
+    let at = memchr(byte, text)?;
+    Some((&text[..at], &text[at + 1..]))
+}
+
 /// The part of the bytes from this index on.
-fn from(bytes: &[u8], at: usize) -> &[u8] {
+fn from(bytes: &[u8], at: usize) -> &[u8]
+    ensures { at ≤ length bytes.now → result.now ≡ drop at bytes.now }
+{
     &bytes[at.min(bytes.len())..]
 }
 
 /// The three parts of the line, if it is such a line. Else any parts of it.
-fn parts_of(line: &[u8]) -> Loss<'_> {
+fn parts_of(line: &[u8]) -> Loss<'_>
+    ensures { (count from cause : List ℕ) → IsLoss line.now count from cause → AreParts result count from cause }
+{
     let (count, rest) = split_at(from(line, LEFT_OUT.len()), b' ');
     let (from_place, rest) = split_at(from(rest, 5), b':');
     let (cause, _) = split_at(from(rest, 1), b')');
@@ -112,19 +128,28 @@ pub(crate) fn append_loss(out: &mut Vec<u8>, loss: Loss<'_>) -> Result<(), OutOf
 
 /// Whether all parts of a loss have their form.
 fn is_formed(loss: Loss<'_>) -> bool
-    ensures { result ≡ true → (is_number loss.entry.count.now ≡ true) × (is_number loss.entry.from.now ≡ true) × (is_cause loss.entry.cause.now ≡ true) }
+    ensures { result ≡ is_formed loss.entry.count.now loss.entry.from.now loss.entry.cause.now }
 {
     is_number(loss.count) && is_number(loss.from) && is_cause(loss.cause)
 }
 
-/// What this line says was left out; None if it is no such line.
-pub(crate) fn loss_of(alloc: Global, line: &[u8]) -> Result<Option<Loss<'_>>, OutOfMemory>
-    ensures { IfOk result (λ found. IfSome found (λ loss. IsLoss line.now loss.count.now loss.from.now loss.cause.now)) }
+/// Whether the line says this loss.
+fn is_loss(alloc: Global, line: &[u8], loss: Loss<'_>) -> Result<bool, OutOfMemory>
+    ensures yes { IfOk result (λ is. is ≡ true → IsLoss line.now loss.entry.count.now loss.entry.from.now loss.entry.cause.now) }
+    ensures no { IfOk result (λ is. is ≡ false → ¬ IsLoss line.now loss.entry.count.now loss.entry.from.now loss.entry.cause.now) }
 {
-    let loss = parts_of(line);
     let mut said = Vec::new(alloc);
     append_line(&mut said, loss)?;
-    if said.as_slice() == line && is_formed(loss) {
+    Ok(said.as_slice() == line && is_formed(loss))
+}
+
+/// What this line says was left out; None if it is no such line.
+pub(crate) fn loss_of(alloc: Global, line: &[u8]) -> Result<Option<Loss<'_>>, OutOfMemory>
+    ensures some { IfOk result (λ found. IfSome found (λ loss. IsLoss line.now loss.count.now loss.from.now loss.cause.now)) }
+    ensures none { IfOk result (λ found. found ≡ None → ¬ TellsLoss line.now) }
+{
+    let loss = parts_of(line);
+    if is_loss(alloc, line, loss)? {
         return Ok(Some(loss));
     }
     Ok(None)

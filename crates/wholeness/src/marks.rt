@@ -1,6 +1,6 @@
 //! The marks of a recording: its first line, and its last line.
-ghost use Rattle.std.specs.Prelude.{◌≡◌, ◌++◌, ◌∷◌, IfOk, IfSome, option_map};
-ghost use Rattle.wholeness.specs.Marks.{is_marked, is_whole, without, without_end, words_of, EndsWith, IsLossIn, IsWholeness};
+ghost use Rattle.std.specs.Prelude.{◌≡◌, IfOk, option_map};
+ghost use Rattle.wholeness.specs.Marks.{is_marked, is_whole, last_line, without, without_end, words_of, IsLossIn, IsWholeness};
 
 use crate::loss::{append_loss, loss_of};
 use memchr::memrchr;
@@ -83,20 +83,12 @@ fn without(text: &[u8], byte: u8) -> &[u8]
 
 /// What comes after the last line feed.
 fn last_line(text: &[u8]) -> &[u8]
-    ensures { EndsWith text.now result.now }
+    ensures { result.now ≡ last_line text.now }
 {
-    match cut_last(text) {
-        Some(parts) => parts.1,
+    match memrchr(b'\n', text) {
+        Some(at) => &text[at + 1..],
         None => text,
     }
-}
-
-/// What comes before the last line feed, and what comes after it; None if there is none.
-fn cut_last(text: &[u8]) -> Option<(&[u8], &[u8])>
-    ensures { IfSome result (λ cut. text.now ≡ cut.0.now ++ 10 ∷ cut.1.now) }
-{
-    let at = memrchr(b'\n', text)?;
-    Some((&text[..at], &text[at + 1..]))
 }
 
 /// What the recording in this text says of itself.
