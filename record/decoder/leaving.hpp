@@ -51,8 +51,18 @@ class Leaving {
 public:
     void clear(size_t count);
     // Each record that happened, in their order, and each access that it is of a part.
-    void see(const record &one) { order.see(one); }
-    void see_access(size_t part, u16 thread, bool writes);
+    void see(const record &one) {
+        if (one.kind == FORK || one.kind == JOIN) order.see(one);
+    }
+    // An access of the moment and of the kind that the last one had changes nothing.
+    void see_access(size_t part, u16 thread, bool writes) {
+        Part &seen = parts[part];
+        Moment now = order.now(thread);
+        seen.accesses++;
+        if (seen.last == now && seen.last_writes == writes) return;
+        seen.last = now, seen.last_writes = writes;
+        if (!seen.stays) judge(seen, thread, writes);
+    }
     // Atomic accesses order other events, so the part stays.
     void keep(size_t part) { parts[part].stays = true; }
     bool is_left_out(size_t part) const { return !parts[part].stays; }
@@ -60,13 +70,15 @@ public:
     u64 accesses(size_t part) const { return parts[part].accesses; }
 
 private:
-    // The last write of a part, and the reads since.
+    // The last write of a part, and the reads since; the moment of the last access, and its kind.
     struct Part {
         Moment write = moments::NO_MOMENT;
         Set reads = 0;
+        Moment last = moments::NO_MOMENT;
+        bool stays = false, last_writes = false;
         u64 accesses = 0;
-        bool stays = false;
     };
+    void judge(Part &seen, u16 thread, bool writes);
     moments::Moments order;
     Sets sets;
     std::vector<Part> parts;

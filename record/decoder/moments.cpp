@@ -19,7 +19,7 @@ void Moments::begin(u16 thread) {
     places.push_back({thread, mine.count++});
 }
 
-Moment Moments::now(u16 thread) {
+Moment Moments::first_of(u16 thread) {
     if (thread_at(thread).now == NO_MOMENT) begin(thread);
     return threads[thread].now;
 }

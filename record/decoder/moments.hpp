@@ -21,7 +21,10 @@ public:
     // Each record that happened, in their order.
     void see(const record &one);
     // The moment that a thread is in.
-    Moment now(u16 thread);
+    Moment now(u16 thread) {
+        if (thread < threads.size() && threads[thread].now != NO_MOMENT) return threads[thread].now;
+        return first_of(thread);
+    }
     // Whether all of a moment comes before what a thread does now.
     bool is_before(Moment moment, u16 thread);
 
@@ -38,6 +41,7 @@ private:
         u32 number;
     };
     Thread &thread_at(u16 thread);
+    Moment first_of(u16 thread);
     void begin(u16 thread);
     void learn(u16 thread, const Known &known, u16 other, u32 count);
     std::vector<Thread> threads;

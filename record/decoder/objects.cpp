@@ -156,7 +156,7 @@ void Objects::find_whole(u64 page, Whole &to) const {
     if (block.second.end(block.first) >= end) to.start = block.first, to.thing = block.second.thing;
 }
 
-Where Objects::at(u64 address) {
+Where Objects::found_at(u64 address) {
     u64 page = address >> PAGE_BITS;
     Whole &whole = pages[page % WHOLE_PAGES];
     if (whole.page != page || whole.age != ages[page % PAGES]) find_whole(page, whole);

@@ -42,7 +42,12 @@ public:
     void resize(u64 start, u64 size);
     // The living block that starts at an address, and its length; or nothing.
     Where living_at(u64 start) const;
-    Where at(u64 address);
+    Where at(u64 address) {
+        u64 page = address >> PAGE_BITS;
+        const Whole &whole = pages[page % WHOLE_PAGES];
+        bool is_known = whole.page == page && whole.thing != NOTHING && whole.age == ages[page % PAGES];
+        return is_known ? Where{whole.thing, address - whole.start} : found_at(address);
+    }
     // What is no memory: one of so many of a kind.
     Thing named(int kind, u64 number);
     // The name of a thing and an offset in bytes.
@@ -50,6 +55,8 @@ public:
     // The name of so many bytes at a place as the source has it. Empty if it is not known.
     std::string source_name(Thing thing, u64 place, u64 size);
     size_t blocks() const { return names.size(); }
+    // Whether some thing is an activation of a function.
+    bool has_activations() const { return !activations.empty(); }
     // The code of the function whose activation a thing is, and its thread; nothing if it is none.
     const Activation *activation_of(Thing thing) const;
     // A block is written by the thread that allocated it: the first such write may be that of a constructor.
@@ -106,6 +113,7 @@ private:
     Thing same_frame(const record &one) const;
     u64 place_in(Thing thing, u64 start, u64 address) const;
     void changed(u64 start, u64 end);
+    Where found_at(u64 address);
     Where searched(u64 address);
     void find_whole(u64 page, Whole &to) const;
     u32 site_at(const places::Key &key);

@@ -35,6 +35,7 @@ void Cuts::find_step() {
     for (size_t k = 2; k < ends.size(); k++)
         if (ends[k] - ends[k - 1] != each) return;
     step = each;
+    if ((step & (step - 1)) == 0) shift = static_cast<u64>(__builtin_ctzll(step));
 }
 
 size_t Cuts::search(u64 place) const {

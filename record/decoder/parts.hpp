@@ -64,14 +64,16 @@ private:
     // The first part that begins at a place or behind it.
     size_t from(u64 place) const {
         if (!step || place < ends[0] || place > ends.back()) return search(place);
-        return (place - ends[0] + step - 1) / step;
+        u64 behind = place - ends[0] + step - 1;
+        return shift < BITS ? behind >> shift : behind / step;
     }
     size_t search(u64 place) const;
     std::vector<u64> ends;
     // A bit for each end below MARKED, until they are settled.
     std::vector<u64> marks;
     size_t settled = 0;
-    u64 step = 0;
+    // How many bytes each part has if all have as many, and its binary logarithm if it is a power of two.
+    u64 step = 0, shift = BITS;
 };
 
 // An access of more parts than this may give its first ones only, if all accesses have more parts beyond than there is

@@ -77,6 +77,7 @@ void Trace::find_users() {
         file.pass(number);
         if (!raw::File::happened(one)) continue;
         has_threads |= one.thread || one.kind == FORK;
+        if (is_plain(one)) continue;
         if (one.of) users[key_of(one)].see(one.thread, true);
         forks.see(number, one);
         relaxed.see(one);
@@ -89,6 +90,7 @@ void Trace::find_shared() {
         if (!of.there()) return;
         if (is_access(one)) seen[of.thing].see(one.thread, is_write(one));
         if (one.kind == WRITE && !options.raw_names) things.see_write(of.thing, one);
+        if (is_plain(one) && one.order != MADE) return;
         bool is_made = one.kind == WRITE && one.order == MADE;
         if (is_made || is_synchronization(one.kind)) locks[{of.thing, of.place}].see(one);
         if (!is_use(one)) return;
@@ -109,7 +111,7 @@ void Trace::find_lives() {
 
 // What a record accesses: an access itself, or the first byte of a lock.
 Resolved Trace::access_of(const record &one, const Resolved &of) const {
-    if (!of.there() || is_access(one)) return of;
+    if (is_plain(one) || !of.there() || is_access(one)) return of;
     bool reads = is_use(one) && lives.has_reads(of.thing, of.place);
     return reads ? Resolved{of.thing, of.place, 1} : Resolved{};
 }
@@ -166,9 +168,14 @@ bool Trace::gives_more_parts() {
     return true;
 }
 
+places::Key &Trace::last_place(u16 thread) {
+    if (thread >= last_places.size()) last_places.resize(thread + 1u);
+    return last_places[thread];
+}
+
 // A place in a frame is used by its function, which is at the record, at a call that led to it, or where it was last.
 void Trace::see_use(const record &one, const objects::Activation &frame, objects::Thing thing, u64 place) {
-    auto &last = last_places[frame.thread];
+    places::Key &last = last_place(frame.thread);
     u64 pc = one.thread == frame.thread ? one.pc : last.pc;
     u32 node = one.thread == frame.thread ? one.stack : last.call;
     while (node && file.call(node).body != frame.body) {
@@ -181,31 +188,36 @@ void Trace::see_use(const record &one, const objects::Activation &frame, objects
 void Trace::see_parts() {
     leaving.clear(kept.size());
     pages.clear(kept.size());
-    each([this](size_t, const record &one, const Resolved &whole) {
-        if (one.kind != FRAME) last_places[one.thread] = {one.pc, one.stack};
-        if (whole.there() && is_synchronization(one.kind) && !one.of)
+    bool has_frames = things.has_activations();
+    each([this, has_frames](size_t, const record &one, const Resolved &whole) {
+        if (has_frames && one.kind != FRAME) last_place(one.thread) = {one.pc, one.stack};
+        if (has_frames && whole.there() && is_synchronization(one.kind) && !one.of)
             if (auto frame = things.activation_of(whole.thing)) see_use(one, *frame, whole.thing, whole.place);
         leaving.see(one);
         Resolved of = access_of(one, whole);
-        if (!of.there()) return;
-        const parts::Cuts &ends = cuts[cuts_of[of.thing]];
-        parts::Span span = span_of(of);
-        bool writes = is_access(one) && is_write(one);
-        if (span.end < span.to) {
-            counts.cut_short = most_parts;
-            counts.cut_accesses++;
-            for (size_t k = 0; k < beyond.size(); k++)
-                beyond[k] += std::min(span.to - span.from, parts::MORE_PARTS[k]) - parts::MOST_PARTS;
-        }
-        for (size_t part = ends.first + span.from; part < ends.first + span.end; part++) {
-            kept[part].see(one.thread, writes);
-            if (is_atomic(one.kind)) leaving.keep(part);
-            else leaving.see_access(part, one.thread, writes);
-            pages.see(part, one.at + ends.at(part - ends.first) - of.place);
-        }
-        auto frame = span.from < span.end ? things.activation_of(of.thing) : nullptr;
-        for (size_t part = span.from; frame && part < span.end; part++) see_use(one, *frame, of.thing, ends.at(part));
+        if (of.there() && cuts_of[of.thing]) see_parts_of(one, of);
     });
+}
+
+void Trace::see_parts_of(const record &one, const Resolved &of) {
+    const parts::Cuts &ends = cuts[cuts_of[of.thing]];
+    parts::Span span = span_of(of);
+    bool writes = is_access(one) && is_write(one);
+    if (span.end < span.to) {
+        counts.cut_short = most_parts;
+        counts.cut_accesses++;
+        for (size_t k = 0; k < beyond.size(); k++)
+            beyond[k] += std::min(span.to - span.from, parts::MORE_PARTS[k]) - parts::MOST_PARTS;
+    }
+    for (size_t part = ends.first + span.from; part < ends.first + span.end; part++) {
+        if (!kept[part].any) pages.see(part, one.at + ends.at(part - ends.first) - of.place);
+        kept[part].see(one.thread, writes);
+        if (is_atomic(one.kind)) leaving.keep(part);
+        else leaving.see_access(part, one.thread, writes);
+    }
+    if (!things.has_activations() || span.from == span.end) return;
+    auto frame = things.activation_of(of.thing);
+    for (size_t part = span.from; frame && part < span.end; part++) see_use(one, *frame, of.thing, ends.at(part));
 }
 
 // Things with a part that is written or with a lock have numbers in the order in which they began.

@@ -123,6 +123,8 @@ struct Line {
     u16 thread;
 };
 
+// Whether it is a read or write of memory that is no atomic one, as nearly all records are.
+inline bool is_plain(const record &one) { return !one.of && (one.kind == READ || one.kind == WRITE); }
 bool is_access(const record &one);
 bool is_atomic(int kind);
 bool is_synchronization(int kind);
@@ -145,6 +147,12 @@ public:
 private:
     template <class Do> void each(Do what);
     template <class Do> void each_written(Do what);
+    // What a record is of.
+    Resolved of_record(const record &one) {
+        if (!is_plain(one)) return resolve(one);
+        objects::Where where = things.at(one.at);
+        return {where.thing, where.place, one.size};
+    }
     Resolved resolve(const record &one);
     void find_users();
     void find_shared();
@@ -153,6 +161,8 @@ private:
     void find_cuts();
     bool gives_more_parts();
     void see_parts();
+    void see_parts_of(const record &one, const Resolved &of);
+    places::Key &last_place(u16 thread);
     void see_use(const record &one, const objects::Activation &frame, objects::Thing thing, u64 place);
     void number_things();
     void find_kept();
@@ -205,7 +215,7 @@ private:
     parts::Spans spans;
     std::unordered_map<Lock, LockSeen, LockHash> locks;
     // Where each thread was at its last record.
-    std::unordered_map<u16, places::Key> last_places;
+    std::vector<places::Key> last_places;
     // Locations of frees, of locks by a try, and of all other records.
     std::unordered_map<places::Key, std::string, places::KeyHash> free_locations, try_locations, locations;
     std::unordered_map<places::Key, bool, places::KeyHash> chosen_places;
@@ -236,7 +246,7 @@ template <class Do> void Trace::each(Do what) {
     things.restart();
     for (size_t number = 0; number < file.records(); number++) {
         const record &one = file.at(number);
-        if (raw::File::happened(one)) what(number, one, resolve(one));
+        if (raw::File::happened(one)) what(number, one, of_record(one));
         file.pass(number);
     }
 }
@@ -246,9 +256,8 @@ template <class Do> void Trace::each_written(Do what) {
     things.restart();
     for (size_t number = 0; number < file.records(); number++) {
         const record &one = file.at(number);
-        bool is_plain = !one.of && (one.kind == READ || one.kind == WRITE);
-        if (raw::File::happened(one) && (!is_plain || pages.may_have(one.at, one.size)))
-            what(number, one, resolve(one));
+        if (raw::File::happened(one) && (!is_plain(one) || pages.may_have(one.at, one.size)))
+            what(number, one, of_record(one));
         file.pass(number);
     }
 }
