@@ -16,6 +16,7 @@
 #include "forks.cpp"
 #include "moments.cpp"
 #include "leaving.cpp"
+#include "lines.cpp"
 #include "polls.cpp"
 #include "ordered.cpp"
 #include "releases.cpp"

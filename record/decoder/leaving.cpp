@@ -53,7 +53,9 @@ void Leaving::clear(size_t count) {
 }
 
 // A write that comes after the last write and all reads since comes after all earlier ones too.
-void Leaving::judge(Part &seen, u16 thread, bool writes) {
+void Leaving::see_access(size_t part, u16 thread, bool writes) {
+    Part &seen = parts[part];
+    if (seen.stays) return;
     seen.stays =
         (seen.write && !order.is_before(seen.write, thread)) || (writes && !sets.are_before(seen.reads, order, thread));
     if (writes) seen.write = order.now(thread), seen.reads = 0;

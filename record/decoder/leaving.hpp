@@ -54,15 +54,18 @@ public:
     void see(const record &one) {
         if (one.kind == FORK || one.kind == JOIN) order.see(one);
     }
-    // An access of the moment and of the kind that the last one had changes nothing.
-    void see_access(size_t part, u16 thread, bool writes) {
+    // Counts an access that is no atomic one. Whether it has the thread, the moment and the kind that the last one had:
+    // then it changes nothing.
+    bool is_as_before(size_t part, u16 thread, bool writes) {
         Part &seen = parts[part];
         Moment now = order.now(thread);
         seen.accesses++;
-        if (seen.last == now && seen.last_writes == writes) return;
+        if (seen.last == now && seen.last_writes == writes) return true;
         seen.last = now, seen.last_writes = writes;
-        if (!seen.stays) judge(seen, thread, writes);
+        return false;
     }
+    // Judges an access that is not as before.
+    void see_access(size_t part, u16 thread, bool writes);
     // Atomic accesses order other events, so the part stays.
     void keep(size_t part) { parts[part].stays = true; }
     bool is_left_out(size_t part) const { return !parts[part].stays; }
@@ -78,7 +81,6 @@ private:
         bool stays = false, last_writes = false;
         u64 accesses = 0;
     };
-    void judge(Part &seen, u16 thread, bool writes);
     moments::Moments order;
     Sets sets;
     std::vector<Part> parts;

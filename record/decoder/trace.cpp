@@ -202,7 +202,7 @@ void Trace::see_parts() {
 void Trace::see_parts_of(const record &one, const Resolved &of) {
     const parts::Cuts &ends = cuts[cuts_of[of.thing]];
     parts::Span span = span_of(of);
-    bool writes = is_access(one) && is_write(one);
+    bool writes = is_access(one) && is_write(one), atomic = is_atomic(one.kind);
     if (span.end < span.to) {
         counts.cut_short = most_parts;
         counts.cut_accesses++;
@@ -210,9 +210,10 @@ void Trace::see_parts_of(const record &one, const Resolved &of) {
             beyond[k] += std::min(span.to - span.from, parts::MORE_PARTS[k]) - parts::MOST_PARTS;
     }
     for (size_t part = ends.first + span.from; part < ends.first + span.end; part++) {
+        if (!atomic && leaving.is_as_before(part, one.thread, writes)) continue;
         if (!kept[part].any) pages.see(part, one.at + ends.at(part - ends.first) - of.place);
         kept[part].see(one.thread, writes);
-        if (is_atomic(one.kind)) leaving.keep(part);
+        if (atomic) leaving.keep(part);
         else leaving.see_access(part, one.thread, writes);
     }
     if (!things.has_activations() || span.from == span.end) return;

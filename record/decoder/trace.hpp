@@ -12,6 +12,7 @@
 #include "deadlocks.hpp"
 #include "forks.hpp"
 #include "leaving.hpp"
+#include "lines.hpp"
 #include "lives.hpp"
 #include "losses.hpp"
 #include "names.hpp"
@@ -189,11 +190,13 @@ private:
     std::string name_of(const Operation &operation);
     u64 size_at(objects::Thing thing, u64 place);
     const std::string &location(const record &one);
+    std::string text_of(const record &one, const Operation &operation);
     Line line_of(const record &one, size_t number, const Operation &operation);
+    void write_operation(const record &one, size_t number, const Operation &operation);
     void write_record(const record &one, size_t number);
     void pass_by(const record &one, size_t number, const Operation &operation);
     void open();
-    void write_line(const Line &line);
+    void write_text(const std::string &text, u64 number);
     bool fits(u16 thread, u64 other);
     void write_mark(const std::string &line);
     void see_deadlock(const record &one, size_t number, const Resolved &of);
@@ -221,6 +224,8 @@ private:
     std::unordered_map<places::Key, bool, places::KeyHash> chosen_places;
     // The threads of the events that are written, and whether there is a second thread in the recording.
     std::unordered_set<u64> threads;
+    u64 last_fitting = NO_LIMIT;
+    lines::Lines known_lines;
     bool has_threads = false, has_uses = false;
     Operations operations;
     std::vector<size_t> written_parts;

@@ -9,25 +9,39 @@ namespace trace {
 // Whether an event of these threads is within the limits of a trace.
 bool Trace::fits(u16 thread, u64 other) {
     if (counts.left_out || counts.written >= options.most) return false;
+    if (thread == other && thread == last_fitting) return true;
     threads.insert(thread);
     threads.insert(other);
     if (threads.size() > MOST_THREADS && options.most != NO_LIMIT) counts.too_many_threads = true;
+    else last_fitting = thread;
     return !counts.too_many_threads;
 }
 
-Line Trace::line_of(const record &one, size_t number, const Operation &operation) {
+std::string Trace::text_of(const record &one, const Operation &operation) {
     std::string text =
         "T" + std::to_string(one.thread) + "|" + operation.word + "(" + text::fitting(name_of(operation)) + ")|";
     text += location(one);
     text += '\n';
-    return {text, counts.before, number, one.kind == FORK || one.kind == JOIN ? one.at : one.thread, one.thread};
+    return text;
 }
 
-void Trace::write_line(const Line &line) {
-    fwrite(line.text.data(), 1, line.text.size(), out);
-    counts.bytes += line.text.size();
-    if (numbers) fwrite(&line.record, sizeof line.record, 1, numbers);
+Line Trace::line_of(const record &one, size_t number, const Operation &operation) {
+    u64 other = one.kind == FORK || one.kind == JOIN ? one.at : one.thread;
+    return {text_of(one, operation), counts.before, number, other, one.thread};
+}
+
+void Trace::write_text(const std::string &text, u64 number) {
+    fwrite(text.data(), 1, text.size(), out);
+    counts.bytes += text.size();
+    if (numbers) fwrite(&number, sizeof number, 1, numbers);
     counts.written++;
+}
+
+void Trace::write_operation(const record &one, size_t number, const Operation &operation) {
+    if (operation.meeting || is_try(one)) return write_text(text_of(one, operation), number);
+    std::string &text = known_lines.text_of(one, operation);
+    if (text.empty()) text = text_of(one, operation);
+    write_text(text, number);
 }
 
 // An event that is not written, since it comes before the first one that is.
@@ -48,7 +62,7 @@ void Trace::open() {
     for (auto &lock : held) lines.insert(lines.end(), lock.second.begin(), lock.second.end());
     std::sort(lines.begin(), lines.end(), [](const Line &a, const Line &b) { return a.event < b.event; });
     for (const Line &line : lines) {
-        if (fits(line.thread, line.other)) write_line(line);
+        if (fits(line.thread, line.other)) write_text(line.text, line.record);
         else counts.left_out++;
     }
     held.clear();
@@ -59,7 +73,7 @@ void Trace::write_record(const record &one, size_t number) {
     if (!is_open && !operations.empty() && counts.before >= options.first) open();
     for (const Operation &operation : operations) {
         if (!is_open) pass_by(one, number, operation);
-        else if (fits(one.thread, other)) write_line(line_of(one, number, operation));
+        else if (fits(one.thread, other)) write_operation(one, number, operation);
         else counts.left_out++;
     }
 }
