@@ -2,8 +2,9 @@
 
 import re
 
+from .messages import Cause
 from .sheet import Sheet
-from .text import Told, clean
+from .text import clean
 
 NOT_FORKED, WRONG_WRITER, LOCK_HELD, JOIN_EARLY = "23", "24", "25", "26"
 WRITERS = re.compile(r"24 wrong writer needs (\S+) has (\S+)\Z")
@@ -16,7 +17,7 @@ class Causes:
         self.sheet, self.trace = sheet, sheet.trace
         self.releases: dict[tuple[int, int], int | None] = {}
 
-    def told(self, event: int, said: str) -> Told:
+    def told(self, event: int, said: str) -> Cause:
         """What the program said of this event, as `25 lock held by T2`, for the browser."""
         code = said.split(" ", 1)[0]
         about = {
@@ -25,50 +26,51 @@ class Causes:
             LOCK_HELD: self._lock_held,
             JOIN_EARLY: self._join_early,
         }.get(code)
-        answer: Told = {"said": clean(said), "code": code, **(about(event, said) if about else {})}
+        answer: Cause = {"said": clean(said), "code": code}
+        if about:
+            about(answer, event, said)
         if "help" in answer:
             helper = self.trace.thread[answer["help"]]
             answer["helper"] = helper
             answer["steps"] = self.trace.index(answer["help"]) - self.sheet.counts[helper] + 1
         return answer
 
-    def _not_forked(self, event: int, said: str) -> Told:
+    def _not_forked(self, answer: Cause, event: int, said: str) -> None:
         fork = self.trace.fork_of[self.trace.thread[event]]
-        return {"about": self.trace.told(fork), "help": fork}
+        answer["about"], answer["help"] = self.trace.told(fork), fork
 
-    def _wrong_writer(self, event: int, said: str) -> Told:
+    def _wrong_writer(self, answer: Cause, event: int, said: str) -> None:
         found = WRITERS.match(said)
         needs, has = (None if word == "none" else int(word) for word in found.groups()) if found else (None, None)
-        answer: Told = {"has": None if has is None else self.trace.told(has)}
+        answer["has"] = None if has is None else self.trace.told(has)
         if needs is not None:
             answer["about"] = self.trace.told(needs)
             if self.sheet.position[needs] < 0:
                 answer["help"] = needs
-        return answer
 
-    def _lock_held(self, event: int, said: str) -> Told:
+    def _lock_held(self, answer: Cause, event: int, said: str) -> None:
         lock = self.trace.name[event]
         section = self.sheet.sections.held.get(lock)
         if not section:
-            return {}
+            return
         key = (section.thread, lock)
         if key not in self.releases:
             position = self.sheet.counts[section.thread]
             self.releases[key] = self.trace.release_after(section.thread, lock, position, section.depth)
-        answer: Told = {"about": self.trace.told(self.sheet.events[section.begin])}
+        answer["about"] = self.trace.told(self.sheet.events[section.begin])
         release = self.releases[key]
-        return answer if release is None else {**answer, "help": release}
+        if release is not None:
+            answer["help"] = release
 
-    def _join_early(self, event: int, said: str) -> Told:
+    def _join_early(self, answer: Cause, event: int, said: str) -> None:
         joined = self.trace.name[event]
         events = self.trace.events_of[joined]
         left = len(events) - self.sheet.counts[joined]
-        answer: Told = {"left": left, "joined": self.trace.threads.text(joined)}
+        answer["left"], answer["joined"] = left, self.trace.threads.text(joined)
         if left:
             answer["help"] = events[-1]
         elif joined in self.trace.fork_of:
             answer["help"] = self.trace.fork_of[joined]
-        return answer
 
 
 def dependent(sheet: Sheet, event: int, other: int) -> str:

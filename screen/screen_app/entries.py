@@ -1,6 +1,6 @@
 """Entries of the log, and how they are told to the browser."""
 
-from .text import Told
+from . import messages
 from .trace import Trace
 
 # Words of an entry that are longer are cut for the browser.
@@ -37,11 +37,11 @@ def schedule_of(part: list[str]) -> str:
     return part[3] if part[0] == "branch" else part[1]
 
 
-def told_batch(entry: Entry, trace: Trace) -> Told:
+def tell_batch(told: messages.Entry, entry: Entry, trace: Trace) -> None:
     parts = entry.parts()
     words = {part[0] for part in parts}
     is_of_one = len(set(map(schedule_of, parts))) == 1
-    told: Told = {"n": len(parts), "name": schedule_of(parts[0])}
+    told["count"], told["name"] = len(parts), schedule_of(parts[0])
     if words == {"add"} and is_of_one:
         events = [int(part[2]) for part in parts]
         told["run"] = [events[0], events[-1]]
@@ -50,35 +50,36 @@ def told_batch(entry: Entry, trace: Trace) -> Told:
         told["took"] = int(parts[1][2])
     elif words == {"swap"} and is_of_one:
         told["swaps"] = True
-    return told
 
 
-def told_kind(entry: Entry, trace: Trace) -> Told:
-    """What the browser says of the entry, by its kind."""
+def tell_kind(told: messages.Entry, entry: Entry, trace: Trace) -> None:
+    """Adds what the browser says of the entry by its kind."""
     words = entry.words
     if entry.kind == "batch":
-        return told_batch(entry, trace)
-    if entry.kind == "propose":
-        return {"p": entry.proposal, "n": len(words) - 3, "pair": [int(words[1]), int(words[2])]}
-    if entry.kind == "undo":
-        return {"of": int(words[1])}
-    if entry.kind == "branch":
-        return {"name": words[3], "src": words[1], "at": int(words[2])}
-    if entry.kind == "add":
-        return {"name": words[1], "ev": trace.told(int(words[2]))}
-    return {"name": words[1], "at": int(words[2]) if len(words) > 2 else None}
+        tell_batch(told, entry, trace)
+    elif entry.kind == "propose":
+        told["proposal"], told["count"] = entry.proposal, len(words) - 3
+        told["pair"] = [int(words[1]), int(words[2])]
+    elif entry.kind == "undo":
+        told["of"] = int(words[1])
+    elif entry.kind == "branch":
+        told["name"], told["source"], told["at"] = words[3], words[1], int(words[2])
+    elif entry.kind == "add":
+        told["name"], told["event"] = words[1], trace.told(int(words[2]))
+    else:
+        told["name"], told["at"] = words[1], int(words[2]) if len(words) > 2 else None
 
 
-def told(entry: Entry, trace: Trace) -> Told:
+def told(entry: Entry, trace: Trace) -> messages.Entry:
     """An entry for the browser."""
     text = entry.text
-    answer = {
-        "i": entry.number,
-        "c": entry.client,
-        "k": entry.kind,
-        "w": text if len(text) <= LONG else text[:LONG] + " …",
-        **told_kind(entry, trace),
+    answer: messages.Entry = {
+        "number": entry.number,
+        "client": entry.client,
+        "kind": entry.kind,
+        "text": text if len(text) <= LONG else text[:LONG] + " …",
     }
+    tell_kind(answer, entry, trace)
     if entry.undone is not None:
-        answer["u"] = entry.undone
+        answer["undone_by"] = entry.undone
     return answer

@@ -1,14 +1,15 @@
 """What may come next in a schedule: each thread's next event, and what the program says of it."""
 
 from collections import Counter
-from typing import NamedTuple
+from typing import NamedTuple, cast
 
 from .bench import Bench
 from .causes import JOIN_EARLY, LOCK_HELD, NOT_FORKED, WRONG_WRITER, Causes
 from .checked import Mistake
+from .messages import Ahead, Frontier
+from .messages import Next as ToldNext
 from .session import Gone
 from .sheet import Sheet
-from .text import Told
 
 # How often a schedule is asked for again that others change meanwhile.
 TRIES = 6
@@ -24,7 +25,7 @@ class Next(NamedTuple):
     cause: str | None
 
 
-async def frontier(bench: Bench, name: str, aim: tuple[int, ...]) -> Told:
+async def frontier(bench: Bench, name: str, aim: tuple[int, ...]) -> Frontier:
     has_died = False
     for _ in range(TRIES):
         version = bench.row(name).version
@@ -41,16 +42,13 @@ async def frontier(bench: Bench, name: str, aim: tuple[int, ...]) -> Told:
     events, pairs = asked
     causes, needs = Causes(sheet), needed(bench, aim)
     own = {bench.trace.thread[event] for event in aim}
-    told = [
-        {
-            **thread_told(bench, sheet, one.event, needs, own),
-            **({"why": causes.told(one.event, one.cause)} if one.cause else {}),
-        }
-        for one in events
-    ]
+    told = []
+    for one in events:
+        told.append(thread_told(bench, sheet, one.event, needs, own))
+        if one.cause:
+            told[-1]["why"] = causes.told(one.event, one.cause)
     return {
         "name": name,
-        "version": version,
         "length": len(sheet),
         "next": told,
         "pairs": pairs,
@@ -107,11 +105,12 @@ def pairs_of(answer: str) -> list[list[int]]:
     return [list(map(int, pair.split("-"))) for pair in pairs]
 
 
-def thread_told(bench: Bench, sheet: Sheet, event: int, needs: dict[int, int], own: set[int]) -> Told:
+def thread_told(bench: Bench, sheet: Sheet, event: int, needs: dict[int, int], own: set[int]) -> ToldNext:
     """A thread's next event, how far it has come, and how far the aim needs it."""
     thread = bench.trace.thread[event]
     events, done = bench.trace.events_of[thread], sheet.counts[thread]
-    told = {**bench.trace.told(event), "left": len(events) - done, "done": done}
+    told = cast(ToldNext, bench.trace.told(event))
+    told["left"] = len(events) - done
     if thread in needs:
         told["aim"], told["own"] = needs[thread] - done, thread in own
         if needs[thread] > done:
@@ -131,7 +130,7 @@ def needed(bench: Bench, aim: tuple[int, ...]) -> dict[int, int]:
     return bench.needs[aim]
 
 
-def ahead(bench: Bench, name: str, thread: int, first: int, count: int) -> Told:
+def ahead(bench: Bench, name: str, thread: int, first: int, count: int) -> Ahead:
     """Events of a thread that the schedule does not have yet."""
     sheet, trace = bench.sheet(name), bench.trace
     if thread >= len(trace.events_of):

@@ -8,10 +8,10 @@ they are laid out anew at each change, and the sums of rows of all others are ke
 from bisect import bisect_right
 from collections import Counter
 from collections.abc import Iterator
-from typing import NamedTuple
+from typing import NamedTuple, cast
 
+from .messages import Lock, Row, View
 from .sheet import SHORT, Sheet
-from .text import Told
 from .trace import NONE, OPERATIONS, READ, WRITE
 
 # So many events at the end always stand single.
@@ -128,11 +128,11 @@ class Layout:
             used = sorted(used[: LANES - 1])
         return used
 
-    def window(self, first: int, count: int) -> Told:
+    def window(self, first: int, count: int) -> View:
         """So many rows from the first on, with the locks beside them."""
         first = max(0, min(first, self.total))
         last = min(self.total, first + count)
-        told: list[Told] = []
+        told: list[Row] = []
         for part in self.parts_from(first):
             if part.row >= last:
                 break
@@ -144,49 +144,49 @@ class Layout:
         locks = self._locks(told, first, last) if told else []
         return {"from": first, "rows": told, "total": self.total, "length": len(self.sheet), "locks": locks}
 
-    def _event(self, position: int) -> Told:
+    def _event(self, position: int) -> Row:
         sheet = self.sheet
         event = sheet.events[position]
-        told = sheet.trace.told(event)
-        told["p"] = position
+        told = cast(Row, sheet.trace.told(event))
+        told["position"] = position
         kind = sheet.trace.word[event] if sheet.trace.is_connected else NONE
         if kind == READ:
-            told["rf"] = sheet.seen(position)
+            told["writer"] = sheet.seen(position)
         elif kind == WRITE:
             found = sheet.readers(position, READERS + 1)
-            told["rd"] = found[:READERS]
+            told["readers"] = found[:READERS]
             if len(found) > READERS:
-                told["others"] = 1
+                told["more_readers"] = True
         if sheet.expanded and sheet.run_start[sheet.run_of(position)] in sheet.expanded:
-            told["x"] = 1
+            told["is_open"] = True
         return told
 
-    def _block(self, part: Part) -> Told:
+    def _block(self, part: Part) -> Row:
         sheet, trace = self.sheet, self.sheet.trace
         events = sheet.events[part.start : part.start + part.length]
         words = Counter(map(trace.word.__getitem__, events))
         return {
-            "b": part.length,
-            "p": part.start,
-            "t": trace.thread[events[0]],
-            "w": [words[kind] for kind in range(len(OPERATIONS))],
+            "size": part.length,
+            "position": part.start,
+            "thread": trace.thread[events[0]],
+            "operations": [words[kind] for kind in range(len(OPERATIONS))],
             "first": trace.told(events[0]),
             "last": trace.told(events[-1]),
         }
 
-    def _locks(self, told: list[Told], first: int, last: int) -> list[Told]:
+    def _locks(self, told: list[Row], first: int, last: int) -> list[Lock]:
         """The critical sections that meet these rows, from row to row of the window."""
         sheet = self.sheet
-        low, high = told[0]["p"], told[-1]["p"] + told[-1].get("b", 1) - 1
+        low, high = told[0]["position"], told[-1]["position"] + told[-1].get("size", 1) - 1
         return [
             {
-                "t": section.thread,
-                "n": sheet.trace.locks.text(section.lock),
+                "thread": section.thread,
+                "name": sheet.trace.locks.text(section.lock),
                 "lock": section.lock,
                 "from": self.row_of(section.begin) if section.begin >= low else first - 1,
                 "to": self.row_of(section.end) if section.end is not None and section.end <= high else last,
                 "open": section.end is None,
-                "e": sheet.events[section.begin],
+                "event": sheet.events[section.begin],
             }
             for section in sheet.sections.meeting(low, high)
         ]

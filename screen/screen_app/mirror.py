@@ -9,10 +9,9 @@ from __future__ import annotations
 import os
 from array import array
 
-from . import entries
+from . import entries, messages
 from .entries import Entry
 from .row import Row
-from .text import Told
 from .trace import Trace
 
 # The first line, which names the trace by a digest; behind it a byte is the gate of the next entry.
@@ -191,7 +190,7 @@ class Mirror:
 
     # For the browser.
 
-    def told_row(self, name: str) -> Told | None:
+    def told_row(self, name: str) -> messages.Schedule | None:
         row = self.rows.get(name)
         if row is None:
             return None
@@ -204,15 +203,15 @@ class Mirror:
             "touched": row.touched,
         }
 
-    def told_rows(self) -> list[Told | None]:
+    def told_rows(self) -> list[messages.Schedule | None]:
         return [self.told_row(name) for name in sorted(self.rows, key=lambda name: self.rows[name].birth)]
 
-    def take_changes(self) -> dict[str, Told | None]:
+    def take_changes(self) -> dict[str, messages.Schedule | None]:
         names, self.changed = list(self.changed), {}
         return {name: self.told_row(name) for name in names}
 
-    def told_proposals(self) -> list[Told]:
+    def told_proposals(self) -> list[messages.Entry]:
         return [told for number in self.proposed[-PROPOSALS:] for told in self.told(number, 1)]
 
-    def told(self, first: int, count: int) -> list[Told]:
+    def told(self, first: int, count: int) -> list[messages.Entry]:
         return [entries.told(entry, self.trace) for entry in self.entries[first : first + count]]

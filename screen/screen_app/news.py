@@ -4,7 +4,7 @@ import asyncio
 from collections import Counter
 
 from .entries import Entry, schedule_of
-from .text import Told
+from .messages import NewsLine
 
 # So many entries are counted before others get a turn, and so many counts are kept: one for each tab that looks.
 PORTION, KEPT = 200, 8
@@ -15,13 +15,14 @@ class Count:
 
     def __init__(self, first: int) -> None:
         self.upto = first
-        self.found: dict[tuple[int, str | None], Told] = {}
+        self.found: dict[tuple[int, str | None], NewsLine] = {}
 
     def take(self, entry: Entry) -> None:
         steps: list[tuple[str, str | None]] = [(part[0], schedule_of(part)) for part in entry.parts()]
         for (word, name), number in Counter(steps or [(entry.kind, None)]).items():
-            one = self.found.setdefault((entry.client, name), {"c": entry.client, "name": name, "last": 0})
-            one[word] = one.get(word, 0) + number
+            fresh: NewsLine = {"client": entry.client, "name": name, "last": 0, "counts": {}}
+            one = self.found.setdefault((entry.client, name), fresh)
+            one["counts"][word] = one["counts"].get(word, 0) + number
             one["last"] = entry.number
 
 
@@ -32,7 +33,7 @@ class News:
         self.client = client
         self.counts: dict[int, Count] = {}  # by their first entry
 
-    async def since(self, first: int, entries: list[Entry]) -> list[Told]:
+    async def since(self, first: int, entries: list[Entry]) -> list[NewsLine]:
         """Of the entries from the first on, the latest first."""
         count = self.counts.pop(first, None) or Count(first)
         self.counts[first] = count  # the last one used stands last
@@ -45,4 +46,4 @@ class News:
                 if entry.client != self.client:
                     count.take(entry)
             await asyncio.sleep(0)
-        return sorted(count.found.values(), key=lambda one: -int(one["last"]))
+        return sorted(count.found.values(), key=lambda one: -one["last"])

@@ -4,10 +4,10 @@ from __future__ import annotations
 
 import asyncio
 import json
+from collections.abc import Mapping
 
 from aiohttp import web
 
-from .text import Told
 
 # How long a browser has to take a message, in seconds, and how many may wait for that.
 SLOW, MOST = 60, 1_000
@@ -24,7 +24,7 @@ class Outlet:
         self.queue: asyncio.Queue[str] = asyncio.Queue(MOST)
         self.writing = asyncio.ensure_future(self._write())
 
-    def send(self, told: Told) -> None:
+    def send(self, told: Mapping[str, object]) -> None:
         try:
             self.queue.put_nowait(json.dumps(told, separators=(",", ":")))
         except asyncio.QueueFull:

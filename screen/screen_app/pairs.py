@@ -7,12 +7,14 @@ import json
 import sys
 from array import array
 from collections.abc import Callable
-from typing import Any
+from typing import Any, cast
 from weakref import WeakKeyDictionary
 
 from .bench import Bench
 from .checked import Mistake
 from .kept import Confirmed
+from .messages import Explanation, Witness
+from .messages import Races as ToldRaces
 from .session import Gone, Session, output, triage
 from .text import Told, clean
 
@@ -43,16 +45,18 @@ class Pairs:
     def is_asked(self) -> bool:
         return self.bench.questions and self.knows_witness
 
-    async def witness(self, pair: tuple[int, int], asker: object) -> Told:
+    async def witness(self, pair: tuple[int, int], asker: object) -> Witness:
         """The list that shows the pair, kept for views of it; what is said of the pair where there is none."""
         if pair[1] >= len(self.bench.trace):
             raise Mistake("no such event")
-        told: Told = {"pair": list(pair), "told": [self.bench.trace.told(event) for event in pair]}
+        told: Witness = {"pair": list(pair), "accesses": [self.bench.trace.told(event) for event in pair]}
         if pair not in self.bench.witnesses:
             none = await (self._ask(pair, asker) if self.is_asked else self._run(pair, asker))
             if none is not None:
-                return {**told, "none": clean(none)}
-        return {**told, "length": len(self.bench.witnesses[pair])}
+                told["none"] = clean(none)
+                return told
+        told["length"] = len(self.bench.witnesses[pair])
+        return told
 
     def _keep(self, pair: tuple[int, int], events: array[int]) -> None:
         kept = self.bench.witnesses
@@ -99,7 +103,7 @@ class Pairs:
         self._keep(pair, array("I", list(map(int, answer.split(" ")[2:]))))
         return None
 
-    async def explain(self, pair: tuple[int, int]) -> Told:
+    async def explain(self, pair: tuple[int, int]) -> Explanation:
         if pair not in self.explained:
             status, out, error = await output(self.bench.program, "explain", self.bench.trace.path, *map(str, pair))
             lines = (error.encode() if status else out).removesuffix(b"\n").split(b"\n")
@@ -168,15 +172,15 @@ class Races:
         self.blocks.append(json.dumps(block, separators=(",", ":")))
         self.hays.append(hay(block))
 
-    def window(self, text: str, kinds: list[str], first: int, count: int) -> Told:
+    def window(self, text: str, kinds: list[str], first: int, count: int) -> ToldRaces:
         if self.state["state"] != "found":
-            return {**self.state, "total": 0, "from": 0, "blocks": []}
+            return cast(ToldRaces, {**self.state, "total": 0, "from": 0, "blocks": []})
         words = text.lower().split()
         found = [
             at for at, kind in enumerate(self.kinds) if kind in kinds and all(word in self.hays[at] for word in words)
         ]
         blocks = [json.loads(self.blocks[at]) for at in found[first : first + count]]
-        return {**self.state, "total": len(found), "from": first, "blocks": blocks}
+        return cast(ToldRaces, {**self.state, "total": len(found), "from": first, "blocks": blocks})
 
 
 def hay(block: dict[str, Any]) -> str:

@@ -1,9 +1,9 @@
 """The requests of the page: each is checked, and answered by the bench."""
 
 import asyncio
-from collections.abc import Awaitable, Callable
+from collections.abc import Awaitable, Callable, Iterable, Mapping
 
-from . import frontier, steps
+from . import frontier, messages, steps
 from .bench import Bench
 from .checked import Mistake, counted, named, paired
 from .kept import Names, Seen
@@ -22,6 +22,11 @@ FARTHEST = 64
 MAPPED = 150
 
 
+def places_of(row: messages.Row) -> list[str]:
+    """The location of a row's event, or those of the two ends of a block."""
+    return [row["first"]["location"], row["last"]["location"]] if "size" in row else [row["location"]]
+
+
 class Requests:
     def __init__(self, bench: Bench, races: Races, pairs: Pairs, source: Source, seen: Seen, title: str) -> None:
         self.bench, self.races, self.pairs = bench, races, pairs
@@ -32,8 +37,8 @@ class Requests:
         self.news = News(bench.client)
         self.is_ready, self.is_greeted = asyncio.Event(), asyncio.Event()
 
-    async def answer(self, request: Told, asker: object) -> Told:
-        do: Callable[[Told], Awaitable[Told]] | None = getattr(self, f"do_{request.get('do')}", None)
+    async def answer(self, request: Told, asker: object) -> Mapping[str, object]:
+        do: Callable[[Told], Awaitable[Mapping[str, object]]] | None = getattr(self, f"do_{request.get('do')}", None)
         if do is None:
             raise Mistake("no such request")
         if request.get("do") != "races":
@@ -43,7 +48,7 @@ class Requests:
 
     # What stands where.
 
-    async def do_hello(self, request: Told) -> Told:
+    async def do_hello(self, request: Told) -> messages.Hello:
         self.is_greeted.set()
         trace, mirror = self.bench.trace, self.bench.mirror
         first = max(0, len(mirror.entries) - 200)
@@ -54,7 +59,7 @@ class Requests:
             "threads": [[trace.threads.text(number), len(own)] for number, own in enumerate(trace.events_of)],
             "variables": len(trace.variables.raw),
             "locks": len(trace.locks.raw),
-            "n": len(mirror.entries),
+            "log_length": len(mirror.entries),
             "seen": self.seen.read(mirror.digest),
             "rows": mirror.told_rows(),
             "feed": mirror.told(first, 200),
@@ -64,12 +69,12 @@ class Requests:
             "names": self.names.names,
         }
 
-    async def do_seen(self, request: Told) -> Told:
+    async def do_seen(self, request: Told) -> messages.Nothing:
         mirror = self.bench.mirror
-        self.seen.write(mirror.digest, counted(request["n"], len(mirror.entries)))
+        self.seen.write(mirror.digest, counted(request["log_length"], len(mirror.entries)))
         return {}
 
-    async def do_link(self, request: Told) -> Told:
+    async def do_link(self, request: Told) -> messages.Link:
         return {"link": self.link()}
 
     def _aim(self, request: Told) -> tuple[int, ...]:
@@ -80,60 +85,65 @@ class Requests:
         counted(pair[1], len(self.bench.trace) - 1)
         return pair
 
-    async def do_view(self, request: Told) -> Told:
+    async def do_view(self, request: Told) -> messages.View:
         """A window of rows: from a row on, at the end, or round a position that is to be seen."""
         sheet, row = self.bench.viewed(request["view"])
         aim, count = self._aim(request), min(counted(request["count"]), ROWS)
         if "toggle" in request and len(sheet):
             sheet.toggle(counted(request["toggle"], len(sheet) - 1))
         layout = self.bench.layout(sheet)
-        found: Told = {}
+        sought: int | None = None
         if "at" in request:
             at = min(counted(request["at"]), max(0, len(sheet) - 1))
-            found["row"] = layout.row_of(at) if len(sheet) else 0
-            first = max(0, found["row"] - count // 2)
+            sought = layout.row_of(at) if len(sheet) else 0
+            first = max(0, sought - count // 2)
         else:
             first = max(0, layout.total - count) if request["from"] is None else counted(request["from"])
         told = layout.window(first, count)
-        told["n"] = len(self.bench.mirror.entries)
+        told["log_length"] = len(self.bench.mirror.entries)
         told["lanes"] = layout.lanes({self.bench.trace.thread[event] for event in aim})
         told["counts"] = [[thread, made] for thread, made in enumerate(sheet.counts) if made]
         if layout.total > MAPPED:
             told["map"] = layout.overview()
             places = [sheet.position[event] for event in aim]
             told["aimed"] = [layout.row_of(place) for place in places if place >= 0]
+        if sought is not None:
+            told["row"] = sought
         if row:
             self._say_who(told["rows"], row)
-        return self._with_source({**told, **found}, told["rows"])
-
-    def _say_who(self, rows: list[Told], row: Row) -> None:
-        """Adds to each row of a window the latest entry that put an event there, and whose it is."""
-        for one in rows:
-            one["a"] = max(row.since[one["p"] : one["p"] + one.get("b", 1)])
-            one["by"] = self.bench.mirror.entries[one["a"]].client
-
-    def _with_source(self, told: Told, events: list[Told]) -> Told:
-        """Adds the source lines of events, and of the two ends of blocks."""
         if self.source.folder:
-            ends = [end for one in events for end in ((one["first"], one["last"]) if "b" in one else (one,))]
-            told["source"] = self.source.of_places({end["l"] for end in ends})
+            told["source"] = self.source.of_places({place for one in told["rows"] for place in places_of(one)})
         return told
 
-    async def do_frontier(self, request: Told) -> Told:
-        told = await frontier.frontier(self.bench, named(request["name"]), self._aim(request))
-        return self._with_source(told, told["next"])
+    def _say_who(self, rows: list[messages.Row], row: Row) -> None:
+        """Adds to each row of a window the latest entry that put an event there, and whose it is."""
+        for one in rows:
+            one["entry"] = max(row.since[one["position"] : one["position"] + one.get("size", 1)])
+            one["by"] = self.bench.mirror.entries[one["entry"]].client
 
-    async def do_ahead(self, request: Told) -> Told:
+    def _lines_of(self, events: Iterable[messages.Event]) -> dict[str, str]:
+        """The source lines of events, by location."""
+        return self.source.of_places({event["location"] for event in events})
+
+    async def do_frontier(self, request: Told) -> messages.Frontier:
+        told = await frontier.frontier(self.bench, named(request["name"]), self._aim(request))
+        if self.source.folder:
+            told["source"] = self._lines_of(told["next"])
+        return told
+
+    async def do_ahead(self, request: Told) -> messages.Ahead:
         thread, first, count = (counted(request[key]) for key in ("thread", "from", "count"))
         told = frontier.ahead(self.bench, named(request["name"]), thread, first, count)
-        return self._with_source(told, told["events"])
+        if self.source.folder:
+            told["source"] = self._lines_of(told["events"])
+        return told
 
-    async def do_source(self, request: Told) -> Told:
+    async def do_source(self, request: Told) -> messages.SourceLines:
         if not isinstance(request["place"], str):
             raise Mistake("no such place")
         return self.source.around(request["place"], counted(request["around"])) or {"none": True}
 
-    async def do_check(self, request: Told) -> Told:
+    async def do_check(self, request: Told) -> messages.Check:
         return {"same": await self.bench.check(named(request["name"]))}
 
     # Steps.
@@ -142,42 +152,42 @@ class Requests:
         """The schedule of a step, as the page showed it."""
         return Shown(self.bench, named(request["name"]), request.get("shown"))
 
-    async def do_add(self, request: Told) -> Told:
+    async def do_add(self, request: Told) -> messages.Step:
         return await steps.add(self.bench, named(request["name"]), counted(request["event"]))
 
-    async def do_back(self, request: Told) -> Told:
+    async def do_back(self, request: Told) -> messages.Step:
         return await steps.back(self._shown(request))
 
-    async def do_back_to(self, request: Told) -> Told:
+    async def do_back_to(self, request: Told) -> messages.Step:
         return await steps.back_to(self._shown(request), counted(request["length"]))
 
-    async def do_reach(self, request: Told) -> Told:
+    async def do_reach(self, request: Told) -> messages.Reach:
         """Whether the aim of the page can still be reached from the schedule."""
         return steps.reach(self.bench, named(request["name"]), self._aim(request))
 
-    async def do_new(self, request: Told) -> Told:
+    async def do_new(self, request: Told) -> messages.Step:
         return await steps.one(self.bench, f"new {named(request['name'])}")
 
-    async def do_drop(self, request: Told) -> Told:
+    async def do_drop(self, request: Told) -> messages.Step:
         return await steps.one(self.bench, f"drop {named(request['name'])}")
 
-    async def do_branch(self, request: Told) -> Told:
+    async def do_branch(self, request: Told) -> messages.Step:
         return await steps.branch(self._shown(request), counted(request["length"]), named(request["to"]))
 
-    async def do_adopt(self, request: Told) -> Told:
+    async def do_adopt(self, request: Told) -> messages.Step:
         return await steps.one(self.bench, f"adopt {named(request['name'])} {counted(request['proposal'])}")
 
-    async def do_propose(self, request: Told) -> Told:
+    async def do_propose(self, request: Told) -> messages.Step:
         sheet, _ = self.bench.viewed(request["view"])
         return await steps.propose(self.bench, paired(request["pair"]), sheet.events)
 
-    async def do_swap(self, request: Told) -> Told:
+    async def do_swap(self, request: Told) -> messages.Step:
         by = request["by"]
         if not isinstance(by, int) or abs(by) > FARTHEST:
             raise Mistake("no such move")
-        return await steps.move(self._shown(request), counted(request["p"]), by)
+        return await steps.move(self._shown(request), counted(request["position"]), by)
 
-    async def do_run(self, request: Told) -> Told:
+    async def do_run(self, request: Told) -> messages.Step:
         """Runs a thread until it must stop, or to an event, with it or up to it."""
         trace, until = self.bench.trace, request.get("until")
         if until is None:
@@ -191,35 +201,37 @@ class Requests:
             return await steps.run_to_aim(self.bench, named(request["name"]), until, self._aim(request))
         return await steps.Run(self.bench, named(request["name"])).to(thread, until)
 
-    async def do_undo(self, request: Told) -> Told:
+    async def do_undo(self, request: Told) -> messages.Step:
         entries = [counted(entry) for entry in request.get("entries") or []]
         return await steps.undo(self.bench, entries[:UNDONE])
 
-    async def do_enter(self, request: Told) -> Told:
+    async def do_enter(self, request: Told) -> messages.Step:
         sheet, _ = self.bench.viewed(request["view"])
         pair = request["view"].get("witness")
         return await steps.enter(self.bench, named(request["name"]), sheet.events[:], pair and paired(pair))
 
     # The log and the races.
 
-    async def do_feed(self, request: Told) -> Told:
+    async def do_feed(self, request: Told) -> messages.Feed:
         first, count = counted(request["from"]), min(counted(request["count"]), ENTRIES)
         return {"entries": self.bench.mirror.told(first, count)}
 
-    async def do_since(self, request: Told) -> Told:
+    async def do_since(self, request: Told) -> messages.News:
         return {"news": (await self.news.since(counted(request["from"]), self.bench.mirror.entries))[:NEWS]}
 
-    async def do_races(self, request: Told) -> Told:
+    async def do_races(self, request: Told) -> messages.Races:
         kinds = [kind for kind in request["kinds"] if isinstance(kind, str)]
         first, count = counted(request["from"]), min(counted(request["count"]), BLOCKS)
         return self.races.window(str(request.get("text") or ""), kinds, first, count)
 
-    async def do_witness(self, request: Told) -> Told:
+    async def do_witness(self, request: Told) -> messages.Witness:
         told = await self.pairs.witness(paired(request["pair"]), request["asker"])
-        return self._with_source(told, told["told"])
+        if self.source.folder:
+            told["source"] = self._lines_of(told["accesses"])
+        return told
 
-    async def do_pair(self, request: Told) -> Told:
-        return {"told": [self.bench.trace.told(event) for event in self._aim({"aim": request["pair"]})]}
+    async def do_pair(self, request: Told) -> messages.Accesses:
+        return {"accesses": [self.bench.trace.told(event) for event in self._aim({"aim": request["pair"]})]}
 
-    async def do_explain(self, request: Told) -> Told:
+    async def do_explain(self, request: Told) -> messages.Explanation:
         return await self.pairs.explain(paired(request["pair"]))

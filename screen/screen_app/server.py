@@ -5,7 +5,7 @@ import json
 import os
 import sys
 import traceback
-from collections.abc import Coroutine, Iterator
+from collections.abc import Coroutine, Iterator, Mapping
 from typing import Any
 
 from aiohttp import WSMsgType, web
@@ -14,6 +14,7 @@ from .bench import Bench
 from .checked import Mistake
 from .door import Door
 from .guard import Guard, guarded, put_headers
+from . import messages
 from .kept import Names, Original, Seen
 from .outlet import Outlet
 from .pairs import Pairs, Races
@@ -21,7 +22,7 @@ from .readers import Readers
 from .requests import Requests
 from .session import Gone
 from .source import Source
-from .text import Told, clean
+from .text import clean
 from .trace import CONNECTED
 
 STATIC = os.path.join(os.path.dirname(os.path.dirname(os.path.abspath(__file__))), "static")
@@ -54,6 +55,10 @@ def file_of(name: str) -> tuple[str, bytes]:
     """The type and the bytes of a file of the page. They are few, so they are read once."""
     with open(os.path.join(STATIC, name), "rb") as file:
         return TYPES[os.path.splitext(name)[1]], file.read()
+
+
+def mistaken(why: str) -> messages.Mistake:
+    return {"mistake": why}
 
 
 async def in_turn(work: Iterator[Any]) -> None:
@@ -157,7 +162,7 @@ class Server:
         finally:
             outlet.send({**answer, "id": number})
 
-    async def _outcome(self, text: str, outlet: Outlet) -> tuple[Any, Told]:
+    async def _outcome(self, text: str, outlet: Outlet) -> tuple[Any, Mapping[str, object]]:
         """The number of a request, and its answer."""
         number, known = None, len(self.bench.mirror.entries)
         self.used_until = asyncio.get_running_loop().time() + USED
@@ -166,15 +171,16 @@ class Server:
             number = request.get("id")
             return number, await self.requests.answer(request, outlet)
         except Gone as why:
-            return number, {"gone": clean(str(why)), "made": self._made_since(known)}
+            gone: messages.Gone = {"gone": clean(str(why)), "made": self._made_since(known)}
+            return number, gone
         except Mistake as why:
-            return number, {"mistake": clean(str(why))}
+            return number, mistaken(clean(str(why)))
         except BAD as why:
             print(f"screen: bad request {clean(text[:200])}: {why!r}", file=sys.stderr, flush=True)
-            return number, {"mistake": "bad request"}
+            return number, mistaken("bad request")
         except Exception as why:  # no request leads to this
             traceback.print_exc()
-            return number, {"mistake": clean(f"the screen failed: {why!r}")}
+            return number, mistaken(clean(f"the screen failed: {why!r}"))
 
     def _made_since(self, first: int) -> list[int]:
         """The entries of this analyst from one on: what a step made whose answer is lost."""
@@ -182,7 +188,7 @@ class Server:
         mirror.sync()
         return [entry.number for entry in mirror.entries[first:] if entry.client == self.bench.client]
 
-    def push(self, what: str, told: Told) -> None:
+    def push(self, what: str, told: Mapping[str, object]) -> None:
         for outlet in self.outlets:
             outlet.send({"push": what, **told})
 
@@ -194,7 +200,11 @@ class Server:
         if total != known:
             self.told_to = total
             first = max(known, total - PUSHED)
-            told: Told = {"n": total, "entries": mirror.told(first, total - first), "rows": mirror.take_changes()}
+            told: messages.LogPush = {
+                "log_length": total,
+                "entries": mirror.told(first, total - first),
+                "rows": mirror.take_changes(),
+            }
             if first > known:  # the page knows that it was not told all, and asks for what it shows of that
                 told["proposals"] = mirror.told_proposals()
             self.push("log", told)
@@ -208,7 +218,8 @@ class Server:
             if looks % SELDOM == 0 and await asyncio.to_thread(self.original.is_changed):
                 mirror.fault = "the trace was changed since screen began"
             if self.names.changed():
-                self.push("names", {"names": self.names.names})
+                named: messages.NamesPush = {"names": self.names.names}
+                self.push("names", named)
             if mirror.grew():
                 mirror.sync()
                 self._tell_changes()
@@ -216,7 +227,8 @@ class Server:
 
     def _say_fault(self, why: str) -> None:
         self.requests.fault = why
-        self.push("fault", {"why": why})
+        told: messages.FaultPush = {"why": why}
+        self.push("fault", told)
 
     async def compare_traces(self) -> None:
         """Whether the screen reads the trace as the program does: the log's first line has the program's digest.

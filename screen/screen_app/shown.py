@@ -2,12 +2,13 @@
 
 from __future__ import annotations
 
-from typing import Any
+from typing import Any, cast
 
 from .bench import ACCEPTED, Bench
 from .checked import counted
+from .messages import Changed, Step
 from .row import Row
-from .text import Told, clean
+from .text import clean
 
 # The most entries of its own that a page names.
 OWN = 4096
@@ -25,10 +26,10 @@ class Shown:
     def __init__(self, bench: Bench, name: str, told: Any) -> None:
         self.bench, self.name = bench, name
         bench.mirror.sync()
-        self.known = len(bench.mirror.entries) if told is None else counted(told["n"])
+        self.known = len(bench.mirror.entries) if told is None else counted(told["log_length"])
         self.own = set() if told is None else {counted(entry) for entry in told["own"][:OWN]}
         self.made: list[int] = []
-        self.other: Told = {}  # the entry of another that changed these events, and its client
+        self.other: Changed = {}  # the entry of another that changed these events, and its client
 
     async def say(self, line: str, low: int = -1, high: int | None = None) -> str:
         """The answer to a line that is about the events from one position up to another; about the last, if not told.
@@ -68,7 +69,7 @@ class Shown:
         if not others or (row.birth[0] not in others and self._is_same(row, number, own, (low, high))):
             return False
         found = changer(row, others, (low, high))
-        self.other = {"entry": found, "client": entries[found].client}
+        self.other = {"entry": found, "client": entries[found].client, "name": self.name}
         return True
 
     def _is_same(self, row: Row, number: int, own: set[int], span: tuple[int, int | None]) -> bool:
@@ -81,9 +82,11 @@ class Shown:
                 shown[change.at : change.at + len(change.old)] = change.new
         return shown[span[0] : span[1]] == now[span[0] : span[1]]
 
-    def told(self, answer: str, **more: Any) -> Told:
-        changed = {"changed": {**self.other, "name": self.name}} if self.other else {}
-        return {"answer": answer, "made": self.made, **changed, **more}
+    def told(self, answer: str, **more: object) -> Step:
+        step = cast(Step, {"answer": answer, "made": self.made, **more})
+        if self.other:
+            step["changed"] = self.other
+        return step
 
 
 def changer(row: Row, others: list[int], span: tuple[int, int | None]) -> int:

@@ -4,7 +4,8 @@ import os
 import re
 
 from .kept import bytes_of
-from .text import Told, clean
+from .messages import SourceLines
+from .text import clean
 
 PLACE = re.compile(r"\s*(.+?):(\d+)")
 # At most so many files are known, so many bytes of each are read, and so many files are kept.
@@ -62,7 +63,7 @@ class Source:
                 self.lines[path] = []
         return self.lines[path]
 
-    def around(self, place: str, count: int = 0) -> Told | None:
+    def around(self, place: str, count: int = 0) -> SourceLines | None:
         """Lines round a place as numbers and texts, and the file's name below the folder."""
         found = PLACE.match(place) if self.folder else None
         path = self._path(found[1]) if found else None

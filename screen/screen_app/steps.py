@@ -5,12 +5,14 @@ from __future__ import annotations
 import re
 from array import array
 from collections.abc import Sequence
+from typing import cast
 
 from .bench import Bench
 from .causes import Causes, dependent
+from .messages import Cause, Reach, Stay, Step, Stop
 from .reach import Bar, Loss, loss_of, reach_of
 from .shown import Shown
-from .text import Told, clean
+from .text import clean
 
 # The most commands of a batch; so many batches are written together.
 BATCH = 64
@@ -37,13 +39,13 @@ def adds(name: str, events: Sequence[int]) -> str:
     return "batch " + " ; ".join(f"add {name} {event}" for event in events)
 
 
-async def one(bench: Bench, line: str) -> Told:
+async def one(bench: Bench, line: str) -> Step:
     return {"answer": clean(await bench.say_one(line))}
 
 
-async def add(bench: Bench, name: str, event: int) -> Told:
+async def add(bench: Bench, name: str, event: int) -> Step:
     answer = await bench.say_one(f"add {name} {event}")
-    told: Told = {"answer": clean(answer)}
+    told: Step = {"answer": clean(answer)}
     if answer.startswith("refused 46 ") and event < len(bench.trace):
         told["why"] = Causes(bench.sheet(name)).told(event, answer.removeprefix("refused 46 "))
     return told
@@ -57,7 +59,7 @@ class Run:
         self.added = 0
         self.entries: list[int] = []
 
-    async def to(self, thread: int, until: int | None) -> Told:
+    async def to(self, thread: int, until: int | None) -> Step:
         events = self.bench.trace.events_of[thread]
         at = self.bench.sheet(self.name).counts[thread]
         wanted = len(events) if until is None else self.bench.trace.index(until) + 1
@@ -71,16 +73,18 @@ class Run:
                 self._count(part, answer)
                 at += len(part)
         told = self._told(f"{self.entries[-1]}: done" if self.entries else "nothing to add")
-        return {**told, "more": wanted - end} if end < wanted else told
+        if end < wanted:
+            told["more"] = wanted - end
+        return told
 
     def _count(self, part: Sequence[int], answer: str) -> None:
         self.added += len(part)
         self.entries.append(entry_of(answer))
 
-    def _told(self, answer: str) -> Told:
+    def _told(self, answer: str) -> Step:
         return {"added": self.added, "entries": self.entries, "answer": clean(answer)}
 
-    async def _stopped(self, part: Sequence[int], answer: str) -> Told:
+    async def _stopped(self, part: Sequence[int], answer: str) -> Step:
         """A batch was refused at one of its events: those before it are added, and the cause is told."""
         found = REFUSED_ADD.match(answer)
         if not found:
@@ -93,7 +97,14 @@ class Run:
             self._count(part[:good], more)
         event = part[good]
         why = Causes(self.bench.sheet(self.name)).told(event, found[2])
-        return {**self._told(answer), "stop": {**self.bench.trace.told(event), **why}}
+        told = self._told(answer)
+        told["stop"] = stop(self.bench, event, why)
+        return told
+
+
+def stop(bench: Bench, event: int, why: Cause) -> Stop:
+    """The event before which a run stops, and why."""
+    return cast(Stop, {**bench.trace.told(event), **why})
 
 
 def cut(events: array[int]) -> list[array[int]]:
@@ -105,7 +116,7 @@ def swaps(name: str, places: Sequence[int]) -> str:
     return line if len(places) == 1 else "batch " + line
 
 
-async def run_to_aim(bench: Bench, name: str, until: int, pair: tuple[int, ...]) -> Told:
+async def run_to_aim(bench: Bench, name: str, until: int, pair: tuple[int, ...]) -> Step:
     """Runs a thread to an event, and stops before one after which the aim can't be reached."""
     trace, aim = bench.trace, bench.aim(pair)
     thread, end = trace.thread[until], trace.index(until) + 1
@@ -120,21 +131,22 @@ async def run_to_aim(bench: Bench, name: str, until: int, pair: tuple[int, ...])
     told = await Run(bench, name).to(thread, events[done + count - 1]) if count else nothing_added()
     if told["added"] < count:
         return told
-    return {**told, "stop": {**trace.told(events[done + count]), **barred(bench, None if is_searched else bar)}}
+    told["stop"] = stop(bench, events[done + count], barred(bench, None if is_searched else bar))
+    return told
 
 
-def nothing_added() -> Told:
+def nothing_added() -> Step:
     return {"added": 0, "entries": [], "answer": "nothing to add"}
 
 
-def barred(bench: Bench, bar: Bar | None) -> Told:
+def barred(bench: Bench, bar: Bar | None) -> Cause:
     """Why a step would lead away from the aim: another event has to come first, or no way is found."""
     if bar is None:
         return {"code": "way", "said": "no way to the aim was found after it"}
     return {"code": "aim", "said": "the aim needs another event first", "about": bench.trace.told(bar.needed)}
 
 
-def reach(bench: Bench, name: str, pair: tuple[int, ...]) -> Told:
+def reach(bench: Bench, name: str, pair: tuple[int, ...]) -> Reach:
     """Whether the schedule can still grow to one that shows the aim; how long it was while it could."""
     aim = bench.aim(pair)
     sheet = bench.sheet(name)
@@ -142,14 +154,14 @@ def reach(bench: Bench, name: str, pair: tuple[int, ...]) -> Told:
     if lost is None:
         return {}
     about = {} if lost.bar is None else {key: bench.trace.told(event) for key, event in lost.bar._asdict().items()}
-    return {"lost": {"length": lost.length, "left": len(sheet) - lost.length, **about}}
+    return cast(Reach, {"lost": {"length": lost.length, "left": len(sheet) - lost.length, **about}})
 
 
-async def back(shown: Shown) -> Told:
+async def back(shown: Shown) -> Step:
     return shown.told(await shown.say(f"back {shown.name}"))
 
 
-async def back_to(shown: Shown, length: int) -> Told:
+async def back_to(shown: Shown, length: int) -> Step:
     """Takes events back until the schedule has this length, by batches."""
     count = len(shown.bench.sheet(shown.name)) - length
     if count <= 0:
@@ -169,11 +181,11 @@ def taken_back(name: str, count: int) -> str:
     return line if count == 1 else "batch " + line
 
 
-async def branch(shown: Shown, length: int, to: str) -> Told:
+async def branch(shown: Shown, length: int, to: str) -> Step:
     return shown.told(await shown.say(f"branch {shown.name} {length} {to}", 0, length))
 
 
-async def move(shown: Shown, position: int, by: int) -> Told:
+async def move(shown: Shown, position: int, by: int) -> Step:
     """Moves an event up or down by neighbours that change places, as far as that goes."""
     places = list(range(position - 1, position + by - 1, -1) if by < 0 else range(position, position + by))[:BATCH]
     if not places or min(places) < 0:
@@ -190,11 +202,10 @@ async def move(shown: Shown, position: int, by: int) -> Told:
         more = await shown.say(swaps(shown.name, places[:good]), *span)
         if shown.other or not is_done(more):
             return shown.told(more, moved=0)
-    stop = stays(shown.bench, shown.name, position, good if by > 0 else -good, by)
-    return shown.told(answer, moved=good, **stop)
+    return shown.told(answer, moved=good, **stays(shown.bench, shown.name, position, good if by > 0 else -good, by))
 
 
-def stays(bench: Bench, name: str, position: int, moved: int, by: int) -> Told:
+def stays(bench: Bench, name: str, position: int, moved: int, by: int) -> dict[str, Stay]:
     """Why an event that was moved so far goes no farther."""
     sheet = bench.sheet(name)
     here = position + moved
@@ -202,22 +213,22 @@ def stays(bench: Bench, name: str, position: int, moved: int, by: int) -> Told:
     if not (0 <= other < len(sheet) and 0 <= here < len(sheet)):
         return {}
     why = dependent(sheet, sheet.events[here], sheet.events[other])
-    return {"stop": {"p": min(here, other), "why": why, "with": sheet.trace.told(sheet.events[other])}}
+    return {"stop": {"position": min(here, other), "why": why, "with": sheet.trace.told(sheet.events[other])}}
 
 
-async def undo(bench: Bench, entries: list[int]) -> Told:
+async def undo(bench: Bench, entries: list[int]) -> Step:
     """Takes back these entries, newest first, under one lock; none named is the latest of this client."""
     answers = await bench.say(*[f"undo {entry}" for entry in entries] or ["undo"])
     failed = next((answer for answer in answers if ": undone" not in answer), None)
     made = [entry_of(answer) for answer in answers if ": undone" in answer]
-    told: Told = {"answer": failed or answers[-1], "undone": len(made), "made": made}
+    told: Step = {"answer": failed or answers[-1], "undone": len(made), "made": made}
     found = RESTS.match(failed or "")
     if found:
         told["rests"] = {"entry": bench.mirror.told(int(found[1]), 1)[0], "name": found[2]}
     return told
 
 
-async def enter(bench: Bench, name: str, events: array[int], pair: tuple[int, int] | None) -> Told:
+async def enter(bench: Bench, name: str, events: array[int], pair: tuple[int, int] | None) -> Step:
     """Makes a schedule of these events: a proposal that is adopted where its line is short enough, else batches."""
     line = f"propose {pair[0]} {pair[1]} " + " ".join(map(str, events)) if pair else ""
     if pair and len(line) <= LINE:
@@ -235,7 +246,7 @@ async def enter(bench: Bench, name: str, events: array[int], pair: tuple[int, in
     return {"answer": clean(answer), "entries": entries}
 
 
-async def propose(bench: Bench, pair: tuple[int, int], events: array[int]) -> Told:
+async def propose(bench: Bench, pair: tuple[int, int], events: array[int]) -> Step:
     line = f"propose {pair[0]} {pair[1]} " + " ".join(map(str, events))
     if len(line) > LINE:
         return {"answer": "not sent: the list is longer than a line of a script may be (65,536 bytes)"}

@@ -3,7 +3,7 @@
 import unicodedata
 from typing import Any
 
-# What goes to the browser: a dictionary that JSON can hold.
+# A dictionary of JSON that comes from outside: it may have any keys.
 Told = dict[str, Any]
 
 # Control, format (bidi), surrogate, private, unassigned, and the two separators of lines.

@@ -12,7 +12,7 @@ from collections.abc import Iterator
 from typing import NamedTuple
 
 from .reader import WORDS, Numbers, Reader
-from .text import Told
+from .messages import Event
 
 READ, WRITE, ACQUIRE, RELEASE, FORK, JOIN = range(6)
 OPERATIONS = ("r", "w", "acq", "rel", "fork", "join")
@@ -168,14 +168,14 @@ class Trace:
     def name_text(self, event: int) -> str:
         return self.names_of(self.word[event]).text(self.name[event])
 
-    def told(self, event: int) -> Told:
+    def told(self, event: int) -> Event:
         """An event for the browser."""
         return {
-            "e": event,
-            "t": self.thread[event],
-            "o": OPERATIONS[self.word[event]],
-            "n": self.name_text(event),
-            "l": self.places.text(self.place[event]),
+            "event": event,
+            "thread": self.thread[event],
+            "operation": OPERATIONS[self.word[event]],
+            "name": self.name_text(event),
+            "location": self.places.text(self.place[event]),
         }
 
     def readers(self, write: int) -> Iterator[int]:

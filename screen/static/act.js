@@ -58,8 +58,8 @@ export async function act(what, given) {
 // Makes a step that goes by positions. It is for the events that the page showed: what this page did since then is as
 // it was meant, but what others did is not.
 export async function actOn(shown, what, given) {
-  const { n, since = own.filter((entry) => entry >= n) } = shown;
-  const told = await act(what, { ...given, shown: { n, own: since } });
+  const { log_length: length, since = own.filter((entry) => entry >= length) } = shown;
+  const told = await act(what, { ...given, shown: { log_length: length, own: since } });
   if (told.changed) await Promise.all([sheet.refresh(false), frontier.load()]);
   return told;
 }
@@ -112,9 +112,10 @@ function outcome(what, told, given) {
 
 // Of a group some may be taken back.
 function rests(entry, undone) {
-  feed.jump(entry.i);
+  feed.jump(entry.number);
   return [undone ? `${tookBack(undone)}; ` : null, bad("not taken back: "), "entry ",
-    feed.link(entry.i), " of ", who(entry.c), " rests on it ", el("span", "dim", `(${entry.w.slice(0, 80)})`)];
+    feed.link(entry.number), " of ", who(entry.client), " rests on it ",
+    el("span", "dim", `(${entry.text.slice(0, 80)})`)];
 }
 
 // Another analyst changed what the step is about before the page showed it. Mostly the step was not made.
@@ -127,13 +128,13 @@ function changed({ entry, client, name, made, stays }) {
 
 // An event that may not come next.
 function refused(told, event) {
-  const one = frontier.current()?.next?.find((other) => other.e === event);
+  const one = frontier.current()?.next?.find((other) => other.event === event);
   return one ? [bad("refused: "), reason(told.why, one)] : bad(said(told.answer));
 }
 
 function ran(told) {
   const parts = [`added ${many(told.added, "event")}`];
-  if (told.stop) parts.push(el("span", "dim", ` · stopped before ${told.stop.e}: `), reason(told.stop, told.stop));
+  if (told.stop) parts.push(el("span", "dim", ` · stopped before ${told.stop.event}: `), reason(told.stop, told.stop));
   else if (isRefused(told)) parts.push(bad(` · ${said(told.answer)}`));
   if (told.more) parts.push(el("span", "dim", ` · ${count(told.more)} more to come: run again`));
   const [first, last] = [told.entries?.[0], told.entries?.at(-1)];

@@ -34,10 +34,11 @@ $("new").addEventListener("click", views.fresh);
 $("undo").addEventListener("click", () => later(undoLatest));
 
 function learn(told) {
-  for (const key of ["threads", "client", "title", "n", "source"]) state[key] = told[key];
+  for (const key of ["threads", "client", "title", "source"]) state[key] = told[key];
+  state.logLength = told.log_length;
   state.names = told.names ?? {};
   state.rows = new Map(told.rows.map((row) => [row.name, row]));
-  state.entries = new Map([...told.proposals, ...told.feed].map((entry) => [entry.i, entry]));
+  state.entries = new Map([...told.proposals, ...told.feed].map((entry) => [entry.number, entry]));
   document.title = `${told.title} · client ${told.client}`;
   $("title").textContent = told.title;
   const facts = [many(told.events, "event"), many(told.threads.length, "thread"), many(told.variables, "variable"),
@@ -111,16 +112,17 @@ on("names", (told) => {
 
 // Whether this page made a step at the end of the schedule, which is to be seen. A move stays where it is.
 function isStep(entry, name) {
-  const about = entry.k === "undo" ? state.entries.get(entry.of) : entry;
+  const about = entry.kind === "undo" ? state.entries.get(entry.of) : entry;
   const isElsewhere = about?.name !== undefined && about.name !== name;
-  const isMine = entry.c === state.client && isActing();
-  return isMine && !isElsewhere && !about?.swaps && !["swap", "propose"].includes(about?.k);
+  const isMine = entry.client === state.client && isActing();
+  return isMine && !isElsewhere && !about?.swaps && !["swap", "propose"].includes(about?.kind);
 }
 
 // The name of the schedule that came back, if an entry is this page's undo of a drop.
 function broughtBack(entry) {
-  const undone = entry.k === "undo" && entry.c === state.client && isActing() ? state.entries.get(entry.of) : null;
-  return undone?.k === "drop" ? undone.name : null;
+  const isMine = entry.client === state.client && isActing();
+  const undone = entry.kind === "undo" && isMine ? state.entries.get(entry.of) : null;
+  return undone?.kind === "drop" ? undone.name : null;
 }
 
 // What is drawn is asked for first, and the feed is drawn while the answer is under way.

@@ -7,7 +7,7 @@ const space = $("space");
 const edges = $("edges");
 
 export const rowAt = (win, position) =>
-  win.rows.findIndex((row) => row.p <= position && position < row.p + (row.b ?? 1));
+  win.rows.findIndex((row) => row.position <= position && position < row.position + (row.size ?? 1));
 
 export function clear() {
   edges.replaceChildren();
@@ -18,7 +18,7 @@ export function clear() {
 // One end of a line; a row outside the window stands at its edge.
 function end(win, position, row, outside) {
   const at = rowAt(win, position);
-  return at < 0 ? [axis(row.t), outside] : [axis(win.rows[at].t), (at + 0.5) * HEIGHT];
+  return at < 0 ? [axis(row.thread), outside] : [axis(win.rows[at].thread), (at + 0.5) * HEIGHT];
 }
 
 function path([x1, y1], [x2, y2]) {
@@ -29,9 +29,9 @@ function path([x1, y1], [x2, y2]) {
 
 export function show(win, position) {
   clear();
-  const row = win?.rows.find((one) => one.p === position && !one.b);
+  const row = win?.rows.find((one) => one.position === position && !one.size);
   if (!row) return;
-  const links = row.rf >= 0 ? [[row.rf, position]] : (row.rd ?? []).map((reader) => [position, reader]);
+  const links = row.writer >= 0 ? [[row.writer, position]] : (row.readers ?? []).map((reader) => [position, reader]);
   const height = win.rows.length * HEIGHT;
   edges.style.top = `${win.from * HEIGHT}px`;
   for (const [write, read] of links) {
@@ -45,8 +45,8 @@ export function show(win, position) {
 }
 
 function saying(row) {
-  if (row.rf === -1) return "reads the initial value";
-  if (row.rf !== undefined) return `reads the write at ${row.rf}`;
-  const others = row.others ? " and other positions" : "";
-  return row.rd?.length ? `is read at ${row.rd.join(", ")}${others}` : null;
+  if (row.writer === -1) return "reads the initial value";
+  if (row.writer !== undefined) return `reads the write at ${row.writer}`;
+  const others = row.more_readers ? " and other positions" : "";
+  return row.readers?.length ? `is read at ${row.readers.join(", ")}${others}` : null;
 }

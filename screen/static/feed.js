@@ -35,7 +35,7 @@ let looking = null;
 
 // What was news stays so if the connection comes back, and so does what was scrolled to.
 export function begin(seen) {
-  state.marked = Math.min((hasBegun ? state.marked : seen) ?? state.n, state.n);
+  state.marked = Math.min((hasBegun ? state.marked : seen) ?? state.logLength, state.logLength);
   hasBegun = true;
   keep();
   know(Math.max(0, until() - shown), until()).then(render);
@@ -44,37 +44,38 @@ export function begin(seen) {
 // How far this analyst has looked is kept by the server: a browser keeps nothing from one port to the next.
 function keep(isNow = false) {
   clearTimeout(keeping);
-  if (isNow) ask("seen", { n: state.n });
-  else keeping = setTimeout(() => ask("seen", { n: state.n }), LOOK);
+  if (isNow) ask("seen", { log_length: state.logLength });
+  else keeping = setTimeout(() => ask("seen", { log_length: state.logLength }), LOOK);
 }
 document.addEventListener("visibilitychange", () => (document.hidden ? keep(true) : render()));
 
 export function caughtUp() {
-  state.marked = state.n;
+  state.marked = state.logLength;
   keep();
   render();
   events.seen();
 }
 
-const isLive = (entry) => entry.u === undefined && entry.k !== "undo" && entry.k !== "propose";
-const addsOf = (entry) => (entry.k === "add" || entry.run ? "add" : entry.k === "back" ? "back" : null);
+const isLive = (entry) => entry.undone_by === undefined && entry.kind !== "undo" && entry.kind !== "propose";
+const addsOf = (entry) => (entry.kind === "add" || entry.run ? "add" : entry.kind === "back" ? "back" : null);
 
 // Whether an entry goes on with what the group did: neighbours that one analyst added to one schedule are one line.
 const goesOn = (group, entry) =>
-  addsOf(entry) && group?.adds === addsOf(entry) && group.c === entry.c && group.name === entry.name &&
-  group.dead === (entry.u !== undefined) && group.entries.at(-1).i + 1 === entry.i && entry.i !== state.marked;
+  addsOf(entry) && group?.adds === addsOf(entry) && group.client === entry.client && group.name === entry.name &&
+  group.dead === (entry.undone_by !== undefined) && group.entries.at(-1).number + 1 === entry.number &&
+  entry.number !== state.marked;
 
 function groups(list) {
   const made = [];
   for (const entry of list) {
-    const size = entry.n ?? 1;
+    const size = entry.count ?? 1;
     const last = made.at(-1);
     if (goesOn(last, entry)) {
       last.entries.push(entry);
       last.events += size;
     } else {
-      const dead = entry.u !== undefined;
-      made.push({ c: entry.c, name: entry.name, adds: addsOf(entry), entries: [entry], events: size, dead });
+      const dead = entry.undone_by !== undefined;
+      made.push({ client: entry.client, name: entry.name, adds: addsOf(entry), entries: [entry], events: size, dead });
     }
   }
   return made;
@@ -88,7 +89,7 @@ function nameLink(text) {
 }
 
 function proposalLink(entry) {
-  const made = linked(`p${entry.p}`, () => events.adopt(entry), "num");
+  const made = linked(`p${entry.proposal}`, () => events.adopt(entry), "num");
   made.title = "Adopt it";
   return made;
 }
@@ -98,8 +99,8 @@ function added(group) {
   if (group.adds === "back") {
     return [nameLink(entry.name), ` − ${group.events === 1 ? "its last event" : many(group.events, "event")}`];
   }
-  if (group.events === 1) return [nameLink(entry.name), " + ", entry.ev ? short(entry.ev) : entry.w];
-  const threads = [...new Set(group.entries.flatMap((one) => one.threads ?? one.ev.t))];
+  if (group.events === 1) return [nameLink(entry.name), " + ", entry.event ? short(entry.event) : entry.text];
+  const threads = [...new Set(group.entries.flatMap((one) => one.threads ?? one.event.thread))];
   return [nameLink(entry.name), ` + ${many(group.events, "event")} `,
     threads.slice(0, NAMED).map((thread) => [tag(thread), " "]),
     threads.length > NAMED ? el("span", "dim", `and ${count(threads.length - NAMED)} more`) : null];
@@ -108,21 +109,21 @@ function added(group) {
 const SENTENCES = {
   new: (entry) => ["made ", nameLink(entry.name)],
   swap: (entry) => [nameLink(entry.name), ` swapped ${entry.at} and ${entry.at + 1}`],
-  branch: (entry) => ["branched ", nameLink(entry.name), " from ", nameLink(entry.src),
+  branch: (entry) => ["branched ", nameLink(entry.name), " from ", nameLink(entry.source),
     el("span", "dim", ` at ${entry.at}`)],
   drop: (entry) => ["dropped ", nameLink(entry.name)],
   adopt: (entry) => [nameLink(entry.name), ` took proposal p${entry.at}`],
   undo: (entry) => ["took back ", link(entry.of)],
   propose: (entry) => ["proposed ", proposalLink(entry), " for ", el("span", "num", entry.pair.join("–")),
-    el("span", "dim", ` ${many(entry.n, "event")}`)],
+    el("span", "dim", ` ${many(entry.count, "event")}`)],
   batch: (entry) => {
     if (entry.took !== undefined) return ["made ", nameLink(entry.name), ` from proposal p${entry.took}`];
-    const did = entry.swaps ? `moved an event by ${entry.n}` : `batch of ${many(entry.n, "command")}`;
+    const did = entry.swaps ? `moved an event by ${entry.count}` : `batch of ${many(entry.count, "command")}`;
     return [nameLink(entry.name), " ", did];
   },
 };
 
-const sentence = (group) => (group.adds ? added(group) : SENTENCES[group.entries[0].k](group.entries[0]));
+const sentence = (group) => (group.adds ? added(group) : SENTENCES[group.entries[0].kind](group.entries[0]));
 
 export function link(number) {
   return linked(String(number), () => {
@@ -135,33 +136,35 @@ export function link(number) {
 export async function jump(number) {
   flashed = number;
   const first = Math.max(0, number - BEFORE);
-  if (state.n - first > MOST) [end, shown] = [number + BEHIND, BEHIND + BEFORE];
-  else [end, shown] = [null, Math.max(SHOWN, state.n - first)];
+  if (state.logLength - first > MOST) [end, shown] = [number + BEHIND, BEHIND + BEFORE];
+  else [end, shown] = [null, Math.max(SHOWN, state.logLength - first)];
   await know(first, until());
   render();
   $("feed").querySelector(".flash")?.scrollIntoView({ block: "center" });
 }
 
 function away() {
-  if (state.marked >= state.n) {
+  if (state.marked >= state.logLength) {
     $("away").hidden = true;
     return;
   }
   looking ??= setTimeout(async () => {
     const told = await ask("since", { from: state.marked });
     looking = null;
-    showNews(state.marked >= state.n ? [] : told.news ?? []);
+    showNews(state.marked >= state.logLength ? [] : told.news ?? []);
   }, GATHER);
 }
 
 function newsLine(one) {
+  const { counts } = one;
   const did = [
-    one.new || one.branch ? "made" : null, one.adopt ? "took a proposal" : null, one.add ? `+${count(one.add)}` : null,
-    one.back ? `−${count(one.back)}` : null, one.swap ? many(one.swap, "swap") : null,
-    one.undo ? `took back ${many(one.undo, "entry", "entries")}` : null,
-    one.propose ? many(one.propose, "proposal") : null, one.drop ? "dropped" : null,
+    counts.new || counts.branch ? "made" : null, counts.adopt ? "took a proposal" : null,
+    counts.add ? `+${count(counts.add)}` : null, counts.back ? `−${count(counts.back)}` : null,
+    counts.swap ? many(counts.swap, "swap") : null,
+    counts.undo ? `took back ${many(counts.undo, "entry", "entries")}` : null,
+    counts.propose ? many(counts.propose, "proposal") : null, counts.drop ? "dropped" : null,
   ];
-  const made = el("div", "away-line", who(one.c), " ", one.name ? el("span", "sched-name", one.name) : null, " ",
+  const made = el("div", "away-line", who(one.client), " ", one.name ? el("span", "sched-name", one.name) : null, " ",
     el("span", "news", did.filter(Boolean).join(", ")));
   made.title = one.name ?? "";
   return made;
@@ -176,29 +179,30 @@ function showNews(news) {
 }
 
 function groupLine(group) {
-  const [first, last] = [group.entries[0].i, group.entries.at(-1).i];
+  const [first, last] = [group.entries[0].number, group.entries.at(-1).number];
   const isFlashed = flashed !== null && first <= flashed && flashed <= last;
-  const isFresh = first >= state.marked && group.c !== state.client;
-  const sign = [last, group.dead && group.entries.map((entry) => entry.u), isFlashed, isFresh, clientName(group.c)];
+  const isFresh = first >= state.marked && group.client !== state.client;
+  const taken = group.dead && group.entries.map((entry) => entry.undone_by);
+  const sign = [last, taken, isFlashed, isFresh, clientName(group.client)];
   return part(`entry-${first}`, JSON.stringify(sign), () => drawn(group, first, last, isFlashed, isFresh));
 }
 
 function drawn(group, first, last, isFlashed, isFresh) {
-  const isMine = group.c === state.client && group.entries.every(isLive);
-  const entries = group.entries.map((entry) => entry.i).reverse();
+  const isMine = group.client === state.client && group.entries.every(isLive);
+  const entries = group.entries.map((entry) => entry.number).reverse();
   const classes = `${group.dead ? " dead" : ""}${isFlashed ? " flash" : ""}${isFresh ? " fresh" : ""}`;
   const numbers = first === last ? String(first) : `${first}–${last}`;
   const undo = isMine ? button("undo", "", () => later(() => events.act("undo", { entries })), "quiet") : null;
   undo?.setAttribute("aria-label", `undo ${numbers}`);
   const made = el("div", `entry${classes}`, el("span", "num dim at", numbers),
-    who(group.c), el("span", "did", sentence(group)), undo);
+    who(group.client), el("span", "did", sentence(group)), undo);
   made.setAttribute("role", "listitem");
-  const taken = group.dead ? `\ntaken back by entry ${group.entries[0].u}` : "";
-  made.title = entries.length === 1 ? group.entries[0].w + taken : many(entries.length, "entry", "entries");
+  const taken = group.dead ? `\ntaken back by entry ${group.entries[0].undone_by}` : "";
+  made.title = entries.length === 1 ? group.entries[0].text + taken : many(entries.length, "entry", "entries");
   return made;
 }
 
-const until = () => Math.min(end ?? state.n, state.n);
+const until = () => Math.min(end ?? state.logLength, state.logLength);
 
 // The entries that are shown, in rising order.
 function inSight() {
@@ -212,19 +216,21 @@ function inSight() {
 export function render() {
   schedules.render();
   away();
-  $("feed-count").textContent = state.n ? count(state.n) : "";
+  $("feed-count").textContent = state.logLength ? count(state.logLength) : "";
   const list = inSight();
   const made = [];
-  let isDivided = state.marked >= state.n || state.marked === 0;
+  let isDivided = state.marked >= state.logLength || state.marked === 0;
   for (const group of groups(list).reverse()) {
-    if (!isDivided && group.entries[0].i < state.marked && made.length) {
+    if (!isDivided && group.entries[0].number < state.marked && made.length) {
       made.push(part("divide", "", () => el("div", "divide", "seen")));
       isDivided = true;
     }
     made.push(groupLine(group));
   }
-  if (end !== null && end < state.n) made.unshift(part("newest", "", () => button("newest", "", newest, "plain")));
-  if (list.length && list[0].i > 0) made.push(part("older", "", () => button("older", "", older, "plain")));
+  if (end !== null && end < state.logLength) {
+    made.unshift(part("newest", "", () => button("newest", "", newest, "plain")));
+  }
+  if (list.length && list[0].number > 0) made.push(part("older", "", () => button("older", "", older, "plain")));
   fill($("feed"), made.length ? made : el("p", "empty", "Nothing has been done yet."));
 }
 
@@ -234,20 +240,20 @@ async function know(first, last) {
     if (state.entries.has(at)) continue;
     const told = await ask("feed", { from: at, count: Math.min(MORE, last - at) });
     if (!told.entries?.length) return;
-    for (const entry of told.entries) state.entries.set(entry.i, entry);
+    for (const entry of told.entries) state.entries.set(entry.number, entry);
   }
 }
 
 // Whether it is known that an entry was taken back.
-export const isDead = (number) => state.entries.get(number)?.u !== undefined;
+export const isDead = (number) => state.entries.get(number)?.undone_by !== undefined;
 
 // Whether this analyst made a live entry after another one, as far back as is looked for.
 export async function didAfter(number) {
-  const first = Math.max(number + 1, state.n - FAR);
-  for (let at = state.n - 1; at >= first; at--) {
+  const first = Math.max(number + 1, state.logLength - FAR);
+  for (let at = state.logLength - 1; at >= first; at--) {
     if (!state.entries.has(at)) await know(Math.max(first, at + 1 - MORE), at + 1);
     const entry = state.entries.get(at);
-    if (entry?.c === state.client && isLive(entry)) return true;
+    if (entry?.client === state.client && isLive(entry)) return true;
   }
   return false;
 }
@@ -268,20 +274,20 @@ function newest() {
 function leave() {
   for (const [number, entry] of state.entries) {
     if (state.entries.size <= KEPT) return;
-    if (entry.k !== "propose") state.entries.delete(number);
+    if (entry.kind !== "propose") state.entries.delete(number);
   }
 }
 
 // Takes in what the log has more; it is drawn by render. What came may be too much to be told: then what is known may
 // be taken back by now, and what is shown of it is asked for.
 export function take(told) {
-  const isWhole = told.n - told.entries.length <= state.n;
-  state.n = told.n;
-  if (!isWhole) state.entries = new Map((told.proposals ?? []).map((entry) => [entry.i, entry]));
+  const isWhole = told.log_length - told.entries.length <= state.logLength;
+  state.logLength = told.log_length;
+  if (!isWhole) state.entries = new Map((told.proposals ?? []).map((entry) => [entry.number, entry]));
   for (const entry of told.entries) {
-    state.entries.set(entry.i, entry);
-    const undone = entry.k === "undo" ? state.entries.get(entry.of) : null;
-    if (undone) undone.u = entry.i;
+    state.entries.set(entry.number, entry);
+    const undone = entry.kind === "undo" ? state.entries.get(entry.of) : null;
+    if (undone) undone.undone_by = entry.number;
   }
   for (const [name, row] of Object.entries(told.rows)) {
     if (row) state.rows.set(name, row);
@@ -289,7 +295,7 @@ export function take(told) {
   }
   leave();
   if (!isWhole) know(Math.max(0, until() - shown), until()).then(render);
-  const isMine = told.entries.every((entry) => entry.c === state.client);
-  if (isMine && state.marked >= told.n - told.entries.length) state.marked = told.n;
+  const isMine = told.entries.every((entry) => entry.client === state.client);
+  if (isMine && state.marked >= told.log_length - told.entries.length) state.marked = told.log_length;
   if (!document.hidden) keep();
 }

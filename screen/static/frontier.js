@@ -28,7 +28,7 @@ export const current = () => told;
 const name = () => state.view?.schedule;
 const fetchAgain = again(fetchNext, name);
 export const load = () => (pending = fetchAgain());
-const chosenOne = () => told?.next.find((one) => one.t === chosen) ?? null;
+const chosenOne = () => told?.next.find((one) => one.thread === chosen) ?? null;
 // The list, unless it is that of the schedule that was open before.
 const here = () => (told && told.name === name() ? told : null);
 const step = (what, given) => (here() ? events.act(what, { name: name(), ...given }) : null);
@@ -54,7 +54,7 @@ async function fetchNext() {
   told = got.mistake ? null : got;
   if (told) told.ahead = before;
   if (told && !chosenOne()) { // it is at its end, and its list is folded
-    chosen = (told.next.find((one) => !one.why) ?? told.next[0])?.t ?? null;
+    chosen = (told.next.find((one) => !one.why) ?? told.next[0])?.thread ?? null;
     open = null;
   }
   if (open !== null) await more();
@@ -74,7 +74,7 @@ async function lookAhead(mine) {
 // Of a witness, whose two accesses come next.
 export function show(pair) {
   asked++;
-  const next = pair.told.map((one) => ({ ...one, left: 0, fixed: true }));
+  const next = pair.accesses.map((one) => ({ ...one, left: 0, fixed: true }));
   told = { source: pair.source, next, pairs: [pair.pair], witness: true, ended: 0 };
   chosen = open = null;
   render();
@@ -84,8 +84,9 @@ function sorted() {
   if (told.next.length <= FEW) return told.next;
   const rank = (one) => (one.aim >= 0 ? 0 : one.why ? 2 : 1);
   const text = filter.value.toLowerCase();
-  const kept = told.next.filter((one) => `${threadName(one.t)} ${one.n} ${one.l}`.toLowerCase().includes(text));
-  return kept.sort((one, other) => rank(one) - rank(other) || one.t - other.t);
+  const hay = (one) => `${threadName(one.thread)} ${one.name} ${one.location}`.toLowerCase();
+  const kept = told.next.filter((one) => hay(one).includes(text));
+  return kept.sort((one, other) => rank(one) - rank(other) || one.thread - other.thread);
 }
 
 // While the list is hidden another pane has the focus that it had.
@@ -107,7 +108,7 @@ function render() {
   $("next-count").textContent = `${free} of ${many(told.next.length, "thread")} may go on${ended}`;
   filter.hidden = told.next.length <= FEW;
   const lit = new Set(told.pairs.flat());
-  const longest = Math.max(0, ...told.next.map((one) => threadName(one.t).length));
+  const longest = Math.max(0, ...told.next.map((one) => threadName(one.thread).length));
   list.style.setProperty("--thread", `${Math.max(4, Math.min(16, longest)) + 1}ch`);
   list.dataset.length = told.length;
   const empty = told.next.length ? "Nothing matches." : "This schedule has all events of the trace.";
@@ -130,7 +131,7 @@ function distance(one) {
 }
 
 function buttons(one) {
-  if (one.t !== chosen) return null;
+  if (one.thread !== chosen) return null;
   const does = help(one.why);
   if (one.why) return does ? button(does.text, "f", () => later(() => follow(one))) : null;
   return [button("add", "↵", () => addLater(one)), button("run", "r", () => later(() => run(one))),
@@ -140,54 +141,56 @@ function buttons(one) {
 // What is pressed while steps are under way is meant to come after them.
 function addLater(one) {
   const isAhead = isBusy();
-  later(() => add(isAhead ? here()?.next.find((other) => other.t === one.t) : one));
+  later(() => add(isAhead ? here()?.next.find((other) => other.thread === one.thread) : one));
 }
 
 function line(one, lit) {
-  const about = [one, one.t === chosen, open === one.t, lit.has(one.e), told.source?.[one.l]];
-  const made = part(`next-${one.t}`, JSON.stringify(about), () => drawn(one, lit));
-  if (open !== one.t || told.ahead?.thread !== one.t) return made;
-  return [made, part(`ahead-${one.t}`, JSON.stringify([told.ahead, state.aim]), () => ahead(one))];
+  const about = [one, one.thread === chosen, open === one.thread, lit.has(one.event), told.source?.[one.location]];
+  const made = part(`next-${one.thread}`, JSON.stringify(about), () => drawn(one, lit));
+  if (open !== one.thread || told.ahead?.thread !== one.thread) return made;
+  return [made, part(`ahead-${one.thread}`, JSON.stringify([told.ahead, state.aim]), () => ahead(one))];
 }
 
 function drawn(one, lit) {
-  const source = told.source?.[one.l];
+  const source = told.source?.[one.location];
   const why = one.why ? reason(one.why, one) : null;
   const far = distance(one);
-  const more = button(open === one.t ? "▾" : `${count(one.left)} ›`, "", () => {
-    choose(one.t);
+  const more = button(open === one.thread ? "▾" : `${count(one.left)} ›`, "", () => {
+    choose(one.thread);
     later(unfold);
   }, "more plain");
   more.dataset.does = "more";
-  const left = `${many(one.left, "event")} of ${threadName(one.t)} to come`;
+  const left = `${many(one.left, "event")} of ${threadName(one.thread)} to come`;
   more.title = `${left} (→)`;
   more.setAttribute("aria-label", left);
-  more.setAttribute("aria-expanded", open === one.t);
-  const what = el("span", "what", el("span", "num", String(one.e)), " ", operation(one));
-  what.title = `${one.o} ${one.n}`;
-  const made = el("div", `next${why ? " no" : " yes"}${one.t === chosen ? " on" : ""}${lit.has(one.e) ? " lit" : ""}`,
-    el("kbd", "digit", one.t < 9 ? String(one.t + 1) : ""), tag(one.t), el("span", "dot", why ? "○" : "●"),
-    what, why ?? el("span", "code", place(one.l), source ? el("code", "", source) : null),
+  more.setAttribute("aria-expanded", open === one.thread);
+  const what = el("span", "what", el("span", "num", String(one.event)), " ", operation(one));
+  what.title = `${one.operation} ${one.name}`;
+  const classes = [why ? "no" : "yes", one.thread === chosen ? "on" : "", lit.has(one.event) ? "lit" : ""];
+  const made = el("div", ["next", ...classes.filter(Boolean)].join(" "),
+    el("kbd", "digit", one.thread < 9 ? String(one.thread + 1) : ""), tag(one.thread),
+    el("span", "dot", why ? "○" : "●"), what,
+    why ?? el("span", "code", place(one.location), source ? el("code", "", source) : null),
     el("span", "do", far, buttons(one), more));
-  made.dataset.t = one.t;
-  made.dataset.place = one.l;
+  made.dataset.t = one.thread;
+  made.dataset.place = one.location;
   does(made, ({ target }) => {
     if (state.source && target.closest(".place")) return;
-    choose(one.t);
+    choose(one.thread);
     if (!one.why) addLater(one);
   });
   const said = [spoken(one), why ? `may not come next: ${why.textContent}` : "may come next", far?.textContent];
-  return option(made, said.filter(Boolean).join(", "), one.t === chosen);
+  return option(made, said.filter(Boolean).join(", "), one.thread === chosen);
 }
 
 // What comes of a thread; a click runs to there.
 function ahead(one) {
   const rows = told.ahead.events.map((event, at) => {
-    const made = el("button", `coming${state.aim?.includes(event.e) ? " aimed" : ""}`,
-      el("span", "num", String(event.e)), el("span", "what", operation(event)), place(event.l, true),
-      el("code", "", told.ahead.source?.[event.l] ?? ""),
+    const made = el("button", `coming${state.aim?.includes(event.event) ? " aimed" : ""}`,
+      el("span", "num", String(event.event)), el("span", "what", operation(event)), place(event.location, true),
+      el("code", "", told.ahead.source?.[event.location] ?? ""),
       el("span", "dim until", at ? `run to here (${at + 1})` : "add"));
-    return does(made, () => later(() => step("run", { until: event.e })));
+    return does(made, () => later(() => step("run", { until: event.event })));
   });
   const left = told.ahead.left - rows.length;
   return el("div", "ahead", rows, left > 0 ? untilField(one, told.ahead.left) : null);
@@ -195,13 +198,13 @@ function ahead(one) {
 
 function untilField(one, left) {
   const field = el("input", "until-event");
-  field.placeholder = `event of ${threadShort(one.t)}, up to ${count(left)} more`;
+  field.placeholder = `event of ${threadShort(one.thread)}, up to ${count(left)} more`;
   field.setAttribute("aria-label", "Run to event");
   field.addEventListener("keydown", (key) => {
     if (key.key !== "Enter") return;
     key.stopPropagation();
     const until = Number(field.value.replaceAll(",", ""));
-    if (field.value.trim() && Number.isInteger(until)) later(() => step("run", { until, thread: one.t }));
+    if (field.value.trim() && Number.isInteger(until)) later(() => step("run", { until, thread: one.thread }));
     else events.say("type the number of an event, as in the list");
   });
   return field;
@@ -234,53 +237,53 @@ export function choose(thread) {
 export function move(by) {
   if (!told?.next.length) return;
   const order = sorted();
-  const at = order.findIndex((one) => one.t === chosen);
+  const at = order.findIndex((one) => one.thread === chosen);
   const one = order[Math.max(0, Math.min(order.length - 1, at + by))];
-  if (one) choose(one.t);
+  if (one) choose(one.thread);
 }
 
-export const add = (one = chosenOne()) => one && !one.fixed && step("add", { event: one.e });
-export const run = (one = chosenOne()) => one && !one.fixed && step("run", { thread: one.t });
+export const add = (one = chosenOne()) => one && !one.fixed && step("add", { event: one.event });
+export const run = (one = chosenOne()) => one && !one.fixed && step("run", { thread: one.thread });
 
 export function toAim(one = chosenOne()) {
   if (one?.to !== undefined) return step("run", { until: one.to, aim: state.aim });
   if (one && !state.aim) events.say("open a race first: it is the aim");
   else if (one && !one.own && !told.witnessed) events.say("the witness of the aim is not known yet");
-  else if (one) events.say(`${threadShort(one.t)} has come as far as the aim needs`);
+  else if (one) events.say(`${threadShort(one.thread)} has come as far as the aim needs`);
   return null;
 }
 
 export function follow(one = chosenOne()) {
   const does = help(one?.why);
   if (does) return step("run", { until: does.until });
-  if (one) events.say(one.why ? "no run of one thread helps here" : `${threadShort(one.t)} waits for nothing`);
+  if (one) events.say(one.why ? "no run of one thread helps here" : `${threadShort(one.thread)} waits for nothing`);
   return null;
 }
 
 // A digit is the number of a thread, so it does not move when another thread ends.
 export function digit(thread) {
-  const one = here()?.next.find((other) => other.t === thread);
+  const one = here()?.next.find((other) => other.thread === thread);
   if (!here() || one?.fixed) return null;
   if (!one) {
     const isThread = thread < state.threads.length;
     return events.say(isThread ? `${threadShort(thread)} is at its end` : `no thread has the digit ${thread + 1}`);
   }
-  choose(one.t);
+  choose(one.thread);
   if (!one.why) return add(one);
-  return events.say(`${threadShort(one.t)} may not come next: ${reason(one.why, one).textContent}`);
+  return events.say(`${threadShort(one.thread)} may not come next: ${reason(one.why, one).textContent}`);
 }
 
 // What is chosen is in sight.
 filter.addEventListener("input", () => {
   const seen = told ? sorted() : [];
-  if (seen.length && !seen.some((one) => one.t === chosen)) choose(seen[0].t);
+  if (seen.length && !seen.some((one) => one.thread === chosen)) choose(seen[0].thread);
   else if (told) render();
 });
 filter.addEventListener("keydown", (key) => {
   if (key.key !== "Enter" && key.key !== "Escape") return;
   key.stopPropagation();
   if (key.key === "Escape") filter.value = "";
-  else chosen = sorted()[0]?.t ?? chosen;
+  else chosen = sorted()[0]?.thread ?? chosen;
   render();
   list.focus();
 });

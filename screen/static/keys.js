@@ -1,6 +1,6 @@
 // The keys. What a key does depends on the pane that has the focus; without one it is what may come next.
 import { $ } from "./make.js";
-import { state } from "./words.js";
+import { state, viewed } from "./words.js";
 import { act, actOn, say, undoLatest } from "./act.js";
 import { later, isBusy } from "./queue.js";
 import { answer, showKeys } from "./dialogs.js";
@@ -20,12 +20,12 @@ const last = () => Math.max(0, (sheet.current()?.length ?? 0) - 1);
 function swap(shown, by) {
   const row = sheet.cursorRow();
   if (!row) return say("choose an event first: ↑ and ↓ move the cursor");
-  return row.b ? say("a block cannot be moved: Enter opens it") : sheet.swap(shown, row.p, by);
+  return row.size ? say("a block cannot be moved: Enter opens it") : sheet.swap(shown, row.position, by);
 }
 
 function propose() {
   const told = frontier.current();
-  if (told?.pairs.length) return act("propose", { view: state.view, pair: best(told) });
+  if (told?.pairs.length) return act("propose", { view: viewed(state.view), pair: best(told) });
   return say("no pair is side by side in this schedule");
 }
 

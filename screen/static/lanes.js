@@ -100,11 +100,11 @@ export function rails() {
 
 function bar(held, slot) {
   const made = el("div", `lock${held.open ? " open" : ""} k${held.lock % 4}`);
-  made.style.left = `${left(held.t) + 1 + Math.min(slot, 2) * 4}px`;
+  made.style.left = `${left(held.thread) + 1 + Math.min(slot, 2) * 4}px`;
   made.style.top = `${held.from * HEIGHT + HEIGHT / 2}px`;
   const beyond = held.open ? HEIGHT / 2 : 0; // one that is held still ends with the last row
   made.style.height = `${Math.max(6, (held.to - held.from) * HEIGHT - beyond)}px`;
-  made.title = `${held.n}, held by ${threadName(held.t)} since ${held.e}`;
+  made.title = `${held.name}, held by ${threadName(held.thread)} since ${held.event}`;
   return made;
 }
 
@@ -112,11 +112,11 @@ function bar(held, slot) {
 export function bars(locks) {
   const slots = new Map();
   return locks.map((held) => {
-    const mine = slots.get(held.t) ?? [];
+    const mine = slots.get(held.thread) ?? [];
     let slot = mine.findIndex((until) => until <= held.from);
     if (slot < 0) slot = mine.length;
     mine[slot] = held.to;
-    slots.set(held.t, mine);
-    return part(`lock-${held.e}`, JSON.stringify([held, slot, left(held.t)]), () => bar(held, slot));
+    slots.set(held.thread, mine);
+    return part(`lock-${held.event}`, JSON.stringify([held, slot, left(held.thread)]), () => bar(held, slot));
   });
 }

@@ -1,4 +1,5 @@
-// The one connection. The ticket of the link is spent for a key, which stays in this tab.
+// The one connection. The ticket of the link is spent for a key, which stays in this tab. Each request, answer and push
+// is listed with its keys in screen_app/messages.py.
 import { keep, kept } from "./store.js";
 
 const REFUSED = 4403;
@@ -81,7 +82,7 @@ function closed(event) {
 
 export const isOpen = () => socket?.readyState === WebSocket.OPEN;
 
-// Whether an answer has to come still.
+// Whether a request has no answer yet.
 export const isWaiting = () => waiting.size > 0;
 
 // An answer that is `lost` says nothing of what was asked.

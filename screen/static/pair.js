@@ -1,7 +1,7 @@
 // The pair that stands side by side: both accesses are next in their threads.
 import { $, el, fill, button, many } from "./make.js";
 import { later } from "./queue.js";
-import { state, tag, operation, place, reason, short } from "./words.js";
+import { state, viewed, tag, operation, place, reason, short } from "./words.js";
 
 export const events = { act: null, backTo: null };
 
@@ -19,17 +19,17 @@ function another(told) {
   showPair(told);
 }
 
-const propose = (view, pair) => later(() => events.act("propose", { view, pair }));
+const propose = (view, pair) => later(() => events.act("propose", { view: viewed(view), pair }));
 
 function side(told, pair, event) {
-  const one = told.next.find((other) => other.e === event);
+  const one = told.next.find((other) => other.event === event);
   if (!one) return String(event);
-  const source = told.source?.[one.l];
+  const source = told.source?.[one.location];
   // A read may be shown and yet be refused as next; nothing is said where what it would miss is the pair's other half.
-  const but = one.why && !pair.includes(one.why.about?.e) ? el("span", "but", "but ", reason(one.why, one)) : null;
-  const made = el("span", "access", tag(one.t), " ", el("span", "num", String(one.e)), " ", operation(one),
-    place(one.l), source ? el("code", "", source) : null, but);
-  made.dataset.place = one.l;
+  const but = one.why && !pair.includes(one.why.about?.event) ? el("span", "but", "but ", reason(one.why, one)) : null;
+  const made = el("span", "access", tag(one.thread), " ", el("span", "num", String(one.event)), " ", operation(one),
+    place(one.location), source ? el("code", "", source) : null, but);
+  made.dataset.place = one.location;
   return made;
 }
 
@@ -57,7 +57,7 @@ export function showPair(told) {
 // Why the aim can't be reached any more, and a step back to where it could be.
 function outOfReach({ length, left, needed, early }) {
   const title = needed ? "The aim can't be reached any more" : "No way to the aim was found from here";
-  const why = !needed ? null : needed.e === early.e ? [short(early), " is past it"]
+  const why = !needed ? null : needed.event === early.event ? [short(early), " is past it"]
     : ["it needs ", short(needed), ", which can't come after ", short(early)];
   const to = length ? `take back to row ${length - 1}` : "take back all";
   const back = button(to, "", () => later(() => events.backTo(length)));

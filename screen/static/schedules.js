@@ -42,15 +42,16 @@ function drawn(row, at, isFresh, isOn) {
 }
 
 function proposal(entry) {
-  const [length, adopt] = [many(entry.n, "event"), button("Adopt", "", () => events.adopt(entry))];
-  adopt.setAttribute("aria-label", `Adopt p${entry.p}`);
+  const [length, adopt] = [many(entry.count, "event"), button("Adopt", "", () => events.adopt(entry))];
+  adopt.setAttribute("aria-label", `Adopt p${entry.proposal}`);
   const made = el("div", "proposal",
-    el("span", "told", el("span", "num", `p${entry.p}`), " shows ", el("span", "num", entry.pair.join("–")),
+    el("span", "told", el("span", "num", `p${entry.proposal}`), " shows ", el("span", "num", entry.pair.join("–")),
       el("span", "dim", ` · ${length}`)),
-    who(entry.c), adopt);
+    who(entry.client), adopt);
   const pair = entry.pair.join(" and ");
-  made.title = `p${entry.p}: ${length} that show ${pair}, proposed by ${clientName(entry.c)} in entry ${entry.i}`;
-  made.id = `proposal-${entry.p}`;
+  const by = `proposed by ${clientName(entry.client)} in entry ${entry.number}`;
+  made.title = `p${entry.proposal}: ${length} that show ${pair}, ${by}`;
+  made.id = `proposal-${entry.proposal}`;
   return made;
 }
 
@@ -70,8 +71,8 @@ sight.watch(list, renderList);
 
 export function render() {
   renderList();
-  const all = [...state.entries.values()].filter((entry) => entry.k === "propose");
-  const proposals = all.sort((one, other) => other.p - one.p).slice(0, PROPOSALS);
+  const all = [...state.entries.values()].filter((entry) => entry.kind === "propose");
+  const proposals = all.sort((one, other) => other.proposal - one.proposal).slice(0, PROPOSALS);
   const made = proposals.length ? [el("div", "subhead", "Proposals"), proposals.map(proposal)] : null;
   fill($("proposals"), made);
 }

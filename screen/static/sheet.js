@@ -1,7 +1,7 @@
 // The schedule: rows of one height, of which only a window is fetched and drawn; the cursor, and swaps.
 import { $, el, fill, nameChosen } from "./make.js";
 import { ask, isOpen } from "./net.js";
-import { state } from "./words.js";
+import { state, viewed } from "./words.js";
 import { HEIGHT, lay, rails, bars, reveal } from "./lanes.js";
 import * as drawn from "./rows.js";
 import * as edges from "./edges.js";
@@ -44,15 +44,15 @@ export const current = () => win;
 // What is shown of the open schedule: how many entries the log had when it was drawn.
 export function shown() {
   const name = state.view?.schedule;
-  return name && win ? { name, n: win.n } : null;
+  return name && win ? { name, log_length: win.log_length } : null;
 }
 
 // What a step by position is for: what was shown when it was asked for, unless another schedule was opened since.
 export function meant(before) {
   const name = state.view?.schedule;
-  return before?.name === name ? before : shown() ?? { name, n: state.n };
+  return before?.name === name ? before : shown() ?? { name, log_length: state.logLength };
 }
-export const cursorRow = () => win?.rows.find((row) => row.p === cursor) ?? null;
+export const cursorRow = () => win?.rows.find((row) => row.position === cursor) ?? null;
 
 const visible = () => Math.ceil((height || stage.clientHeight) / HEIGHT) + 1;
 // While another part is shown in its place, it is scrolled nowhere.
@@ -105,7 +105,7 @@ async function fetchRows({ to, toggle }) {
   else want(to);
   const [mine, view, wanted] = [++asked, state.view, goal];
   const from = wanted === END ? null : Math.max(0, topRow() - AHEAD);
-  const given = { view, aim: state.aim, count: visible() + 2 * AHEAD, from };
+  const given = { view: viewed(view), aim: state.aim, count: visible() + 2 * AHEAD, from };
   if (typeof wanted === "number") given.at = wanted;
   if (toggle !== undefined) given.toggle = toggle;
   const told = await ask("view", given);
@@ -141,10 +141,10 @@ function take(told) {
 // The cursor stays on its event, wherever others move it. A block that takes the event in has the cursor.
 function follow() {
   if (cursor === null) return;
-  const row = on === null ? null : win.rows.find((one) => one.e === on);
+  const row = on === null ? null : win.rows.find((one) => one.event === on);
   const around = win.rows[edges.rowAt(win, cursor)];
-  if (row) cursor = row.p;
-  else if (around?.b) cursor = around.p;
+  if (row) cursor = row.position;
+  else if (around?.size) cursor = around.position;
 }
 
 function draw() {
@@ -166,12 +166,12 @@ function settle() {
 export async function refresh(isMine) {
   stop = null;
   await load(isMine ? { to: END } : {});
-  if (isMine && win?.rows.length) reveal(win.rows.at(-1).t);
+  if (isMine && win?.rows.length) reveal(win.rows.at(-1).thread);
 }
 
 // Keeps the row at the top where it is, if rows above it came or went.
 function stay(row) {
-  const at = row ? edges.rowAt(win, row.p) : -1;
+  const at = row ? edges.rowAt(win, row.position) : -1;
   if (at >= 0 && win.from + at !== topRow()) scrollTo(top() + (win.from + at - topRow()) * HEIGHT);
 }
 
@@ -205,7 +205,7 @@ export function select(position, { into = true } = {}) {
   old?.classList.remove("on");
   old?.setAttribute("aria-selected", "false");
   cursor = position;
-  on = cursorRow()?.e ?? null;
+  on = cursorRow()?.event ?? null;
   const made = drawn.rowElement(position);
   made?.classList.add("on");
   made?.setAttribute("aria-selected", "true");
@@ -214,7 +214,7 @@ export function select(position, { into = true } = {}) {
     const top = parseFloat(made.style.top);
     if (top < stage.scrollTop) stage.scrollTop = top;
     else if (top + HEIGHT > stage.scrollTop + stage.clientHeight) stage.scrollTop = top + HEIGHT - stage.clientHeight;
-    reveal(cursorRow().t);
+    reveal(cursorRow().thread);
   }
   edges.show(win, position);
 }
@@ -224,13 +224,13 @@ export function step(by) {
   const last = win.rows.length - 1;
   const at = cursor === null ? last + 1 : edges.rowAt(win, cursor);
   const next = at < 0 ? topRow() - win.from : at + by; // the first in sight, if the cursor is far away
-  select(win.rows[Math.max(0, Math.min(last, next))].p);
+  select(win.rows[Math.max(0, Math.min(last, next))].position);
 }
 
 // Puts the cursor on an event, or on the block that has it.
 function land(position, how) {
   const at = win ? edges.rowAt(win, position) : -1;
-  if (at >= 0) select(win.rows[at].p, how);
+  if (at >= 0) select(win.rows[at].position, how);
 }
 
 export async function jump(position) {
@@ -246,9 +246,9 @@ export async function toggle(position) {
 // Opens or closes a block, or goes to the write that is read.
 export async function enter() {
   const row = cursorRow();
-  if (row?.b || (row?.x && !(row.rf >= 0))) await toggle(row.p);
-  else if (row?.rf >= 0) await jump(row.rf);
-  else if (row?.rf === -1) events.say("it reads the initial value");
+  if (row?.size || (row?.is_open && !(row.writer >= 0))) await toggle(row.position);
+  else if (row?.writer >= 0) await jump(row.writer);
+  else if (row?.writer === -1) events.say("it reads the initial value");
   else if (row) events.say("it is neither a block nor a read of a write");
   else events.say("choose an event first: ↑ and ↓ move the cursor");
 }
@@ -257,14 +257,14 @@ export async function enter() {
 export async function swap(before, position, by) {
   if (!by) return;
   stop = null;
-  const moved = win?.rows.find((row) => row.p === position)?.e ?? null;
-  const told = await events.act(before, "swap", { name: before.name, p: position, by });
+  const moved = win?.rows.find((row) => row.position === position)?.event ?? null;
+  const told = await events.act(before, "swap", { name: before.name, position, by });
   if (told.mistake || told.gone || told.changed) return;
   cursor = position + (by > 0 ? told.moved : -told.moved);
   on = moved;
   await load();
   if (told.stop && win) {
-    stop = { row: win.from + edges.rowAt(win, told.stop.p) + 1, text: `stays: ${told.stop.why}` };
+    stop = { row: win.from + edges.rowAt(win, told.stop.position) + 1, text: `stays: ${told.stop.why}` };
     render();
   }
   land(cursor);
@@ -276,7 +276,7 @@ let drag = null;
 stage.addEventListener("pointerdown", (event) => {
   const row = event.target.closest(".row");
   if (!row || event.button || row.dataset.block || !state.view?.schedule || !event.target.closest(".lanes")) return;
-  drag = { p: Number(row.dataset.p), shown: shown(), y: event.clientY, by: 0, row };
+  drag = { position: Number(row.dataset.p), shown: shown(), y: event.clientY, by: 0, row };
 });
 stage.addEventListener("dragstart", (event) => event.preventDefault());
 stage.addEventListener("pointermove", (event) => {
@@ -299,25 +299,25 @@ addEventListener("pointercancel", letGo);
 addEventListener("pointerup", () => {
   const mine = letGo();
   if (!mine?.by || !win || mine.shown?.name !== state.view?.schedule) return;
-  const at = win.rows.findIndex((row) => row.p === mine.p);
+  const at = win.rows.findIndex((row) => row.position === mine.position);
   const other = win.rows[Math.max(0, Math.min(win.rows.length - 1, at + mine.by))];
-  const by = at < 0 ? mine.by : other.p - mine.p;
+  const by = at < 0 ? mine.by : other.position - mine.position;
   // It is for the row as it was when the button went down, so what this page did since is no part of it.
-  later(() => swap({ ...mine.shown, since: [] }, mine.p, Math.max(-FARTHEST, Math.min(FARTHEST, by))));
+  later(() => swap({ ...mine.shown, since: [] }, mine.position, Math.max(-FARTHEST, Math.min(FARTHEST, by))));
 });
 
 // A double click on a block opens it, whether its events stand there by the second press or not. One on an event that
 // stood there before closes the block.
 let wasBlock = false;
 drawn.events.click = (row, clicks) => {
-  if (clicks < 2) wasBlock = Boolean(row.b);
-  if (!row.b) select(row.p, { into: false });
-  else if (clicks < 2) toggle(row.p);
+  if (clicks < 2) wasBlock = Boolean(row.size);
+  if (!row.size) select(row.position, { into: false });
+  else if (clicks < 2) toggle(row.position);
 };
 stage.addEventListener("dblclick", (event) => {
   const row = event.target.closest(".row");
   const at = Number(row?.dataset.p);
-  if (row && !wasBlock && !row.dataset.block && win?.rows.find((one) => one.p === at)?.x) toggle(at);
+  if (row && !wasBlock && !row.dataset.block && win?.rows.find((one) => one.position === at)?.is_open) toggle(at);
 });
 stage.addEventListener("mousemove", (event) => {
   const row = event.target.closest(".row");

@@ -1,7 +1,7 @@
 // What is looked at: a schedule, a witness, or why a pair has none; and the aim, which is the race that is open.
 import { $, el, fill, button, many } from "./make.js";
 import { ask, isOpen } from "./net.js";
-import { state, who, short, isDone, isRefused, lastWords } from "./words.js";
+import { state, viewed, who, short, isDone, isRefused, lastWords } from "./words.js";
 import { act, actOn, awaited, bad, say as tell } from "./act.js";
 import { asked } from "./dialogs.js";
 import { reveal } from "./frame.js";
@@ -123,10 +123,10 @@ async function check(name) {
 export async function aimAt(pair) {
   state.aim = pair;
   races.mark(pair);
-  const told = pair ? await ask("pair", { pair }) : { told: [] };
+  const told = pair ? await ask("pair", { pair }) : { accesses: [] };
   if (state.aim !== pair) return;
   if (told.mistake) state.aim = null;
-  state.aimTold = told.told ?? [];
+  state.aimTold = told.accesses ?? [];
   bar();
 }
 
@@ -266,7 +266,7 @@ export async function take() {
   const view = state.view;
   if (!view?.witness) return;
   const name = freeName(`r${view.witness.join("-")}`);
-  const told = await act("enter", { view, name });
+  const told = await act("enter", { view: viewed(view), name });
   if (told.answer && !isRefused(told)) await begin(name);
 }
 
@@ -300,8 +300,8 @@ export async function branch(shown = sheet.meant(null)) {
   const row = state.rows.get(name);
   if (!row) return;
   const at = sheet.cursorRow();
-  const length = at ? at.p + (at.b ?? 1) : row.length;
-  const last = at?.b ? at.last.e : at?.e;
+  const length = at ? at.position + (at.size ?? 1) : row.length;
+  const last = at?.size ? at.last.event : at?.event;
   const to = await asked(`Branch ${name} after its first ${many(length, "event")}`, freeName(name, ".b"),
     at ? `up to and including event ${last}, where the cursor is` : "all of it; move the cursor to branch earlier");
   if (to) later(() => make("branch", { name, length, to }, shown));
@@ -322,13 +322,13 @@ export function reopen(name) {
 export async function adopt(entry) {
   const open = state.view?.schedule;
   const base = state.rows.has(open) ? open : freeName(`r${entry.pair.join("-")}`);
-  const name = await asked(`Adopt proposal p${entry.p} into`, base, "a new name makes a new schedule");
+  const name = await asked(`Adopt proposal p${entry.proposal} into`, base, "a new name makes a new schedule");
   if (name) later(() => adoptInto(name, entry));
 }
 
 async function adoptInto(name, entry) {
   if (!state.rows.has(name) && !isDone(await act("new", { name }))) return;
-  if (!isDone(await act("adopt", { name, proposal: entry.p }))) return;
+  if (!isDone(await act("adopt", { name, proposal: entry.proposal }))) return;
   await aimAt(entry.pair);
   await begin(name);
 }

@@ -4,8 +4,11 @@ import { el, hue, many } from "./make.js";
 export const state = {
   threads: [], client: 1, title: "", names: {}, source: false,
   view: null, aim: null, aimTold: [],
-  rows: new Map(), entries: new Map(), n: 0, marked: 0,
+  rows: new Map(), entries: new Map(), logLength: 0, marked: 0,
 };
+
+// The schedule or the witness of a view, for a request.
+export const viewed = ({ schedule, witness }) => (witness ? { witness } : { schedule });
 
 // So many signs at the end of a name are the last to be cut.
 const END = 9;
@@ -70,18 +73,19 @@ export function who(client) {
   return made;
 }
 
-export const operation = (event) => [el("span", `op op-${event.o}`, event.o), " ", nameOf(event.n)];
+export const operation = (event) => [el("span", `op op-${event.operation}`, event.operation), " ", nameOf(event.name)];
 export function short(event) {
-  const made = el("span", "short", el("span", "num", String(event.e)), " ", tag(event.t), " ",
-    operation({ ...event, n: cut(event.n, NAME) }));
-  if (event.n.length > NAME) made.title = event.n;
+  const made = el("span", "short", el("span", "num", String(event.event)), " ", tag(event.thread), " ",
+    operation({ ...event, name: cut(event.name, NAME) }));
+  if (event.name.length > NAME) made.title = event.name;
   return made;
 }
 
 const DOES = { r: "reads", w: "writes", acq: "takes lock", rel: "releases lock", fork: "forks", join: "joins" };
 
 // An event as a screen reader says it.
-export const spoken = (event) => `event ${event.e}, ${threadName(event.t)} ${DOES[event.o]} ${event.n}, ${event.l}`;
+export const spoken = (event) => [`event ${event.event}`,
+  `${threadName(event.thread)} ${DOES[event.operation]} ${event.name}`, event.location].join(", ");
 
 // The place of an event and of the call that it stands in: "list.c:787 < list.c:730". Of a path the file and the line
 // are cut last, and the calls first.
@@ -108,9 +112,9 @@ const notBegun = (why) => ["not begun: ", why.about ? short(why.about) : "its fo
 
 function lockHeld(why, event) {
   const holder = why.said.replace(/^25 lock held by /, "");
-  const since = why.about ? [" since ", el("span", "num", String(why.about.e))] : null;
-  const thread = why.about ? tag(why.about.t) : el("bdi", "", cut(holder, THREAD));
-  return ["lock ", el("bdi", "name", cut(event.n, THREAD)), " held by ", thread, since];
+  const since = why.about ? [" since ", el("span", "num", String(why.about.event))] : null;
+  const thread = why.about ? tag(why.about.thread) : el("bdi", "", cut(holder, THREAD));
+  return ["lock ", el("bdi", "name", cut(event.name, THREAD)), " held by ", thread, since];
 }
 
 function wrongWriter(why) {
@@ -124,7 +128,7 @@ function wrongWriter(why) {
 
 function joinEarly(why, event) {
   const rest = why.left ? `: ${many(why.left, "event")} of it to come` : ": it is not forked";
-  return ["waits for ", el("bdi", "name", cut(why.joined ?? event.n, THREAD)), rest];
+  return ["waits for ", el("bdi", "name", cut(why.joined ?? event.name, THREAD)), rest];
 }
 
 // What would help: the run of another thread to one of its events.

@@ -13,6 +13,7 @@ import time
 import aiohttp
 
 from comparing import within
+from legend import Listener
 
 KEYS = {
     "Enter": 13,
@@ -245,9 +246,10 @@ class Page:
         self.browser, self.session, self.context = browser, session, context
         self.is_closed = self.is_crashed = False
         self.faults, self.requests = [], []
+        self.listener = Listener(self.faults)
 
     def take(self, method, given):
-        """Keeps each error of the page and each address that it asks for."""
+        """Keeps each error of the page, each address that it asks for, and what is wrong with its messages."""
         if method == "Runtime.exceptionThrown":
             details = given["exceptionDetails"]
             self.faults.append(details.get("exception", {}).get("description") or details["text"])
@@ -259,6 +261,10 @@ class Page:
             self.requests.append(given["request"]["url"])
         elif method == "Network.webSocketCreated":
             self.requests.append(given["url"])
+        elif method == "Network.webSocketFrameSent":
+            self.listener.sent(given["response"]["payloadData"])
+        elif method == "Network.webSocketFrameReceived":
+            self.listener.received(given["response"]["payloadData"])
         elif method == "Inspector.targetCrashed":
             self.is_crashed = True
             self.browser.fail(CRASHED, self.session)

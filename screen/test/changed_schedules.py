@@ -386,7 +386,7 @@ async def test_a_refusal_of_what_is_not_shown(program):
     async with Screen(path, "trace", "log") as screen, Socket(screen) as socket:
         await session(program, 1, "new A\nadd A 0\nadd A 1\nadd A 3\nadd A 2\n")
         await comes(lambda: len(logged()) == 5)
-        told = await socket.call(do="swap", name="A", p=1, by=1, shown={"n": 5, "own": []})
+        told = await socket.call(do="swap", name="A", position=1, by=1, shown={"log_length": 5, "own": []})
         same(told["changed"], {"entry": 5, "client": 2, "name": "A"})
         same((told["moved"], told["made"], "stop" in told), (0, [], False))
         same(logged()[5:], ["2 swap A 2"])
@@ -397,11 +397,19 @@ async def test_what_a_page_may_not_say_that_it_showed(program):
     traces.write("trace", FREE)
     async with Screen(program, "trace", "log") as screen, Socket(screen) as socket:
         await session(program, 1, "new A\nadd A 0\n")
-        for shown in (1, "x", [], {"n": 2}, {"own": []}, {"n": -1, "own": []}, {"n": 2, "own": [True]}):
+        for shown in (
+            1,
+            "x",
+            [],
+            {"log_length": 2},
+            {"own": []},
+            {"log_length": -1, "own": []},
+            {"log_length": 2, "own": [True]},
+        ):
             told = await socket.call(do="back", name="A", shown=shown)
             assert "mistake" in told, (shown, told)
         same(logged(), ["1 new A", "1 add A 0"])
-        told = await socket.call(do="back", name="A", shown={"n": 10**9, "own": [10**9]})
+        told = await socket.call(do="back", name="A", shown={"log_length": 10**9, "own": [10**9]})
         same(logged()[2:], ["1 back A"])
 
 

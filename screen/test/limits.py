@@ -165,7 +165,7 @@ async def test_a_browser_that_takes_nothing(program):
     deaf = Deaf()
     made = outlet.Outlet(deaf, deaf)
     for number in range(outlet.MOST):
-        made.send({"n": number})
+        made.send({"log_length": number})
     same(deaf.is_ended, False)
     await asyncio.sleep(0)  # one is under way
     made.send({})
@@ -209,4 +209,4 @@ async def test_windows_have_a_most(program):
             await asyncio.sleep(0.05)
         same((races["total"], len(races["blocks"])), (210, 200))
         for by in (65, -65):
-            same(await socket.call(do="swap", name="A", p=300, by=by), {"mistake": "no such move", "id": 1})
+            same(await socket.call(do="swap", name="A", position=300, by=by), {"mistake": "no such move", "id": 1})

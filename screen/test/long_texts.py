@@ -77,11 +77,11 @@ async def test_a_lock_that_is_taken_again(program):
     try:
         for count, counted in ((1, 5), (2, 4), (3, 3), (4, 2)):
             await bench.say(*(["new A"] if count == 1 else []), f"add A {count - 1}")
-            (waiting,) = [one for one in (await frontier.frontier(bench, "A", ()))["next"] if one["e"] == 5]
+            (waiting,) = [one for one in (await frontier.frontier(bench, "A", ()))["next"] if one["event"] == 5]
             why = waiting["why"]
-            same((why["about"]["e"], why["help"], why["helper"], why["steps"]), (0, 4, 0, counted - 1))
+            same((why["about"]["event"], why["help"], why["helper"], why["steps"]), (0, 4, 0, counted - 1))
         await bench.say("add A 4")
         (free,) = (await frontier.frontier(bench, "A", ()))["next"]
-        same((free["e"], "why" in free), (5, False))
+        same((free["event"], "why" in free), (5, False))
     finally:
         await bench.session.stop()

@@ -469,8 +469,8 @@ TELLS = """{
   const send = WebSocket.prototype.send;
   window.told = [];
   WebSocket.prototype.send = function (text) {
-    const { do: what, n } = JSON.parse(text);
-    if (what === "seen") window.told.push(n);
+    const { do: what, log_length: length } = JSON.parse(text);
+    if (what === "seen") window.told.push(length);
     send.call(this, text);
   };
 }"""

@@ -277,7 +277,7 @@ def test_windows_are_parts_of_the_whole(program):
     assert any("b" in row for row in whole) and len(whole) == layout.total
     at = 0
     for number, row in enumerate(whole):
-        same((row["p"], layout.row_of(at)), (at, number))
+        same((row["position"], layout.row_of(at)), (at, number))
         at += row.get("b", 1)
     same(at, 2900)
     row_of = [number for number, row in enumerate(whole) for _ in range(row.get("b", 1))]
@@ -296,7 +296,7 @@ def test_windows_are_parts_of_the_whole(program):
             if section.begin <= high and (section.end is None or section.end >= low)
         }
         told = {
-            (lock["lock"], sheet.position[lock["e"]], lock["from"], lock["to"], lock["open"])
+            (lock["lock"], sheet.position[lock["event"]], lock["from"], lock["to"], lock["open"])
             for lock in layout.window(number, 11)["locks"]
         }
         same(told, held)
@@ -309,7 +309,7 @@ def test_the_reads_of_a_write_that_are_named(program):
         sheet = Sheet(Trace("reads").read_at_once())
         sheet.become(array("I", range(reads + 1)))
         (write, *_) = Layout(sheet).window(0, 100)["rows"]
-        same((write["rd"], "others" in write), ([*range(1, min(reads, 24) + 1)], others))
+        same((write["readers"], "more_readers" in write), ([*range(1, min(reads, 24) + 1)], others))
 
 
 def test_names_are_made_harmless(program):

@@ -31,7 +31,7 @@ def modules():
     if importlib.util.find_spec("aiohttp") is None:
         print("aiohttp is not here: nothing but the reading is tested (apt-get install python3-aiohttp)")
         return
-    yield from ("tried_twice", "security", "failures", "limits", "long_texts", "steps_by_position")
+    yield from ("tried_twice", "messages", "security", "failures", "limits", "long_texts", "steps_by_position")
     if not any(map(os.path.exists, CHROMIUM)):
         print("chromium is not here: what needs a browser is not tested (apt-get install chromium)")
         return

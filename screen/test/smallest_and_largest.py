@@ -530,8 +530,9 @@ async def test_proposals_while_another_does_much(program):
 # What the server tells of a log that grows to so many entries while it is looked at.
 GROWS = """import("/feed.js").then((feed) => {
   for (let n = 300; n <= 9000; n += 300) {
-    const entry = (at) => ({ i: n - 300 + at, c: 2, k: "new", name: "B", w: "new B" });
-    feed.take({ n, entries: Array.from({ length: 300 }, (_, at) => entry(at)).filter(({ i }) => i > 1), rows: {} });
+    const entry = (at) => ({ number: n - 300 + at, client: 2, kind: "new", name: "B", text: "new B" });
+    const entries = Array.from({ length: 300 }, (_, at) => entry(at)).filter(({ number }) => number > 1);
+    feed.take({ log_length: n, entries, rows: {} });
   }
   feed.render();
 })"""

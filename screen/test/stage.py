@@ -27,8 +27,9 @@ FRAMES = "new Promise((done) => requestAnimationFrame(() => requestAnimationFram
 # Whether a page has so many entries, does no step and waits for no answer, and whether that is so two frames later.
 SETTLED = (
     "(async () => {{ const [net, queue, words] = await Promise.all(['net', 'queue', 'words']"
-    ".map((name) => import(`/${{name}}.js`))); const is = () => words.state.title && words.state.n === {entries} && "
-    "!queue.isBusy() && !net.isWaiting(); if (!is()) return false; await " + FRAMES + "; return is(); }})()"
+    ".map((name) => import(`/${{name}}.js`))); const is = () => words.state.title && "
+    "words.state.logLength === {entries} && !queue.isBusy() && !net.isWaiting(); "
+    "if (!is()) return false; await " + FRAMES + "; return is(); }})()"
 )
 ORDER = (
     "[...document.querySelectorAll('#space .row')].sort((a, b) => a.dataset.p - b.dataset.p)"

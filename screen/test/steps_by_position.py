@@ -37,8 +37,8 @@ class Alone:
     async def other(self, *calls):
         await session(self.program, 2, "".join(f"{call}\n" for call in calls))
 
-    def shown(self, own=(), n=5, name="A"):
-        return Shown(self.bench, name, {"n": n, "own": list(own)})
+    def shown(self, own=(), length=5, name="A"):
+        return Shown(self.bench, name, {"log_length": length, "own": list(own)})
 
     def events(self):
         self.bench.mirror.sync()
@@ -122,7 +122,7 @@ async def test_own_steps_are_no_others(program):
         same((told, alone.events()), ({"answer": "8: done", "made": [8]}, [0, 3, 1, 2]))
         await alone.bench.say("swap A 2")
         await alone.other("swap A 2")
-        told = await steps.move(alone.shown([9], n=9), 2, 1)
+        told = await steps.move(alone.shown([9], length=9), 2, 1)
         same(told, {"answer": NOT_SENT, "made": [], "moved": 0, **changed(10)})
 
 
@@ -169,7 +169,7 @@ async def test_a_step_after_more_changes_than_are_kept(program):
             shown = alone.shown()
             await alone.other("swap A 0", "swap A 0")
             same((await steps.back(shown))["made"], [7])
-            shown = alone.shown(n=8)
+            shown = alone.shown(length=8)
             await alone.other("swap A 0", "swap A 0", "swap A 0")
             same(await steps.back(shown), {"answer": NOT_SENT, "made": [], **changed(8)})
     finally:
@@ -223,18 +223,18 @@ async def test_how_far_a_move_goes(program):
         ((2, -2), 2, None, [2, 0, 1, 3, 4]),
     ):
         async with Alone(program, calls, ORDERED) as alone:
-            told = await steps.move(alone.shown(n=6), *what)
-            found = told.get("stop") and (told["stop"]["p"], told["stop"]["with"]["e"])
+            told = await steps.move(alone.shown(length=6), *what)
+            found = told.get("stop") and (told["stop"]["position"], told["stop"]["with"]["event"])
             same((what, told["moved"], found, alone.events()), (what, moved, stop, events))
             same(told["made"], [6] if moved else [])
     async with Alone(program, (*calls, "swap A 3"), ORDERED) as alone:  # T3 stands between the two of T2
-        told = await steps.move(alone.shown(n=7), 4, -3)
-        same((told["moved"], told["made"], told["stop"]["p"], alone.events()), (1, [7], 2, [0, 1, 2, 3, 4]))
-        told = await steps.move(alone.shown([7], n=7), 2, 2)
-        same((told["moved"], told["stop"]["with"]["e"]), (0, 3))
-        same(await steps.move(alone.shown(n=8), 0, -1), {"moved": 0, "answer": "nothing to move"})
-        same(await steps.move(alone.shown(n=8), 3, 0), {"moved": 0, "answer": "nothing to move"})
-        told = await steps.move(alone.shown(n=8), 4, 1)  # there is no neighbour
+        told = await steps.move(alone.shown(length=7), 4, -3)
+        same((told["moved"], told["made"], told["stop"]["position"], alone.events()), (1, [7], 2, [0, 1, 2, 3, 4]))
+        told = await steps.move(alone.shown([7], length=7), 2, 2)
+        same((told["moved"], told["stop"]["with"]["event"]), (0, 3))
+        same(await steps.move(alone.shown(length=8), 0, -1), {"moved": 0, "answer": "nothing to move"})
+        same(await steps.move(alone.shown(length=8), 3, 0), {"moved": 0, "answer": "nothing to move"})
+        told = await steps.move(alone.shown(length=8), 4, 1)  # there is no neighbour
         same((told["moved"], told["made"], "stop" in told), (0, [], False))
 
 
@@ -243,9 +243,9 @@ async def test_how_far_a_run_goes(program):
     text = "T1|w(a)|a:0\nT2|w(b)|b:0\nT2|r(a)|b:1\nT2|w(b)|b:2\n"
     async with Alone(program, ("new A",), text) as alone:
         told = await steps.Run(alone.bench, "A").to(1, None)
-        same((told["added"], told["entries"], told["stop"]["e"], told["stop"]["code"]), (1, [1], 2, "24"))
+        same((told["added"], told["entries"], told["stop"]["event"], told["stop"]["code"]), (1, [1], 2, "24"))
         told = await steps.Run(alone.bench, "A").to(1, None)
-        same((told["added"], told["entries"], told["stop"]["e"]), (0, [], 2))
+        same((told["added"], told["entries"], told["stop"]["event"]), (0, [], 2))
         told = await steps.add(alone.bench, "A", 2)
         same((told["answer"].startswith("refused 46 24 "), told["why"]["code"]), (True, "24"))
         same(await steps.add(alone.bench, "A", 0), {"answer": "2: done"})
@@ -256,7 +256,7 @@ async def test_how_far_a_run_goes(program):
         same((told["undone"], told["made"], "rests" in told), (1, [5], False))
         same(told["answer"].startswith("refused 58 "), True)
         told = await steps.undo(alone.bench, [1])
-        same((told["undone"], told["made"], told["rests"]["entry"]["i"], told["rests"]["name"]), (0, [], 2, "A"))
+        same((told["undone"], told["made"], told["rests"]["entry"]["number"], told["rests"]["name"]), (0, [], 2, "A"))
         told = await steps.undo(alone.bench, [])
         same((told["answer"], told["undone"], told["made"]), ("6: undone 2", 1, [6]))
         told = await steps.undo(alone.bench, [1, 0])  # of several answers the last is told
@@ -268,7 +268,7 @@ async def test_a_missed_write_that_is_there(program):
     calls = ("new A", "add A 0", "add A 2")
     async with Alone(program, calls, "T0|w(x)|a:0\nT2|r(x)|c:0\nT1|w(x)|b:0\n") as alone:
         why = (await steps.add(alone.bench, "A", 1))["why"]
-        same((why["about"]["e"], why["has"]["e"], "help" in why, "steps" in why), (0, 2, False, False))
+        same((why["about"]["event"], why["has"]["event"], "help" in why, "steps" in why), (0, 2, False, False))
 
 
 async def test_a_run_while_another_drops_the_schedule(program):
@@ -284,7 +284,7 @@ async def test_a_move_while_another_drops_the_schedule(program):
     """The part of it that may be made is refused too, and that is told."""
     calls = ("new A", "add A 0", "add A 1", "add A 2", "add A 4", "add A 3")
     async with Alone(between(program, swap_A_3="drop A"), calls, ORDERED) as alone:
-        told = await steps.move(alone.shown(n=6), 4, -3)
+        told = await steps.move(alone.shown(length=6), 4, -3)
         same(told, {"moved": 0, "made": [], "answer": "refused 42 no such schedule"})
         same(logged()[6:], ["2 drop A"])
 
