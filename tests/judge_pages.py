@@ -40,7 +40,8 @@ TRIES = 12
 RUST_OF_PAGE = "1.96.0"
 # Commands that are not typed: the page, how the command begins, and why.
 LEFT_OUT = [
-    ("docs/BUILDS.md", "cmake", "needs CMake and a project"),
+    ("README.md", "racebench triage watchdog.std", "names events of one recording of a program that sleeps"),
+    ("README.md", "record/confirm", "counts races of a program that sleeps"),
     ("docs/BUILDS.md", "bazel", "needs Bazel and a project"),
     ("docs/BUILDS.md", "$R/run", "runs what CMake or Bazel built"),
     (
