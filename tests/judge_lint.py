@@ -1,6 +1,6 @@
 #!/usr/bin/env python3
-"""Judges the rules of tools/lint on texts of this file: fences that never end, lists that lack a name or have it twice,
-the map of crates, and tools that are not installed.
+"""Judges the rules of tools/lint on texts of this file: fences that never end, merges that were not finished, lists
+that lack a name or have it twice, the map of crates, what tools/promises says of calls, and tools that are missing.
 
     judge_lint.py PROGRAM
 
@@ -20,7 +20,7 @@ from types import ModuleType
 sys.dont_write_bytecode = True
 import judging
 
-LINT = os.path.join(os.path.dirname(judging.HERE), "tools", "lint")
+TOOLS = os.path.join(os.path.dirname(judging.HERE), "tools")
 # Pages, each with the lines of its fences that never end.
 FENCES: tuple[tuple[str, list[int]], ...] = (
     ("```\ncode\n```\n", []),
@@ -29,6 +29,43 @@ FENCES: tuple[tuple[str, list[int]], ...] = (
     ("````\n```\n````\n", []),
     ("```\ncode\n```\n\n  ```rust\n  code\n", [5]),
     ("no fence, `a word`\n", []),
+)
+# Pages, each with the lines of its marks of a merge.
+MERGES: tuple[tuple[str, list[int]], ...] = (
+    ("a\n<<<<<<< ours\nb\n=======\nc\n>>>>>>> theirs\n", [2, 4, 6]),
+    ("Title\n========\n\n`<<<<<<<` is a mark\n", []),
+)
+# A file of calls, and what the page of promises says of each.
+CALLS = """/// A law of two sentences. Both are listed.
+pub fn law()
+    ensures { Law }
+{}
+
+impl Table {
+    /// Adds a row to this table. It goes to the end.
+    pub fn add(&mut self) -> bool
+        // The table has one row more.
+        ensures grown { x }
+        ensures same { y }
+    {
+    }
+
+    /// The number of rows.
+    pub fn len(&self) -> u32
+        ensures len { x }
+    {
+    }
+
+    /// Guesses.
+    pub fn guess(&self) -> u32 {
+    }
+}
+"""
+SAID = (
+    ("law", "A law of two sentences. Both are listed.", None),
+    ("Table::add", "Adds a row to this table. It goes to the end. `grown`: The table has one row more.", None),
+    ("Table::len", "The number of rows.", "of `Table` also"),
+    ("Table::guess", "Guesses.", "nothing is promised of"),
 )
 # Lists of names beside a set, and how many complaints there are.
 LISTS = ((["a", "b"], 0), (["a"], 1), (["a", "b", "b"], 1), (["a", "b", "c"], 1), (["c"], 3))
@@ -53,11 +90,12 @@ const ANYWHERE = {
 BOUND = {"ArrowDown", "j", "Enter", "Alt+ArrowUp", "?", "n", "w"}
 
 
-def lint() -> ModuleType:
-    loader = importlib.machinery.SourceFileLoader("lint", LINT)
-    spec = importlib.util.spec_from_loader("lint", loader)
+def tool(name: str) -> ModuleType:
+    loader = importlib.machinery.SourceFileLoader(name, os.path.join(TOOLS, name))
+    spec = importlib.util.spec_from_loader(name, loader)
     assert spec is not None
     module = importlib.util.module_from_spec(spec)
+    sys.modules[name] = module
     loader.exec_module(module)
     return module
 
@@ -72,11 +110,23 @@ def complaints_without(rules: ModuleType, missing: list[str], left_out: set[str]
     return {name: lines for name, lines in found.items() if lines}, printed.getvalue()
 
 
+def judge_promises(run: judging.Run) -> None:
+    promises = tool("promises")
+    calls = promises.Reader(CALLS).calls
+    texts = [promises.promise(call, [], set()) for call in calls]
+    said = tuple((call.label(), text, promises.only_named(call, text)) for call, text in zip(calls, texts))
+    run.case("promises", [] if said == SAID else [f"{said}, and not {SAID}"])
+
+
 def judged(run: judging.Run) -> None:
-    rules = lint()
+    rules = tool("lint")
     for text, wanted in FENCES:
         found = rules.open_fences(text)
         run.case("fences", [] if found == wanted else [f"{text!r}: the fences in lines {found}, and not {wanted}"])
+    for text, wanted in MERGES:
+        found = rules.marks_of_merges(text)
+        run.case("merges", [] if found == wanted else [f"{text!r}: the marks in lines {found}, and not {wanted}"])
+    judge_promises(run)
     for names, count in LISTS:
         found = rules.unlike("the list", names, {"a", "b"})
         run.case("lists", [] if len(found) == count else [f"{names}: {found}, and not {count} complaints"])
