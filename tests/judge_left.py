@@ -28,6 +28,7 @@ import judging
 import plain
 import running
 from judging import Wrong
+from plain_names import without_number
 from judge_triage_file import side_of
 
 LISTS = 120
@@ -85,7 +86,8 @@ def is_about(entry, pair, parts):
         return True
     rows = [row for objects in parts.values() for row in objects[1:] if places_in(row) == places_of(pair)]
     rows = [row for row in rows if row["kind"] == "race"]
-    return all(row["variables"] == 1 and row["accesses"][0]["variable"] in entry["variables"] for row in rows)
+    names = [without_number(name) for name in entry["variables"]]
+    return all(row["variables"] == 1 and without_number(row["accesses"][0]["variable"]) in names for row in rows)
 
 
 def places_in(row):

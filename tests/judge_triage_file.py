@@ -27,13 +27,30 @@ sys.dont_write_bytecode = True
 import judging
 import running
 from judging import Wrong
+from plain_names import without_number
 
 TRACES = 120
 TOOLS = os.path.join(judging.HERE, "..", "tools")
 TODAY = datetime.date(2027, 6, 1)
 PATHS = ["p/u.c", "q/u.c", "u.c", "a b.c"]
 FUNCTIONS = ["add", "get", "operator new", ""]
-VARIABLES = ["x", "y", "heap:u.c:3#1+8", 'q"t', "back\\slash"]
+VARIABLES = [
+    "x",
+    "y",
+    "heap:u.c:3#1+8",
+    "heap:u.c:3#T2.4+8",
+    "heap:u.c:3 item[3].next",
+    "heap:u.c:3 item#2[3].next",
+    "heap:u.c:3 item#2[4].next",
+    "add:n",
+    "add#T1:n",
+    "own#T1",
+    "own#T2",
+    "stack:add#2-8",
+    "memory:7ffff7c00000+8",
+    'q"t',
+    "back\\slash",
+]
 VERDICTS = ["known", "benign", "false", "fixed"]
 KEYS = {"paths", "functions", "variables", "lines", "verdict", "reason", "author", "expires"}
 REACHED = [
@@ -125,7 +142,7 @@ def is_about(entry, lines, first, second):
         return True
     return any(
         all(
-            used in entry["variables"]
+            without_number(used) in map(without_number, entry["variables"])
             for _, used, where in map(parts, lines)
             if used is not None and where == location
         )
@@ -198,6 +215,42 @@ def refusal_of(text):
     return None
 
 
+def entry_written(lines, first, second):
+    """What `--init-triage` writes of a race, but for its line: the accesses in an order of their own, and the variable
+    without its number if the source has it and one of the two locations accesses no other."""
+    used, one = parts(lines[first])[1:]
+    other = parts(lines[second])[2]
+    name = without_number(used)
+    others = [
+        {without_number(name) for _, name, where in map(parts, lines) if name is not None and where == location}
+        for location in (one, other)
+    ]
+    is_alone = {name} in others and not used.startswith(("stack:", "memory:"))
+    return (*sorted(map(side_of, (one, other))), name if is_alone else None)
+
+
+def entry_read(entry):
+    """The same of an entry that is read. A line that is no number of TOML is 0."""
+    sides = zip(entry["paths"], map(str, entry["lines"]), entry["functions"], strict=True)
+    return (*sorted(sides), *entry.get("variables", [None]))
+
+
+def plain_line(side):
+    path, line, function = side
+    return path, line if re.fullmatch(r"[1-9][0-9]{0,17}", line) else "0", function
+
+
+def judge_written(lines, races, text):
+    """Each race has an entry, no entry is there twice, and each is that of a race."""
+    entries = list(map(entry_read, tomllib.loads(text).get("race", [])))
+    wanted = {
+        (*sorted(map(plain_line, (one, other))), name)
+        for one, other, name in (entry_written(lines, *race) for race in races)
+    }
+    demand(len(entries) == len(set(entries)), "an entry is written twice")
+    demand(set(entries) == wanted, f"the entries {set(entries) ^ wanted} are written, or are missing")
+
+
 def literal(value):
     if isinstance(value, list):
         return "[" + ", ".join(map(literal, value)) + "]"
@@ -219,7 +272,7 @@ def drawn_entry(chance, lines, races):
     if chance.random() < 0.7:
         entry["functions"] = [function if chance.random() < 0.9 else "" for _, _, function in locations]
     if chance.random() < 0.6:
-        entry["variables"] = chance.sample(VARIABLES, chance.randint(1, 4))
+        entry["variables"] = chance.sample(VARIABLES, chance.randint(1, 9))
     if chance.random() < 0.7:
         entry["lines"] = [int(line or 0) + chance.choice([0, 0, 0, 1]) for _, line, _ in locations]
     entry["verdict"] = chance.choice(VERDICTS)
@@ -365,10 +418,8 @@ def judge_trace(program, folder, seed, reached):
     races = blocks(plain.stdout)
     written = run(program, folder, "--init-triage")
     text = written.stdout.decode()
-    demand(
-        written.returncode == 0 and len(tomllib.loads(text).get("race", [])) == len(races),
-        "another number of entries is written",
-    )
+    demand(written.returncode == 0, "no triage file is written")
+    judge_written(lines, races, text)
     write(folder, "i.toml", text)
     again = run(program, folder, "--triage", "i.toml")
     plainly = [

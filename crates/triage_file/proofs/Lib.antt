@@ -1,3 +1,4 @@
+pub mod EntryLemmas
 pub mod ItemLemmas
 pub mod KnownLemmas
 pub mod SpotLemmas

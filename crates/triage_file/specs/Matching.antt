@@ -18,6 +18,7 @@ use Rattle.explain_report.specs.places.Places.{before_arrow, behind_arrow, call_
 use Rattle.toml.specs.Data.{Data, as_str}
 use Rattle.toml.specs.View.{view}
 use Rattle.toml.specs.declared.value.Value.{Value}
+use Rattle.variable_names.specs.Names.{without_number}
 use Rattle.triage_file.specs.Entries.{has, hides, list_of, number_at, said_at}
 
 -- the path and the line of a place `PATH:LINE`; a place of another form is a path without a line
@@ -82,13 +83,13 @@ use_by r (Some v) = name_by_op r v.op
 abbrev pub use_at : Recording → ℕ → Option (List ℕ)
 use_at r e = use_by r (slice_get r.events e)
 
--- the item is this text
-abbrev pub is_same_text : List ℕ → Data → Bool
-is_same_text name d = bytes_eq (unwrap_or (as_str d) []) name
+-- the item is this variable, without the numbers of blocks and activations
+abbrev pub is_same_name : List ℕ → Data → Bool
+is_same_name name d = bytes_eq (without_number (unwrap_or (as_str d) [])) (without_number name)
 
--- the entry names this variable
+-- the entry names this variable, without numbers
 abbrev pub is_named : Data → List ℕ → Bool
-is_named d name = list_any (is_same_text name) (list_of (codes "variables") d)
+is_named d name = list_any (is_same_name name) (list_of (codes "variables") d)
 
 abbrev pub is_named_by : Data → Option (List ℕ) → Bool
 is_named_by d None = true

@@ -4,7 +4,7 @@ ghost use Rattle.std.specs.List.{list_any};
 ghost use Rattle.rapid_text.specs.Recording.{IsNamedOp};
 ghost use Rattle.toml.specs.Data.{as_str};
 ghost use Rattle.toml.specs.View.{view};
-ghost use Rattle.triage_file.specs.Matching.{are_named, are_sides, fits_function, fits_line, fits_variables, function_of, has_function, has_variables, is_at, is_free, is_line_by, is_match, is_named, is_named_by, is_number, is_same_text, is_side, line_of, name_by_op, path_of, use_at};
+ghost use Rattle.triage_file.specs.Matching.{are_named, are_sides, fits_function, fits_line, fits_variables, function_of, has_function, has_variables, is_at, is_free, is_line_by, is_match, is_named, is_named_by, is_number, is_same_name, is_side, line_of, name_by_op, path_of, use_at};
 
 use crate::fields::{has, list_of, number_at, said_at};
 use event_index::Indexed;
@@ -13,6 +13,7 @@ use itoa::Buffer;
 use race_triage::Verdict;
 use rapid_text::{Op, RawTrace};
 use toml::Value;
+use variable_names::are_same;
 
 /// The path of a place `PATH:LINE`. A place of another form is a path without a line.
 pub(crate) fn path_of(place: &[u8]) -> &[u8]
@@ -141,11 +142,11 @@ fn name_of(trace: &RawTrace, op: Op) -> Option<&[u8]>
     }
 }
 
-/// Whether the item is this text.
-fn is_same_text(item: &Value, name: &[u8]) -> bool
-    ensures { result ≡ is_same_text name.now (view item.now) }
+/// Whether the item is this variable, without numbers.
+fn is_same_name(item: &Value, name: &[u8]) -> bool
+    ensures { result ≡ is_same_name name.now (view item.now) }
 {
-    text_in(item) == name
+    are_same(text_in(item), name)
 }
 
 /// The text of a value; empty if it is not a text.
@@ -158,18 +159,18 @@ fn text_in(item: &Value) -> &[u8]
     }
 }
 
-/// Whether one of the items is this text.
-fn has_text(items: &[Value], name: &[u8]) -> bool
-    ensures { result ≡ list_any (λ item. is_same_text name.now (view item)) items.now }
+/// Whether one of the items is this variable, without numbers.
+fn has_name(items: &[Value], name: &[u8]) -> bool
+    ensures { result ≡ list_any (λ item. is_same_name name.now (view item)) items.now }
 {
-    items.iter().any(|item| is_same_text(item, name))
+    items.iter().any(|item| is_same_name(item, name))
 }
 
 /// The same, with the items as values.
-fn has_text_in(items: &[Value], name: &[u8]) -> bool
-    ensures { result ≡ list_any (is_same_text name.now) (map view items.now) }
+fn has_name_in(items: &[Value], name: &[u8]) -> bool
+    ensures { result ≡ list_any (is_same_name name.now) (map view items.now) }
 {
-    has_text(items, name)
+    has_name(items, name)
 }
 
 /// Whether the entry has variables.
@@ -179,11 +180,11 @@ pub fn has_variables(entry: &Value) -> bool
     has(entry, "variables")
 }
 
-/// Whether the entry names this variable.
+/// Whether the entry names this variable, without numbers.
 pub fn is_named(entry: &Value, name: &[u8]) -> bool
     ensures { result ≡ is_named (view entry.now) name.now }
 {
-    has_text_in(list_of(entry, "variables"), name)
+    has_name_in(list_of(entry, "variables"), name)
 }
 
 /// The same if there is a variable; true if there is none.

@@ -1,8 +1,9 @@
 -- Two texts that tell of one trace in lines are one.
 use Rattle.std.proofs.Common.{◌≡◌, ℕ, Bool, is_some, List, ◌++◌, Vec, Option, Some, None, refl, sym, ap, ◌∙◌, subst}
-use Rattle.std.specs.Prelude.{codes, flat_map, option_map, slice_index}
+use Rattle.std.specs.Prelude.{codes, option_map, slice_index}
+use Rattle.std.specs.List.{concat}
 use Rattle.toml.specs.declared.value.Value.{Value}
-use Rattle.triage_file.specs.Writing.{entry_by, IsTriageFile}
+use Rattle.triage_file.specs.Writing.{race_entries, IsTriageFile}
 use Rattle.std.specs.declared.alloc.Global.{Global}
 use Rattle.rapid_text.specs.Recording.{Recording}
 use Rattle.triage_report.specs.json.Lines.{json_line, left_out_line, verdict_lines, IsTriageJson}
@@ -47,7 +48,7 @@ module _ (r : Recording) (place : ℕ → ℕ) (tries : ℕ) (apart : Bool) (leg
   lines_same text words told another = told ∙ ap (λ (l : List Verdict). all_lines r l) same_choice.verdicts ∙ sym another
 
   entries_same : (numbers : List ℕ) (text words : List ℕ) → IsTriageFile r numbers c text → IsTriageFile r numbers d words → text ≡ words
-  entries_same numbers text words told another = told ∙ ap (λ (l : List Verdict). flat_map (entry_by r numbers) l) same_choice.verdicts ∙ sym another
+  entries_same numbers text words told another = told ∙ ap (λ (l : List Verdict). concat (race_entries r numbers l)) same_choice.verdicts ∙ sym another
 
   text_same : (text words : List ℕ) → IsTriageText r vs c text → IsTriageText r ws d words → text ≡ words
   text_same text words told another = texts_law r place tries apart known only hide vs ws c d text words legal one other chosen also told another
