@@ -27,6 +27,7 @@ import judging
 import plain
 import running
 import sarif_rules
+from plain_names import without_number
 
 LISTS = 60
 NAMES = ["a.json", "b c.json", "é.json", "t.std --windows 9 --window 000000004", "t.std --windows 9 --window"]
@@ -74,7 +75,7 @@ def side(access, root):
     shown = access.place() if file is None else file
     shown = shown[len(root) :] if root and shown.startswith(root) else shown
     line = line_at(root, file, number) if file else ""
-    return f"{shown}\n{judge_sarif.calls_of(access.location)[0]}\n{access.name}\n{line}"
+    return f"{shown}\n{judge_sarif.calls_of(access.location)[0]}\n{without_number(access.name)}\n{line}"
 
 
 def print_of(accesses, root):

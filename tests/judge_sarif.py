@@ -24,6 +24,7 @@ sys.dont_write_bytecode = True
 import by_chance
 import compiled
 import judging
+import plain_names
 import running
 import sarif_rules
 from sarif_rules import Wrong
@@ -107,7 +108,14 @@ class Event:
 def printed_without_code(pair):
     """The fingerprint of two accesses if no folder has their code: four lines each, the lesser four first."""
     lines = [
-        "\n".join([place_parts(event.place())[0] or event.place(), calls_of(event.location)[0], event.name, ""])
+        "\n".join(
+            [
+                place_parts(event.place())[0] or event.place(),
+                calls_of(event.location)[0],
+                plain_names.without_number(event.name),
+                "",
+            ]
+        )
         for event in pair
     ]
     return "\n".join(sorted(lines, key=lambda text: text.encode("utf-8")))
@@ -330,10 +338,14 @@ def check_moved(judge):
         )
         judge.tally["moved"] += 1
         write_code(code)
+        names = [f"heap:p.c:1 item{number}[3]" for number in ("", "#2", "#T3", "#T3.12")]
+        blocks = [judge.check([f"T1|w({name})|p.c:3", f"T2|r({name})|p.c:4"], [], root) for name in names]
+        judge.equal(blocks, [blocks[0]] * 4, "the fingerprint of a block with another number")
         others = {
             "line": ["T1|w(x)|p.c:1 < put", "T2|r(x)|p.c:4 < get"],
             "function": ["T1|w(x)|p.c:3 < push", "T2|r(x)|p.c:4 < get"],
             "variable": ["T1|w(y)|p.c:3 < put", "T2|r(y)|p.c:4 < get"],
+            "copy of a variable": ["T1|w(x#T1)|p.c:3 < put", "T2|r(x#T1)|p.c:4 < get"],
             "file": ["T1|w(x)|sub/p.c:2 < put", "T2|r(x)|p.c:4 < get"],
         }
         for what, lines in others.items():

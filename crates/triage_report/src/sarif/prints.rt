@@ -15,6 +15,7 @@ use report::{Piece, append_pieces};
 use serde_json::{Map, Value};
 use std::alloc::Global;
 use std::cmp::Ordering;
+use variable_names::parts_of;
 
 /// The object with the fingerprint of a pair.
 pub(crate) fn print_of(
@@ -96,7 +97,7 @@ fn append_both<'a>(out: &mut Vec<u8>, one: &'a [u8], other: &'a [u8]) -> Result<
     )
 }
 
-/// Appends the side of an access: its file, function, variable and line of code.
+/// Appends the side of an access: its file, function, variable without its number, and line of code.
 fn append_side<'a>(
     out: &mut Vec<u8>,
     sources: Sources<'a>,
@@ -105,6 +106,7 @@ fn append_side<'a>(
     ensures { Appended result out.old out.new (side_told sources.entry access.entry) }
 {
     let (place, _) = cut_at_arrow(access.location);
+    let (before, after) = parts_of(access.variable);
     append_pieces(
         out,
         &[
@@ -112,7 +114,8 @@ fn append_side<'a>(
             Piece::Words(b"\n"),
             Piece::Words(own_function(access.location)),
             Piece::Words(b"\n"),
-            Piece::Words(access.variable),
+            Piece::Words(before),
+            Piece::Words(after),
             Piece::Words(b"\n"),
             Piece::Words(line_text(sources.lines, place)),
         ],
