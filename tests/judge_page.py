@@ -44,6 +44,16 @@ REACHED = [
     "left out",
     "apart left out",
     "runs told in part",
+    "runs left out",
+    "words of 16,384 bytes",
+    "words of 16,385 bytes",
+    "last runs of 4,096 bytes",
+    "last runs of 4,097 bytes",
+    "pictures of 2,000 events",
+    "pictures of 2,001 events",
+    "pictures of 100 shades",
+    "pictures of 101 shades",
+    "long schedules",
     "undrawn",
     "pictures",
     "arrows",
@@ -464,10 +474,19 @@ DRAWN = (
 )
 ALL_TOLD = "All runs are listed in words below."
 LAST_TOLD = "The last runs are listed in words below, and the command under them prints all."
-# So many rows of each sort, pictures, and runs in words a page has at most.
+# So many rows of each sort and pictures a page has at most.
 MOST_ROWS = 2000
 MOST_PICTURES = 200
-MOST_TOLD = 2000
+# Of so few runs all are in words; else of so many runs and events, if the words have so many bytes; else the last runs
+# that have so many bytes.
+FEW_RUNS = 11
+MOST_RUNS = 100
+MOST_EVENTS = 2000
+MOST_BYTES = 16384
+LAST_BYTES = 4096
+# So many rectangles a picture has at most. A row of a long schedule has so many bytes, if its names are short.
+MOST_BOXES = 200
+MOST_ROW = 32768
 # What is said of words at the end of a page, behind how it begins.
 # What each count means, word by word.
 COUNTED = {
@@ -502,6 +521,11 @@ BESIDE_RACES = (
 )
 
 
+def bytes_of(lines):
+    """How many bytes these lines have, with their ends."""
+    return sum(len(line) + 1 for line in lines)
+
+
 def beside(entry):
     """What stands beside a race with this entry."""
     if entry is None:
@@ -522,9 +546,12 @@ class Judge:
         self.followed = None
         self.locations = {}
 
-    def explained(self, name, block, *words):
+    def raw_explained(self, name, block, *words):
         out = running.printed(self.program, ["explain", name, str(block.first), str(block.second), *words])
-        return [shown(line) for line in out.split(b"\n")[:-1]]
+        return out.split(b"\n")[:-1]
+
+    def explained(self, name, block, *words):
+        return [shown(line) for line in self.raw_explained(name, block, *words)]
 
     def judge_picture(self, name, block):
         """Judges the picture of the row of a race: it is that of the schedule which `witness` prints, and that shows
@@ -536,9 +563,8 @@ class Judge:
         listed = tuple(int(line.split(b" ")[0]) for line in out.split(b"\n")[:-1])
         if self.trace is None:
             picture = pictured.Picture(self.pictures[pair])
-            if picture.one("title") != f"A schedule that shows {pair[0]} and {pair[1]}" or picture.one(
-                "desc"
-            ) != " ".join(["Its events:", *map(str, listed)]):
+            title = f"A schedule that shows {pair[0]} and {pair[1]}"
+            if picture.one("title") != title or picture.one("desc") != pictured.described(listed):
                 raise Wrong(f"the picture of {pair} is {picture.one('title')!r}, {picture.one('desc')!r}")
             return listed
         if len(self.trace.events) <= SMALL:
@@ -593,19 +619,41 @@ class Judge:
         self.tally["told twice"] += entry_on(self.followed[self.followed.index(entry) + 1 :], locations) is not None
         return 1
 
+    def told(self, name, block, listed):
+        """The words for the schedule of a race, as lines, and whether they have all runs."""
+        whole = self.raw_explained(name, block, "--all")
+        runs = int(re.search(rb" in (\d+) runs? both are next$", whole[0])[1])
+        is_short = runs <= MOST_RUNS and len(listed) <= MOST_EVENTS and bytes_of(whole) <= MOST_BYTES
+        if runs <= FEW_RUNS or is_short:
+            self.tally["words of 16,384 bytes"] += bytes_of(whole) == MOST_BYTES
+            return whole, True
+        self.tally["runs told in part"] += 1
+        self.tally["words of 16,385 bytes"] += bytes_of(whole) == MOST_BYTES + 1
+        lines = self.raw_explained(name, block)
+        starts = [at for at, line in enumerate(lines) if line.startswith(b"run")]
+        first = next((at for at in starts if bytes_of(lines[at:]) <= LAST_BYTES), len(lines))
+        self.tally["last runs of 4,096 bytes"] += bytes_of(lines[starts[0] :]) == LAST_BYTES
+        self.tally["last runs of 4,097 bytes"] += bytes_of(lines[starts[0] :]) == LAST_BYTES + 1
+        if first == starts[0]:
+            return lines, False
+        self.tally["runs left out"] += 1
+        left = runs - sum(line.startswith(b"run ") for line in lines[first:])
+        note = f"runs 1 to {left} are left out here; racebench witness prints all events"
+        return [*lines[: starts[0]], note.encode(), *lines[first:]], False
+
     def judge_schedule(self, row, runs, block, name):
         """Judges the picture of the row of a race, what stands over it, and the runs of the schedule in words."""
         listed = self.judge_picture(name, block)
-        explained = self.explained(name, block, "--all")
-        is_told = int(re.search(r" in (\d+) runs? both are next$", explained[0])[1]) <= MOST_TOLD
+        told, is_told = self.told(name, block, listed)
         wanted = f"After {counted(str(len(listed)), 'event')} both are next: {block.first} and {block.second}. "
         wanted += f"{DRAWN} {ALL_TOLD if is_told else LAST_TOLD}"
         if row.one("figcaption").text() != wanted:
             raise Wrong(f"the caption is {row.one('figcaption').text()!r}, and plainly {wanted!r}")
-        told = explained if is_told else self.explained(name, block)
-        if runs.text().split("\n")[:-1] != told:
+        if runs.text().split("\n")[:-1] != [shown(line) for line in told]:
             raise Wrong(f"{runs.text()}, and not {told}")
-        self.tally["runs told in part"] += not is_told
+        boxes = len(list(row.one("svg").all("rect")))
+        if boxes > MOST_BOXES:
+            raise Wrong(f"the picture has {boxes} rectangles")
 
     def judge_row(self, row, block, name, is_drawn):
         if row.attributes != {"id": f"{block.sort}-{block.first}-{block.second}"}:
@@ -775,6 +823,52 @@ def in_turns(runs):
     return "".join(f"{line}\n" for line in [*lines[:-1], "A|w(last)|2", "B|w(last)|2"]).encode()
 
 
+def in_long_turns(runs, events):
+    """The same, and the schedule has so many events: the first run has most of them."""
+    lines = in_turns(runs).splitlines()
+    return b"".join(line + b"\n" for line in [b"A|w(own)|1"] * (events - 2 * runs + 2) + lines)
+
+
+def with_locks(shades):
+    """A trace in which the schedule of the last two accesses has 25 runs, with so many parts under a lock."""
+    lines = []
+    for number in range(25):
+        thread = "AB"[number % 2]
+        lines += [f"{thread}|r(x{number - 1})|1"] * (number > 0)
+        for _ in range(shades // 25 + (number < shades % 25)):
+            lines += [f"{thread}|acq({thread})|1", f"{thread}|rel({thread})|1", f"{thread}|w(own{thread})|1"]
+        lines.append(f"{thread}|w(x{number})|1")
+    return "".join(f"{line}\n" for line in [*lines, "A|w(last)|2", "B|r(x24)|1", "B|w(last)|2"]).encode()
+
+
+def long_schedules(races, events, run):
+    """A trace with so many races at the end, whose schedules have so many events of four threads, in runs of some
+    events each. Parts of each run are under locks, and each location has two calls."""
+    chance = random.Random(run)
+    files = ["common/threadpool.c", "encoder/encoder.c", "common/frame.c"]
+    calls = ["threadpool_run", "encoder_encode", "frame_end", "slicetype_decide"]
+
+    def location():
+        named = [f" < {chance.choice(calls)} {chance.choice(files)}:{chance.randrange(4000)}" for _ in range(2)]
+        return f"{chance.choice(files)}:{chance.randrange(4000)}" + "".join(named)
+
+    lines, thread, runs = [], 0, 0
+    while len(lines) < events - 2:
+        lines += [f"T{thread}|r(sync{runs})|{location()}"] * (runs > 0)
+        runs += 1
+        for _ in range(chance.randint(0, run // 2)):
+            lines.append(f"T{thread}|w(context{thread})|{location()}")
+            if chance.random() < 0.2:
+                lines += [f"T{thread}|{word}(mutex{thread})|{location()}" for word in ("acq", "rel")]
+        lines.append(f"T{thread}|w(sync{runs})|{location()}")
+        thread = (thread + chance.randint(1, 3)) % 4
+    lines += [f"T{thread}|r(sync{runs})|{location()}", f"T{thread}|w(go)|{location()}"]
+    for word, accesses in (("w", thread), ("r", (thread + 1) % 4)):
+        lines += [f"T{accesses}|r(go)|{location()}"] * (word == "r")
+        lines += [f"T{accesses}|{word}(field{race})|{word}.c:{race}" for race in range(races)]
+    return "".join(f"{line}\n" for line in lines).encode()
+
+
 # Locations as the recorder writes them, with functions, with the places of calls, and with a block that is given back.
 FRAMED = b"""T0|w(t)|a.c:1 < make < main a.c:9
 T0|w(u)|a.c:1 < make < main a.c:9
@@ -837,6 +931,53 @@ def followed_lines(chance, judge, name):
     return entries
 
 
+def judge_padded(judge, lines, at, size):
+    """A page of this trace, after the location of one event was made so long that words have so many bytes."""
+    text = b"".join(line + b"\n" for line in lines)
+    write("padded", text)
+    words = ["--all"] if size > LAST_BYTES + 1 else []
+    blocks = blocks_of(running.printed(judge.program, ["triage", "padded"]).split(b"\n")[11:-1])
+    told = judge.raw_explained("padded", blocks[-1], *words)
+    start = 0 if words else next(at for at, line in enumerate(told) if line.startswith(b"run"))
+    more = size - bytes_of(told[start:])
+    write("padded", b"".join(line + b"p" * (more * (number == at)) + b"\n" for number, line in enumerate(lines)))
+    judge.judge("padded", [])
+
+
+def judge_bounds(judge):
+    """Schedules at the bounds of what a page has of them."""
+    for runs in (FEW_RUNS, FEW_RUNS + 1, MOST_RUNS, MOST_RUNS + 1):
+        write("turns", in_turns(runs))
+        judge.judge("turns", [])
+    for runs in (FEW_RUNS, FEW_RUNS + 1):
+        for events in (MOST_EVENTS, MOST_EVENTS + 1):
+            write("turns", in_long_turns(runs, events))
+            judge.judge("turns", [])
+    for shades in (pictured.MOST_SHADES, pictured.MOST_SHADES + 1):
+        write("shaded", with_locks(shades))
+        judge.judge("shaded", [])
+    for runs, size, length in (
+        (MOST_RUNS, MOST_BYTES, 20),
+        (MOST_RUNS + 1, LAST_BYTES, 60),
+        (FEW_RUNS, MOST_BYTES, 400),
+    ):
+        lines = [line.replace(b")|1", b")|" + b"l" * length) for line in in_turns(runs).splitlines()]
+        for more in (0, 1):
+            judge_padded(judge, lines, len(lines) - 4, size + more)
+
+
+def judge_sizes(judge):
+    """Pages of 98 races with schedules of 50,000 events each have at most 32 KiB a race."""
+    for run in (8, 100, 2000, 20000):
+        write("long", long_schedules(98, 50000, run))
+        page = running.printed(judge.program, ["triage", "long", "--page"])
+        rows = re.findall(rb'<details id="race-.*?</details>\n', page, re.DOTALL)
+        if len(rows) != 98 or max(map(len, rows)) > MOST_ROW:
+            raise Wrong(f"{len(rows)} rows, of {max(map(len, rows))} bytes at most")
+        judge.tally["long schedules"] += 1
+    judge.judge("long", [])
+
+
 def judge_made(judge, here):
     """The traces that are not drawn."""
     for name in ["count.std", "pdsh.std", "two_pairs.std"]:
@@ -855,9 +996,7 @@ def judge_made(judge, here):
     for races in (MOST_PICTURES, MOST_ROWS):
         write("many", many(races))
         judge.judge("many", [])
-    for runs in (MOST_TOLD, MOST_TOLD + 1):
-        write("turns", in_turns(runs))
-        judge.judge("turns", [])
+    judge_bounds(judge)
     write("guarded", guarded(MOST_ROWS + 1))
     judge.judge("guarded", ["--apart"])
     write("undecided", UNDECIDED)
@@ -874,6 +1013,7 @@ def judge_made(judge, here):
     for name in ["count.std", "pdsh.std", "framed", "empty", "many"]:
         judge.judge(name, ["--apart"] if name != "many" else [], followed_lines(random.Random(name), judge, name))
     judge.judge("count.std", [], [])
+    judge_sizes(judge)
 
 
 def judge_drawn(judge, chance):

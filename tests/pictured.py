@@ -27,6 +27,12 @@ NAMES = 48
 MOST_LOCKS = 8
 # How wide the bar at the left edge of a box is.
 BAR = 6
+# So many shades of a picture are drawn one by one; if there are more, a bar with more than so many is shaded by its
+# quarters.
+MOST_SHADES = 100
+FEW_SHADES = 2
+# So many events are listed in the description.
+MOST_LISTED = 2000
 # A picture is shown a fifth larger than it is drawn; so many pixels are seen of it where the page is 400 wide.
 SHOWN = 1.2
 NARROW = 376
@@ -47,6 +53,13 @@ def cut(text):
     """The text as it is drawn."""
     begin = text.encode()[: MOST_BYTES - 1].decode("utf-8", "ignore")
     return text if len(text.encode()) <= MOST_BYTES else begin + "…"
+
+
+def described(listed):
+    """The description of a picture of this schedule."""
+    if len(listed) > MOST_LISTED:
+        return f"Its {len(listed)} events are those that racebench witness prints"
+    return " ".join(["Its events:", *map(str, listed)])
 
 
 def label(trace, event):
@@ -155,7 +168,30 @@ def shades_of(run, holds):
     return shades
 
 
-def judge_bars(picture, boxes, runs, holds):
+def quarters_of(run, holds):
+    """The quarters of the run in which its thread holds a lock, neighbours as one, by their places in the run."""
+    bounds = [len(run) * quarter // 4 for quarter in range(5)]
+    shades = []
+    for quarter, (start, end) in enumerate(zip(bounds, bounds[1:])):
+        if any(event in holds for event in run[start:end]):
+            if shades and shades[-1][1] == quarter:
+                shades[-1] = (shades[-1][0], quarter + 1)
+            else:
+                shades.append((quarter, quarter + 1))
+    return [(start * len(run) / 4, end * len(run) / 4) for start, end in shades]
+
+
+def all_shades(runs, holds, tally):
+    """The shades of each run: all; or if all runs have too many, the quarters of a run with more than two."""
+    shades = [shades_of(run, holds) for run in runs]
+    if sum(map(len, shades)) <= MOST_SHADES:
+        tally["pictures of 100 shades"] += sum(map(len, shades)) == MOST_SHADES
+        return shades
+    tally["pictures of 101 shades"] += sum(map(len, shades)) == MOST_SHADES + 1
+    return [quarters_of(run, holds) if len(found) > FEW_SHADES else found for run, found in zip(runs, shades)]
+
+
+def judge_bars(picture, boxes, runs, holds, tally):
     """Judges the bars at the left edges of the boxes: each is as high as its box, beside the lines, and shaded from
     and to where the parts of a height that has one part for each event begin and end."""
     bars = [box_of(rect) for rect in picture.all("rect", "edge")]
@@ -163,9 +199,9 @@ def judge_bars(picture, boxes, runs, holds):
         raise Wrong(f"the bars stand at {bars}, and the boxes at {boxes}")
     found = sorted(box_of(rect) for rect in picture.all("rect", "held"))
     wanted = []
-    for box, run in zip(boxes, runs):
+    for box, run, shades in zip(boxes, runs, all_shades(runs, holds, tally)):
         part = (box.bottom - box.top) / len(run)
-        for start, end in shades_of(run, holds):
+        for start, end in shades:
             wanted.append((box.left, box.top + start * part, box.left + BAR, box.top + end * part))
     wanted.sort()
 
@@ -294,6 +330,8 @@ def note_kinds(trace, tally, pair, runs, drawn):
     tally["pictures with earlier runs"] += len(drawn) < len(runs)
     tally["pictures of 40 runs"] += len(runs) == MOST_RUNS
     tally["pictures of 41 runs"] += len(runs) == MOST_RUNS + 1
+    tally["pictures of 2,000 events"] += sum(map(len, runs)) == MOST_LISTED
+    tally["pictures of 2,001 events"] += sum(map(len, runs)) == MOST_LISTED + 1
     tally["pictures of 4 threads"] += len(threads) == MOST_COLUMNS
     tally["pictures of 5 threads"] += len(threads) == MOST_COLUMNS + 1
     tally["lines that are cut"] += any(text.endswith("…".encode()) for text in texts)
@@ -308,7 +346,7 @@ def judge_picture(trace, tally, text, pair, listed):
     runs = runs_of(trace, listed)
     if picture.one("title") != f"A schedule that shows {pair[0]} and {pair[1]}":
         raise Wrong(f"the title is {picture.one('title')!r}")
-    if picture.one("desc") != " ".join(["Its events:", *map(str, listed)]):
+    if picture.one("desc") != described(listed):
         raise Wrong(f"the description is {picture.one('desc')!r}")
     numbers = drawn_of(trace, listed, runs)
     drawn = [runs[number] for number in numbers]
@@ -327,6 +365,6 @@ def judge_picture(trace, tally, text, pair, listed):
     judge_arrows(trace, picture, boxes, drawn, waiters)
     judge_accesses(trace, picture, pair)
     judge_words(picture, pair, listed, runs, picture.boxes["box"])
-    tally["shades"] += judge_bars(picture, boxes, drawn, has_locks(trace, listed))
+    tally["shades"] += judge_bars(picture, boxes, drawn, has_locks(trace, listed), tally)
     tally["arrows"] += sum(waiter is not None for waiter in waiters)
     note_kinds(trace, tally, pair, runs, drawn)

@@ -8,6 +8,7 @@ use Rattle.serde_json.specs.View.{view}
 use Rattle.serde_json.specs.declared.value.Value.{Value}
 use Rattle.race_parts.specs.Members.{access_in, said_number, said_text}
 use Rattle.race_parts.specs.Texts.{text_in}
+use Rattle.race_page.specs.declared.merged_table.TheConstants.{TABLE_BEGIN, TABLE_END}
 
 -- the locks that are held at an access
 abbrev pub lock_text : Data → List ℕ
@@ -65,6 +66,4 @@ access_row place d = line_by (access_in place d)
 
 -- the table of both accesses
 abbrev pub table_text : Data → List ℕ
-table_text d =
-    codes "<h4>The two accesses</h4>\n<table>\n<thead>\n<tr><th scope=\"col\">Event</th><th scope=\"col\">Line of the trace</th><th scope=\"col\">Locks held before it</th></tr>\n</thead>\n<tbody>\n"
-    ++ access_row 0 d ++ access_row 1 d ++ codes "</tbody>\n</table>\n"
+table_text d = TABLE_BEGIN.now ++ access_row 0 d ++ access_row 1 d ++ TABLE_END.now

@@ -30,7 +30,8 @@ pub data IsPiece : List ℕ → Type 0 where
   number : (n : ℕ) (m : List ℕ) → IsPiece m → IsPiece (m ++ decimal n)
   text : (bytes m : List ℕ) → IsPiece m → IsPiece (m ++ escaped bytes)
 
--- The text draws a schedule of the trace, a correct reordering that shows the pair.
+-- The text draws a schedule of the trace, a correct reordering that shows the pair. The description of the figure lists
+-- its events if there are at most 2,000, and else counts them.
 pub record IsDrawn (r : Recording) (a b : ℕ) (text : List ℕ) : Type 0 where
   pub events : List ℕ
   pub reordering : IsCorrectReordering r.events events

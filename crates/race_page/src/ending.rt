@@ -1,4 +1,4 @@
-//! The end of a page: what is left out, the counts, and the meaning of the words.
+//! The end of a page: what is left out, the counts, and what its words mean.
 ghost use Rattle.std.specs.Prelude.{◌≡◌, ◌++◌, [], List, ℕ, OnOk};
 ghost use Rattle.race_page.specs.Pages.{IsEnd, IsPiece};
 
@@ -11,7 +11,7 @@ use event_index::Indexed;
 use race_triage::{Chosen, Verdicts};
 use rapid_text::OutOfMemory;
 
-/// Appends the end of the page: what is left out, the counts, and the meaning of the words.
+/// Appends the end of the page: what is left out, the counts, and what its words mean.
 pub(crate) fn append_end(
     out: &mut Vec<u8>,
     indexed: &Indexed,
@@ -31,7 +31,7 @@ pub(crate) fn append_end(
     Ok(())
 }
 
-/// Appends the meaning of the words, and the foot, as one piece.
+/// Appends what the page's words mean, and the foot, as one piece.
 fn append_foot(out: &mut Vec<u8>, piece: &mut Piece, are_followed: bool) -> Result<(), OutOfMemory>
     ensures { OnOk result ((foot : List ℕ) × IsPiece foot × (out.new.items ≡ out.old.items ++ foot)) }
 {

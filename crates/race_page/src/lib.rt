@@ -21,6 +21,7 @@ mod page;
 mod piece;
 mod reasons;
 mod rows;
+mod run_words;
 mod schedules;
 mod selecting;
 mod shell;

@@ -1,4 +1,4 @@
-//! The meaning of the words on a page.
+//! What the words on a page mean.
 use crate::own::Tag;
 use crate::piece::{Item, Piece};
 use rapid_text::OutOfMemory;

@@ -84,7 +84,7 @@ fn append_races_of(
     append_lead(out, parts, races.as_slice(), left)
 }
 
-/// Appends the beginning of the page, and a section of these races.
+/// Appends the beginning of the page, and a section of the races.
 #[tactic(auto, unfolding(crate::specs::Merged::lead_text))]
 fn append_lead(
     out: &mut Vec<u8>,
@@ -140,7 +140,7 @@ fn of_rank<'a>(alloc: Global, pairs: &[Pair<'a>], rank: u8) -> Result<Vec<Pair<'
     Ok(kept)
 }
 
-/// Appends the section of these pairs, which have this rank.
+/// Appends the section of the pairs of a rank.
 #[tactic(auto, unfolding(crate::specs::Merged::section_text))]
 fn append_section(
     out: &mut Vec<u8>,
@@ -180,7 +180,7 @@ fn heading_of(rank: u8) -> &'static [u8]
     }
 }
 
-/// Appends the rows of the first 2,000 of these pairs, and how many more there are.
+/// Appends the rows of the first 2,000 pairs, and how many more there are.
 #[tactic(auto, unfolding(crate::specs::Merged::kept_text))]
 fn append_kept(out: &mut Vec<u8>, parts: usize, kept: &[Pair<'_>]) -> Result<(), OutOfMemory>
     ensures { Appended result out.old out.new (kept_text parts kept.now) }

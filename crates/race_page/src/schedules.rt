@@ -8,16 +8,12 @@ use crate::commands::write_commands;
 use crate::own::Tag;
 use crate::page::Page;
 use crate::piece::{Item, Piece};
+use crate::run_words::Words;
 use crate::shown::Shown;
 use crate::words::lines;
-use event_index::Indexed;
+use explain_report::How;
 use explain_report::findings::{Finding, find};
-use explain_report::{How, Verdict, explain_text, runs_of};
 use rapid_text::OutOfMemory;
-use std::alloc::Global;
-
-/// The most runs that are written in words. If there are more, only the last ones are written.
-const MOST_TOLD: usize = 2_000;
 
 const PICTURE: &[u8] =
     b". A column is a thread, a box is a run of its events, and time goes downwards. Of a long schedule the picture has \
@@ -98,20 +94,12 @@ fn write_race(
     ensures trace { page.new.trace ≡ page.old.trace }
     ensures rows { OnOk result (page.new.rows ≡ page.old.rows ++ shown ∷ []) }
 {
-    let all = is_told(page.allocator(), page.indexed(), events)?;
-    write_caption(piece, events.len() as u64, all, shown)?;
+    let mut words = Words::new(page.allocator());
+    words.fill(page, how, events, shown)?;
+    write_caption(piece, events.len() as u64, words.is_all(), shown)?;
     let mut after = Piece::new(page.allocator());
-    let verdict = Verdict::Race { how, events, all };
-    write_after(&mut after, page, word, &verdict, shown)?;
+    write_after(&mut after, words.text(), word, shown)?;
     page.drawn_row(events, shown, piece, &after)
-}
-
-/// Whether all runs of the schedule are written in words.
-fn is_told(alloc: Global, indexed: &Indexed, events: &[u32]) -> Result<bool, OutOfMemory> {
-    match runs_of(alloc, indexed, events) {
-        Ok(runs) => Ok(runs.len() <= MOST_TOLD),
-        Err(refused) => Err(refused),
-    }
 }
 
 /// Writes what comes before the picture, with a caption that says what the picture shows.
@@ -141,26 +129,15 @@ fn write_caption(
 /// Writes what comes after the picture: the runs in words, and the commands.
 fn write_after(
     piece: &mut Piece,
-    page: &Page<'_>,
+    words: &[u8],
     word: &[u8],
-    verdict: &Verdict<'_>,
     shown: Shown,
 ) -> Result<(), OutOfMemory> {
-    piece.write(&[Item::End(Tag::Wide), Item::End(Tag::Figure)])?;
-    let mut text = Vec::new(piece.allocator());
-    write_explained(piece, &mut text, page, verdict, shown)?;
+    piece.write(&[
+        Item::End(Tag::Wide),
+        Item::End(Tag::Figure),
+        Item::Element(Tag::PartHeading, b"Its runs in words"),
+    ])?;
+    lines(piece, words)?;
     write_commands(piece, word, shown)
-}
-
-/// Writes the verdict in words. `text` is empty, and gets these words.
-fn write_explained(
-    piece: &mut Piece,
-    text: &mut Vec<u8>,
-    page: &Page<'_>,
-    verdict: &Verdict<'_>,
-    shown: Shown,
-) -> Result<(), OutOfMemory> {
-    explain_text(page.analysis(), verdict, (shown.first, shown.second), text)?;
-    piece.write(&[Item::Element(Tag::PartHeading, b"Its runs in words")])?;
-    lines(piece, text.as_slice())
 }

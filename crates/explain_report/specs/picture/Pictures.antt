@@ -1,5 +1,5 @@
 -- What a picture is, and the content of its words. All notions here are this project's own.
-use Rattle.std.specs.Prelude.{◌≡◌, ℕ, List, [], ◌++◌, flat_map, codes, decimal}
+use Rattle.std.specs.Prelude.{◌≡◌, ℕ, List, [], ◌++◌, cond, length, nat_le, flat_map, codes, decimal}
 use Rattle.explain_report.specs.picture.Shapes.{AreShapes, attribute_text, point_text}
 use Rattle.explain_report.specs.declared.picture.style.TheConstants.{STYLE}
 
@@ -21,9 +21,17 @@ spaced_events es = flat_map spaced_event es
 abbrev pub title : ℕ → ℕ → List ℕ
 title a b = codes "<title>A schedule that shows " ++ decimal a ++ codes " and " ++ decimal b ++ codes "</title>\n"
 
--- its description: the events P of the schedule, in its order
+-- a description that lists the events P, in their order
+abbrev pub all_listed : List ℕ → List ℕ
+all_listed P = codes "<desc>Its events:" ++ spaced_events P ++ codes "</desc>\n"
+
+-- a description that only counts n events, and names the command that prints them
+abbrev pub only_counted : ℕ → List ℕ
+only_counted n = codes "<desc>Its " ++ decimal n ++ codes " events are those that racebench witness prints</desc>\n"
+
+-- the picture's description: all events P of the schedule if there are at most 2,000, else how many there are
 abbrev pub listed : List ℕ → List ℕ
-listed P = codes "<desc>Its events:" ++ spaced_events P ++ codes "</desc>\n"
+listed P = cond (nat_le (length P) 2000) (all_listed P) (only_counted (length P))
 
 -- the title and the description
 abbrev pub described : List ℕ → ℕ → ℕ → List ℕ

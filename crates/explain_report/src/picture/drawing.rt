@@ -14,7 +14,7 @@ use crate::picture::labels::{draw_line, thread_name};
 use crate::picture::layout::{GAP, Placed, TOP, end_of, place_runs};
 use crate::picture::pieces::{Piece, append_pieces, append_words, plural_of};
 use crate::picture::rows::{draw_earlier, draw_run, earlier_height};
-use crate::picture::shades::note_held;
+use crate::picture::shades::Held;
 use crate::picture::style::STYLE;
 use crate::{Run, runs_of, waiters_of};
 use event_index::Indexed;
@@ -28,7 +28,7 @@ struct Drawing {
     runs: Vec<Run>,
     shown: Vec<bool>,
     placed: Vec<Placed>,
-    held: Vec<bool>,
+    held: Held,
     first_locks: Vec<u32>,
     second_locks: Vec<u32>,
     end: u64,
@@ -42,7 +42,7 @@ impl Drawing {
             runs: Vec::new(alloc),
             shown: Vec::new(alloc),
             placed: Vec::new(alloc),
-            held: Vec::new(alloc),
+            held: Held::new(alloc),
             first_locks: Vec::new(alloc),
             second_locks: Vec::new(alloc),
             end: 0,
@@ -60,7 +60,7 @@ impl Drawing {
         self.runs = runs_of(*self.runs.allocator(), indexed, events)?;
         self.place(indexed, events)?;
         self.columns.fill(indexed, &self.placed, first, second)?;
-        note_held(&mut self.held, indexed, events)?;
+        self.held.fill(indexed, events, &self.placed)?;
         note_locks(&mut self.first_locks, indexed, first)?;
         note_locks(&mut self.second_locks, indexed, second)
     }
@@ -117,7 +117,7 @@ pub fn picture_text(
     second: u32,
     out: &mut Vec<u8>,
 ) -> Result<(), OutOfMemory>
-    // The picture names the events of the schedule and the pair.
+    // The picture names the pair, and the events of the schedule if there are at most 2,000. Else it counts them.
     ensures ok { AppendedOne result out.old out.new (IsPicture events.now first second) }
     ensures err { OnErr result (out.new.items ≡ out.old.items) }
 {
@@ -133,7 +133,7 @@ pub fn figure_text(
     second: u32,
     out: &mut Vec<u8>,
 ) -> Result<(), OutOfMemory>
-    // The figure names the events of the schedule and the pair.
+    // The figure names the pair, and the events of the schedule if there are at most 2,000. Else it counts them.
     ensures ok { AppendedOne result out.old out.new (IsFigure events.now first second) }
     ensures err { OnErr result (out.new.items ≡ out.old.items) }
 {

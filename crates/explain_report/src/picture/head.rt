@@ -1,11 +1,14 @@
 //! The parts of a picture around its shapes: its size, its title and description, the paper, and the end.
 ghost use Rattle.std.specs.Prelude.{◌∷◌, []};
-ghost use Rattle.explain_report.specs.picture.Pictures.{described, drawn_text, listed, root_text, spaced_events, title};
+ghost use Rattle.explain_report.specs.picture.Pictures.{all_listed, described, drawn_text, listed, only_counted, root_text, spaced_events, title};
 ghost use Rattle.rapid_text.specs.Appended.{Appended};
 
 use crate::picture::pieces::{Piece, append_pieces, append_words};
 use crate::picture::shapes::{append_attribute, append_point};
 use rapid_text::OutOfMemory;
+
+/// The most events that a description lists. They take at most 16,000 bytes.
+const MOST_LISTED: usize = 2_000;
 
 /// The size of a picture.
 #[derive(Clone, Copy)]
@@ -64,7 +67,8 @@ pub(crate) fn append_drawn(out: &mut Vec<u8>, shapes: &[u8]) -> Result<(), OutOf
     Ok(())
 }
 
-/// Appends the pair of the picture, and the events of the schedule in order.
+/// Appends the pair of the picture, and the events of the schedule in order. If there are more than 2,000, it only
+/// counts them.
 pub(crate) fn append_description(
     out: &mut Vec<u8>,
     events: &[u32],
@@ -95,13 +99,39 @@ fn append_title(out: &mut Vec<u8>, first: u32, second: u32) -> Result<(), OutOfM
     Ok(())
 }
 
-/// Appends the events of the schedule.
+/// Appends the description: the events of the schedule, or how many there are.
 fn append_list(out: &mut Vec<u8>, events: &[u32]) -> Result<(), OutOfMemory>
     ensures { Appended result out.old out.new (listed events.now) }
+{
+    if events.len() <= MOST_LISTED {
+        append_all(out, events)
+    } else {
+        append_counted(out, events.len() as u64)
+    }
+}
+
+/// Appends the description that lists the events.
+fn append_all(out: &mut Vec<u8>, events: &[u32]) -> Result<(), OutOfMemory>
+    ensures { Appended result out.old out.new (all_listed events.now) }
 {
     append_words(out, b"<desc>Its events:")?;
     append_events(out, events)?;
     append_words(out, b"</desc>\n")?;
+    Ok(())
+}
+
+/// Appends the description that only counts the events.
+fn append_counted(out: &mut Vec<u8>, events: u64) -> Result<(), OutOfMemory>
+    ensures { Appended result out.old out.new (only_counted events) }
+{
+    append_pieces(
+        out,
+        &[
+            Piece::Words(b"<desc>Its "),
+            Piece::Number(events),
+            Piece::Words(b" events are those that racebench witness prints</desc>\n"),
+        ],
+    )?;
     Ok(())
 }
 

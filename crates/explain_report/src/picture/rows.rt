@@ -5,7 +5,7 @@ use crate::picture::columns::{Columns, MARGIN};
 use crate::picture::labels::{draw_line, name_in, thread_name, word_of};
 use crate::picture::layout::{BOX, GAP, INDENT, Placed, TOP, base_of, height_of};
 use crate::picture::pieces::{Piece, append_pieces, plural_of};
-use crate::picture::shades::draw_bar;
+use crate::picture::shades::{Held, draw_bar};
 use crate::{Run, words_between};
 use event_index::Indexed;
 use rapid_text::OutOfMemory;
@@ -64,7 +64,7 @@ pub(crate) fn draw_run(
     indexed: &Indexed,
     columns: &Columns,
     list: &[u32],
-    held: &[bool],
+    held: &Held,
     placed: &Placed,
 ) -> Result<(), OutOfMemory> {
     let left = columns.left(placed.run.thread);
