@@ -7,7 +7,7 @@ const AGAIN = 1000;
 
 let socket = null;
 let number = 0;
-let ticket = null; // until it is spent
+let ticket = location.hash.slice(1); // until it is spent
 const waiting = new Map();
 const listeners = new Map();
 
@@ -17,20 +17,19 @@ export function on(what, act) {
 
 const tell = (what, told) => listeners.get(what)?.(told);
 
+if (ticket) history.replaceState(null, "", "/");
+
 async function key() {
-  if (location.hash.length > 1) {
-    ticket = location.hash.slice(1);
-    history.replaceState(null, "", "/");
-  }
   if (ticket) {
     const answer = await fetch("/enter", { method: "POST", body: ticket });
-    ticket = null;
+    ticket = "";
     if (answer.ok) keep("sessionStorage", "key", await answer.text());
   }
   return kept("sessionStorage", "key");
 }
 
-// A new link that is opened in this tab differs from this page behind the `#` alone.
+// A new link that is opened in this tab differs from this page behind the `#` alone. Its ticket is for the page that is
+// loaded then: if this one spent it, that one would have none.
 addEventListener("hashchange", () => location.hash.length > 1 && location.reload());
 
 function tryAgain() {

@@ -1,5 +1,6 @@
 """The browser's own means: back, forward, a reload, a second tab, a new link in the same tab, no storage."""
 
+import json
 import os
 
 import traces
@@ -249,6 +250,22 @@ async def test_a_new_link_in_the_same_tab(program):
         await page.until(f"!window.isOld && {TITLE}")
         await new(page, 3)
         same(await page.run("location.hash"), "")
+        is_clean(page, screen)
+
+
+async def test_a_new_link_while_the_page_tries_to_connect(program):
+    """The page that is loaded then spends the link's ticket, and not the one that still tries."""
+    traces.write("trace", traces.COUNT)
+    async with Screen(program, "trace", "log") as screen, Browser() as browser:
+        page = await browser.page(screen.link)
+        await page.until(TITLE)
+        await page.click("#link")
+        link = await page.until("document.querySelector('#help input.link')?.value")
+        await page.run("sessionStorage.clear(); window.isOld = true")
+        ticket = json.dumps(link[link.index("#") :])
+        await page.run(f"import('/net.js').then((net) => {{ location.hash = {ticket}; net.connect(); }}); 0")
+        await page.until(f"!window.isOld && {TITLE}")
+        await new(page, 3)
         is_clean(page, screen)
 
 
