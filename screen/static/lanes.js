@@ -62,7 +62,7 @@ export function reveal(thread) {
 
 function named(thread, own, at, size) {
   const whole = state.threads[thread][1];
-  const cell = el("span", `lane-name ${hue(thread)}${width < 40 ? " tight" : ""}`,
+  const cell = el("span", `lane-name ${hue(thread)}${width < 40 ? " tight" : ""}${width < 20 ? " close" : ""}`,
     el("bdi", "", threadName(thread)), width < 88 ? null : el("span", "dim num", ` ${own}/${whole}`));
   cell.title = `${threadName(thread)}: ${count(own)} of ${count(whole)} events`;
   cell.style.left = `${GUTTER + at * width}px`;

@@ -203,7 +203,7 @@ function titled() {
   }
   if (state.aim && sought) return [heading("Looking for the witness …")];
   if (state.aim && none) return withoutWitness();
-  return [heading("No schedule"), el("span", "dim", "open a race on the left, or make an empty schedule")];
+  return [heading("No schedule"), el("span", "dim", "open a race, or make an empty schedule")];
 }
 
 // What the program said of a pair: a proof that no schedule shows it, or that none is known, or a fault.
@@ -232,7 +232,8 @@ function viewButtons() {
     return [inTurn("Work on it", "w", take, "main"), aimed];
   }
   const isThere = state.rows.has(state.view?.schedule); // another analyst may have dropped it
-  return isThere ? [button("Branch", "b", () => branch()), inTurn("Drop", "", drop)] : null;
+  if (!isThere) return null;
+  return el("span", "together", button("Branch", "b", () => branch()), inTurn("Drop", "", drop));
 }
 
 function aimLine() {

@@ -67,7 +67,7 @@ TOGETHER = """Object.defineProperty(WebSocket.prototype, "onmessage", {
     const behind = [];
     this.addEventListener("message", (message) => {
       const told = JSON.parse(message.data);
-      if (!kept && told.entries?.[0]?.k === "propose") {
+      if (!kept && told.entries?.[0]?.kind === "propose") {
         kept = told;
         window.isKept = true;
       } else if (kept && told.push === "log") {

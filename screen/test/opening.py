@@ -81,13 +81,13 @@ async def test_what_others_did_is_counted_once(program):
     news.Count.take = lambda count, entry: (taken.append(entry.number), take(count, entry))
     try:
         told = news.News(2)
-        first = [{"c": 3, "name": "A", "last": 999, "add": 500}]
+        first = [{"client": 3, "name": "A", "last": 999, "counts": {"add": 500}}]
         same(await told.since(0, entries), first)
         entries += [Entry(1000, 2, ["back", "A"])]
         same(await told.since(0, entries), first)
         same(len(taken), 500)
         entries += [Entry(1001, 3, ["batch", "new", "B", ";", "add", "B", "7", ";", "add", "B", "8"])]
-        other = {"c": 3, "name": "B", "last": 1001, "new": 1, "add": 2}
+        other = {"client": 3, "name": "B", "last": 1001, "counts": {"new": 1, "add": 2}}
         same(await told.since(0, entries), [other, *first])
         same(await told.since(1001, entries), [other])
     finally:

@@ -274,13 +274,13 @@ def test_windows_are_parts_of_the_whole(program):
     layout = Layout(sheet)
     whole = layout.window(0, 10**6)["rows"]
     same([row for first in range(0, layout.total, 37) for row in layout.window(first, 37)["rows"]], whole)
-    assert any("b" in row for row in whole) and len(whole) == layout.total
+    assert any("size" in row for row in whole) and len(whole) == layout.total
     at = 0
     for number, row in enumerate(whole):
         same((row["position"], layout.row_of(at)), (at, number))
-        at += row.get("b", 1)
+        at += row.get("size", 1)
     same(at, 2900)
-    row_of = [number for number, row in enumerate(whole) for _ in range(row.get("b", 1))]
+    row_of = [number for number, row in enumerate(whole) for _ in range(row.get("size", 1))]
     for number in range(0, layout.total, 11):  # locks of a window are those that a look over all events finds
         last = min(layout.total, number + 11)
         low, high = row_of.index(number), 2899 - row_of[::-1].index(last - 1)

@@ -59,7 +59,7 @@ def modules():
         "redrawing",
         "focus_and_release",
     )
-    yield from ("quick_keys", "big_traces")
+    yield from ("quick_keys", "big_traces", "report_pages")
 
 
 def tests(wanted):
