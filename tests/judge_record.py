@@ -12,6 +12,7 @@ there, nothing is judged, and a line says so.
 import multiprocessing
 import os
 import re
+import signal
 import subprocess
 import sys
 import tempfile
@@ -294,6 +295,8 @@ def judge_cases(run):
     """Judges all cases side by side, and then those that failed once more, one after another: threads and real
     programs depend on what else the machine does. A case that passes at its second try is a defect to be mended, of
     the recorder or of the case."""
+    # A shell starts a job behind `&` with control-C ignored, and what a case starts would ignore it too.
+    signal.signal(signal.SIGINT, signal.default_int_handler)
     context, failed = multiprocessing.get_context("fork"), []
     with context.Pool(workers()) as pool:
         for number, wrong in enumerate(pool.imap(wrong_with, range(len(cases)))):
