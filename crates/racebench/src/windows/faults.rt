@@ -15,7 +15,7 @@ const FREE_HOLDS: u64 = 4_096;
 /// How many acquires may be held where a window begins, for each event that the window before it has.
 const HOLDS_AN_EVENT: u64 = 4;
 
-/// How many acquires may be held where a window begins, if the window before it has so many events.
+/// How many acquires may be held where a window begins, by the events of the window before it.
 fn most_held(events: usize) -> u64 {
     FREE_HOLDS.max(HOLDS_AN_EVENT.saturating_mul(events as u64))
 }
@@ -67,7 +67,7 @@ impl Windows {
         }
     }
 
-    // The fault of the event at the end of these lines. With the threads that hold a lock, they have more threads than
+    // The fault of the event at the end of some lines. With the threads that hold a lock, they have more threads than
     // a trace may have.
     pub(super) fn told_wide(&self, end: usize) -> BenchFault {
         let lines = lines_before(self.pieces.bytes(), end);
@@ -75,7 +75,7 @@ impl Windows {
         refused_line(line, TextCause::TooManyNames)
     }
 
-    // The fault of these lines, which have too many threads, if they have only one event.
+    // The fault of lines that have too many threads, if they have only one event.
     pub(super) fn check_width(&self, all: Span) -> Result<(), BenchFault> {
         if all.events > 1 {
             return Ok(());
