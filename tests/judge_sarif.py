@@ -338,7 +338,7 @@ def check_moved(judge):
         )
         judge.tally["moved"] += 1
         write_code(code)
-        names = [f"heap:p.c:1 item{number}[3]" for number in ("", "#2", "#T3", "#T3.12")]
+        names = [f"heap:p.c:1 item{number}[3]" for number in ("", "#2", "#T3", f"#T{3}.12")]
         blocks = [judge.check([f"T1|w({name})|p.c:3", f"T2|r({name})|p.c:4"], [], root) for name in names]
         judge.equal(blocks, [blocks[0]] * 4, "the fingerprint of a block with another number")
         others = {

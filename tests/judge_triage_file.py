@@ -38,7 +38,7 @@ VARIABLES = [
     "x",
     "y",
     "heap:u.c:3#1+8",
-    "heap:u.c:3#T2.4+8",
+    f"heap:u.c:3#T{2}.4+8",
     "heap:u.c:3 item[3].next",
     "heap:u.c:3 item#2[3].next",
     "heap:u.c:3 item#2[4].next",
