@@ -17,11 +17,11 @@ const NUMBERED: [(&[u8], &[u8], &[u8]); 14] = [
         b".second",
     ),
     (
-        b"heap:a.cpp:7 node#T2.14.second",
+        b"heap:a.cpp:7 node#T7.14.second",
         b"heap:a.cpp:7 node",
         b".second",
     ),
-    (b"heap:a.cpp:7 node#T2.14", b"heap:a.cpp:7 node", b""),
+    (b"heap:a.cpp:7 node#T7.14", b"heap:a.cpp:7 node", b""),
     (
         b"heap:a.c:7 config?#3.limit",
         b"heap:a.c:7 config?",
@@ -45,7 +45,7 @@ const NUMBERED: [(&[u8], &[u8], &[u8]); 14] = [
     (b"worker#T2:job.next", b"worker", b":job.next"),
     (b"round_of#12:total", b"round_of", b":total"),
     (b"stack:round_of#2-40", b"stack:round_of", b"-40"),
-    (b"stack:ns::run#T4.2+8", b"stack:ns::run", b"+8"),
+    (b"stack:ns::run#T7.2+8", b"stack:ns::run", b"+8"),
 ];
 
 /// Names of other forms.
