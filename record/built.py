@@ -1,6 +1,8 @@
 """What is compiled once and kept: a folder of files that are named by what they are made of."""
 from __future__ import annotations
 
+import contextlib
+import fcntl
 import hashlib
 import os
 import stat
@@ -58,14 +60,32 @@ def built(
     path = os.path.join(kept, f"{stem}-{key_of(sources, words)}{end}")
     if os.path.exists(path):
         return path
-    file, part = tempfile.mkstemp(prefix="." + stem, suffix=end, dir=kept)
+    with alone_in(kept):
+        return path if os.path.exists(path) or is_made(path, make) else None
+
+
+@contextlib.contextmanager
+def alone_in(kept: str) -> Iterator[None]:
+    """Waits until no other process makes a file there: calls that a build starts at once would make it many times."""
+    descriptor = os.open(kept, os.O_RDONLY | os.O_CLOEXEC)
+    try:
+        fcntl.flock(descriptor, fcntl.LOCK_EX)
+        yield
+    finally:
+        os.close(descriptor)
+
+
+def is_made(path: str, make: Callable[[str], int]) -> bool:
+    """Whether `make` made the file at a path. The file is there whole or not at all."""
+    stem, end = os.path.splitext(os.path.basename(path))
+    file, part = tempfile.mkstemp(prefix="." + stem, suffix=end, dir=os.path.dirname(path))
     os.close(file)
     try:
         if make(part) != 0:
-            return None
+            return False
         os.chmod(part, 0o700)
         os.rename(part, path)
-        return path
+        return True
     except OSError as error:
         sys.exit(f"record: {path}: {error.strerror}")
     finally:

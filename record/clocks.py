@@ -2,7 +2,7 @@
 the clock of its thread. Following never looks at a name or an address: an event has a record, and that a thread and a
 tick.
 
-The file: `RBCLOCK1`, the size of the words (4 bytes) and the words as JSON; for each event the number of its record
+The file: `RBCLOCK2`, the size of the words (4 bytes) and the words as JSON; for each event the number of its record
 (8 bytes) and the CRC-32 of its line (4 bytes); then the raw records. All numbers are little-endian.
 """
 from __future__ import annotations
@@ -20,7 +20,7 @@ from typing import IO, Any, Protocol
 import raw as raw_file
 import running
 
-MAGIC = b"RBCLOCK1"
+MAGIC = b"RBCLOCK2"
 # How the first and the last line of a trace begin, which are no events.
 MARK = b"recording|"
 SIZE = struct.Struct("<I")
@@ -64,8 +64,17 @@ class Recorded(Protocol):
 
 def write(given: argparse.Namespace, recorded: Recorded, kept: Kept) -> None:
     """Writes the clock of a trace that was written to `kept`."""
-    program = program_of(given.program)
     main = next((path for _, _, path, is_main in recorded.head.modules if is_main), "")
+    with open(given.clock, "wb") as file:
+        write_words(file, given, kept, main)
+        recorded.record_of.tofile(file)
+        kept.lines.tofile(file)
+        raw_file.write_compact(recorded.file, file)
+
+
+def write_words(file: IO[bytes], given: argparse.Namespace, kept: Kept, main: str, go_root: str = "") -> None:
+    """Writes the beginning of a clock. A Go program has the root of its Go."""
+    program = program_of(given.program)
     words = {
         "argv": [given.program] + given.args,
         "cwd": os.getcwd(),
@@ -77,13 +86,10 @@ def write(given: argparse.Namespace, recorded: Recorded, kept: Kept) -> None:
         "events": len(kept.lines),
         "program": digest_of(program) if program else "",
         "main": digest_of(main) if os.path.exists(main) else "",
+        "go": go_root,
     }
     text = json.dumps(words).encode()
-    with open(given.clock, "wb") as file:
-        file.write(MAGIC + SIZE.pack(len(text)) + text)
-        recorded.record_of.tofile(file)
-        kept.lines.tofile(file)
-        raw_file.write_compact(recorded.file, file)
+    file.write(MAGIC + SIZE.pack(len(text)) + text)
 
 
 def read_words(file: IO[bytes], path: str) -> dict[str, Any]:
@@ -124,14 +130,14 @@ class Clock:
         events = set(self.record_of)
         # The looks of loops that poll: those between the first and the last are no events, and are done in their turn.
         looks: set[tuple[int, int, int]] = set()
-        if not self.head.there or len(self.raw) < self.head.records_at + self.head.used * raw_file.RECORD.size:
+        if not self.head.there or len(self.raw) < self.head.words_at + self.head.used * raw_file.WORD:
             raise ValueError
         for number, record in raw_file.all_records(self.raw, self.head):
             if number in events:
                 self.of[number] = record
             if record.kind == raw_file.KINDS["FORK"]:
                 self.forks.append((record.thread, record.pos, record.at))
-            if record.kind == raw_file.KINDS["FREED"]:
+            if record.kind == raw_file.KINDS["FREED"] and not record.order:
                 self.last_free = number
             if record.kind in LOOKS and number in events:
                 looks.add((record.thread, record.at, record.pc))

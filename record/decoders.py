@@ -89,9 +89,9 @@ def path() -> str:
     if found := packaged():
         return found
     sources = sorted(glob.glob(os.path.join(HERE, "decoder", "*.[ch]pp")))
-    sources.append(os.path.join(HERE, "runtime", "format.h"))
+    sources += [os.path.join(HERE, "runtime", name) for name in ("format.h", "reading.h")]
     otherwise = "" if built.folder() else folder().name
-    made = built.built("decoder", sources, call_of_compiler("decoder"), compile_to, otherwise)
+    made = built.built("decoder", sources, [compiler(), *OPTIONS, *LIBRARIES], compile_to, otherwise)
     if not made:
         raise Undecodable("the decoder can't be kept")
     return made
@@ -108,13 +108,14 @@ class Wait(NamedTuple):
 
 
 class Facts:
-    """What the decoder reports of a trace: counts, by cause how much was left out and what has a name, and the deadlock
-    that the run ended in."""
+    """What the decoder reports of a trace: counts and where some of them were counted, by cause how much was left out
+    and what has a name, and the deadlock that the run ended in."""
 
     def __init__(self, text: str) -> None:
         self.counts: dict[str, int] = {}
         self.losses: dict[str, int] = {}
         self.names: dict[str, list[str]] = {}
+        self.places: dict[str, list[str]] = {}
         self.deadlock: list[Wait] = []
         for line in text.splitlines():
             if found := re.fullmatch(r"fact (\w+) (\d+)", line):
@@ -123,6 +124,8 @@ class Facts:
                 self.losses[found[1]] = int(found[2])
             elif found := re.fullmatch(r"lost ([A-Z]+) (.*)", line):
                 self.names.setdefault(found[1], []).append(found[2])
+            elif found := re.fullmatch(r"place (\w+) (.*)", line):
+                self.places.setdefault(found[1], []).append(found[2])
             elif found := re.fullmatch(r"deadlock (\d+)\|([^|]*)\|([^|]*)\|(\d+)\|([^|]*)", line):
                 self.deadlock.append(Wait(*found.groups()))
             else:

@@ -6,7 +6,9 @@ HEAD = re.compile(r"race (\d+) (\d+) (\w+) pairs \d+ variables \d+ events (\d+) 
 PARTS = re.compile(r"    parts race (\d+) ")
 ACCESS = re.compile(r"  T[^|]*\|([rw])\([^|]*\|(.*)")
 # What a race may do, by its accesses: the worst first.
-KINDS = ("a block is freed and used", "two writes", "a write and a read")
+KINDS = ("a block is freed and used", "a frame ends and is used", "two writes", "a write and a read")
+# The end of a block or a frame in a location.
+ENDS = re.compile(r" < (?:(free)|return)(?: in |$)")
 Found = Dict[str, Any]
 
 
@@ -25,9 +27,10 @@ class Row(NamedTuple):
     @property
     def kind(self) -> int:
         """Its number in KINDS."""
-        if any(" < free in " in location or location.endswith(" < free") for location in self.locations):
-            return 0
-        return 1 if self.operations == ["w", "w"] else 2
+        ends = [found for found in map(ENDS.search, self.locations) if found]
+        if ends:
+            return 0 if any(found[1] for found in ends) else 1
+        return 2 if self.operations == ["w", "w"] else 3
 
     @property
     def is_of_seed(self) -> bool:

@@ -15,6 +15,10 @@ PLACE = re.compile(r"(.+):(\d+)$")
 HEADER = re.compile(r"[^/.]+$|[^/]+\.(h|hh|hpp|hxx|tcc|ipp)$")
 # How functions of the libraries of C++ and of tools begin.
 LIBRARIES = ("std::", "__gnu_cxx::", "__cxxabiv1::", "__tsan", "__interceptor", "operator ")
+# What may come before a variable's name, and a colon that ends the function or the library of a variable.
+BESIDE = re.compile(r"(?:atomic:|held:|sync:)+")
+OWNER_END = re.compile(r"(?<!:):(?!:)")
+NO_VARIABLE = ("heap:", "stack:", "memory:")
 # Of several pairs that fit, which counts.
 ORDER = {"race": 0, "undecided": 1, "apart": 2}
 
@@ -41,6 +45,14 @@ def function_of(text: str) -> str:
     if ".(*" in text:
         return text
     return re.split(r"[(<]", text)[0].split("::")[-1]
+
+
+def variable_of(name: str) -> str:
+    """The variable of a name of a trace, as reports name it: without its function, its scopes, its number and the path
+    in it. Empty if it is a block, or if no variable is known."""
+    whole = BESIDE.sub("", name, count=1)
+    own = "" if whole.startswith(NO_VARIABLE) else OWNER_END.split(whole)[-1]
+    return re.split(r"[.\[+@#~]", own)[0].split("::")[-1]
 
 
 def fits(access: Access, call: Call | None, location: Location, operations: set[tuple[str, str]]) -> int:
@@ -113,7 +125,7 @@ class Recording:
         return max(sum(each) if all(each) else 0 for each in orders)
 
     def pair_of(self, report: Report) -> tuple[dict[str, Any] | None, str]:
-        """The pair that a report tells of, and what has to be said of it; or none, and why."""
+        """The pair that a report tells of, and what must be said of it; or none, and why."""
         named = [
             pair
             for pair in self.pairs
@@ -154,7 +166,7 @@ class Recording:
 
     @staticmethod
     def is_of(access: dict[str, Any], variable: str) -> bool:
-        return re.split(r"[+@]", access["variable"])[0].split("::")[-1] == variable
+        return variable_of(access["variable"]) == variable.split("::")[-1]
 
     @staticmethod
     def rank(fit: int, pair: dict[str, Any], alone: bool) -> tuple[tuple[int, int], list[int]]:

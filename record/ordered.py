@@ -38,7 +38,7 @@ def access_of(path: str, line: str) -> Access:
 
 
 def read(path: str, trace: str) -> list[list[Access]]:
-    """The sets of accesses of one variable. The file has to be of this trace."""
+    """The sets of accesses of one variable. The file must be of this trace."""
     try:
         with open(path, encoding="utf-8", errors="replace") as file:
             head, *lines = file.read().split("\n")

@@ -5,28 +5,26 @@ import functools
 import subprocess
 import sys
 import tempfile
+from collections.abc import Sequence
 
 import decoders
 
 
 class Places:
-    """Answers for the program of one recording. `head` is the raw file up to its records."""
+    """Answers for the program of one recording. `head` is the raw file up to its records. A decoder of its own answers
+    for a Go program: `words` run it."""
 
-    def __init__(self, head: bytes) -> None:
-        self.head = head
+    def __init__(self, head: bytes, words: Sequence[str] = ()) -> None:
+        self.head, self.words = head, words
         self.known: dict[int, list[tuple[str, str]]] = {}
 
     @functools.cached_property
     def decoder(self) -> subprocess.Popen[str]:
-        try:
-            path = decoders.path()
-        except decoders.Undecodable as why:
-            sys.exit(f"record: {why}")
         with tempfile.TemporaryFile() as file:
             file.write(self.head)
             file.flush()
             return subprocess.Popen(
-                [path, "--places", f"/dev/fd/{file.fileno()}"],
+                self.words or [self.path(), "--places", f"/dev/fd/{file.fileno()}"],
                 stdin=subprocess.PIPE,
                 stdout=subprocess.PIPE,
                 pass_fds=[file.fileno()],
@@ -34,6 +32,13 @@ class Places:
                 errors="replace",
                 start_new_session=True,
             )
+
+    @staticmethod
+    def path() -> str:
+        try:
+            return decoders.path()
+        except decoders.Undecodable as why:
+            sys.exit(f"record: {why}")
 
     def frames(self, address: int) -> list[tuple[str, str]]:
         """The function and the place of each frame at an address after a call, the innermost first."""

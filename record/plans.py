@@ -18,7 +18,7 @@ NUMBER = struct.Struct("<Q")
 # Where the number of the thread's next step is in a step.
 NEXT_AT = 24
 MAGIC = 0x3357464252524352
-# For so many accesses a thread goes on alone, if nothing else is wanted.
+# For this many accesses a thread goes on alone, if nothing else is wanted.
 ALONE = 1000
 
 
@@ -71,7 +71,7 @@ def read_witness(file: Iterable[str], clock: clocks.Clock) -> Witness:
 
 
 def check_pair(clock: clocks.Clock, events: List[int], pair: Pair) -> None:
-    """Both events have to be next in their threads after the schedule."""
+    """Both events must be next in their threads after the schedule."""
     there = set(events)
     threads = {clock.record(event).thread: event for event in pair}
     next_ones: Dict[int, int] = {}
@@ -112,7 +112,7 @@ def steps_of(clock: clocks.Clock, witness: Witness, pair: Pair) -> Tuple[List[in
 
 
 class Needs:
-    """For each step the steps that have to be done before: the writer of what it reads, what was read or written
+    """For each step the steps that must be done before: the writer of what it reads, what was read or written
     before what it writes, the release before an acquire, the fork, the last of a thread that is joined."""
 
     def __init__(self, clock: clocks.Clock, witness: Witness, steps: List[int]) -> None:
@@ -221,7 +221,7 @@ class Plan:
         return b"".join(known), ticks.tobytes()
 
     def tables(self, tail: List[Row]) -> List[bytes]:
-        """The parts behind the head: threads, forks, steps, needs, first steps, ticks, modules."""
+        """The parts after the head: threads, forks, steps, needs, first steps, ticks, modules."""
         known, ticks = self.ticks()
         steps, first_of = self.packed.before(tail)
         end = len(self.packed.rows) + len(tail)

@@ -18,7 +18,7 @@ import running
 # What racebench reads at once: events, threads, bytes.
 MOST_EVENTS, MOST_THREADS, MOST_BYTES = 1_048_576, 256, 268_435_456
 MOST_FRAMES = 8
-# A trace has so many events at most if nobody asks for less, and a recording so many records.
+# A trace has this many events at most if nobody asks for less, and a recording this many records.
 NO_LIMIT, MOST_ROOM = (1 << 64) - 1, 1 << 36
 ROOM_AT = 8
 # The statuses if the recording is not whole, and if the program hangs in a deadlock.
@@ -27,7 +27,7 @@ NOT_WHOLE, DEADLOCK = 4, 5
 UNKNOWN_OPENMP = ("libomp", "libiomp")
 # Seconds between two looks whether a program has begun.
 LOOK = 0.005
-# So many names are in a line, at most.
+# How many names are in a line, at most.
 MOST_NAMES = 8
 
 
@@ -62,17 +62,17 @@ def decoder_options(options: argparse.Namespace, is_killed: bool) -> list[str]:
 
 
 def stop_recording_after(seconds: float, file: IO[bytes]) -> None:
-    """So many seconds after the first record no more are kept: the room ends where it is. The program goes on."""
+    """This many seconds after the first record no more are kept: the room ends where it is. The program goes on."""
 
-    def used() -> int:
+    def kept() -> int:
         head = os.pread(file.fileno(), raw_file.HEAD_SIZE, 0)
-        return int(raw_file.Words(head).used) if len(head) == raw_file.HEAD_SIZE else 0
+        return int(raw_file.Words(head).kept) if len(head) == raw_file.HEAD_SIZE else 0
 
     def stop() -> None:
-        while not used():
+        while not kept():
             time.sleep(LOOK)
         time.sleep(seconds)
-        os.pwrite(file.fileno(), used().to_bytes(8, sys.byteorder), ROOM_AT)
+        os.pwrite(file.fileno(), kept().to_bytes(8, sys.byteorder), ROOM_AT)
 
     threading.Thread(target=stop, daemon=True).start()
 
@@ -137,7 +137,7 @@ def losses_of_recording(options: argparse.Namespace, head: raw_file.Words, facts
     }
     for cause, reason in reasons.items():
         if cause in losses:
-            yield f"{losses[cause]} records left out after the first {head.used} ({reason})"
+            yield f"{losses[cause]} records left out after the first {head.kept} ({reason})"
     if counts["before"]:
         yield (
             f"the first {counts['before']} events left out (--from); the locks that were held there are taken at the "
@@ -191,7 +191,8 @@ def report_order(head: raw_file.Words, facts: decoders.Facts, libraries: list[st
         locks = facts.counts["no_sections"]
         say(f"{locks} locks were let go by another thread than took them; they are written as semaphores")
     if facts.counts["stronger"]:
-        say(f"{facts.counts['stronger']} atomic accesses are written with more order than they have")
+        places = some(facts.places["stronger"])
+        say(f"{facts.counts['stronger']} atomic accesses are written with more order than they have, at {places}")
 
 
 def deadlock_of(facts: decoders.Facts) -> str:

@@ -29,16 +29,28 @@ def number_of(text: str, name: str) -> int:
     return int(said[1], 0) << int(said[3] or 0)
 
 
+def fields_of(text: str, name: str) -> list[str]:
+    """The names of the numbers that a structure of the header begins with."""
+    fields = re.search(rf"^struct {name} \{{\s+u64 ([^;]*);", text, re.MULTILINE)
+    if not fields:
+        raise ValueError(f"format.h has no {name}")
+    return re.findall(r"\w+", fields[1])
+
+
 HEADER = header()
 KINDS = names_of(HEADER, 0)
 OBJECTS = names_of(HEADER, 1)
 WAYS = names_of(HEADER, 2)
 MAGIC = number_of(HEADER, "MAGIC")
 MOST_MODULES = number_of(HEADER, "MOST_MODULES")
-WORDS = struct.Struct("<18Q")
+WORDS = struct.Struct(f"<{len(fields_of(HEADER, 'head'))}Q")
 MODULE = struct.Struct(f"<QQ{number_of(HEADER, 'MODULE_PATH')}s")
 NODE = struct.Struct("<QQII")
 RECORD = struct.Struct("<QQQQIIHBBBBH")
+# What the low 16 bits of a word say, and the numbers of words and slots.
+NOTHING, LONG, TURN, TAKEN_BACK = range(4)
+FIRST_SLOT, SLOTS, LONG_WORDS = (number_of(HEADER, name) for name in ("FIRST_SLOT", "SLOTS", "LONG_WORDS"))
+WORD = 8
 # How many bytes are copied at once.
 AT_ONCE = 1 << 22
 HEAD_SIZE = WORDS.size + MOST_MODULES * MODULE.size
@@ -75,28 +87,35 @@ class Words:
         words = WORDS.unpack_from(raw.ljust(WORDS.size, b"\0"), 0)
         (
             magic,
-            room,
+            _,
             self.used,
             self.stack_room,
             self.stacks,
             self.stacks_at,
-            self.records_at,
+            self.words_at,
             self.turns,
             self.forced,
             self.strangers,
             self.module_count,
             self.units,
             self.full,
-            whole,
+            self.kept,
+            self.lost,
             self.forks,
             self.programs,
             self.unrecorded,
             self.deadlock,
+            _,
         ) = words
         self.there = magic == MAGIC and len(raw) >= HEAD_SIZE
-        room = min(room, whole) if self.full else room
-        self.lost = max(0, self.used - room)
-        self.used = min(self.used, room)
+
+
+def packed_head(used: int, modules: int) -> bytes:
+    """The numbers of a file without calls: the records come after the modules."""
+    given = {"magic": MAGIC, "room": used, "used": used, "stacks_at": HEAD_SIZE, "words_at": HEAD_SIZE}
+    given["modules"] = modules
+    names = fields_of(HEADER, "head")
+    return WORDS.pack(*(given.get(name, 0) for name in names))
 
 
 class Head(Words):
@@ -120,14 +139,14 @@ def words_of(file: IO[bytes]) -> Words:
 
 
 def write_compact(file: IO[bytes], out: IO[bytes]) -> None:
-    """Writes the head, the nodes and the records of a raw file, one after another, in pieces."""
+    """Writes the head, the nodes and the words of a raw file, one after another, in pieces."""
     file.seek(0)
     first = file.read(HEAD_SIZE)
     head = Words(first)
     words = list(WORDS.unpack_from(first))
     words[5], words[6] = HEAD_SIZE, HEAD_SIZE + head.stacks * NODE.size
     out.write(WORDS.pack(*words) + first[WORDS.size :])
-    for start, size in ((head.stacks_at, head.stacks * NODE.size), (head.records_at, head.used * RECORD.size)):
+    for start, size in ((head.stacks_at, head.stacks * NODE.size), (head.words_at, head.used * WORD)):
         file.seek(start)
         while size and (piece := file.read(min(size, AT_ONCE))):
             out.write(piece)
@@ -141,13 +160,64 @@ def compact(file: IO[bytes]) -> bytes:
     return out.getvalue()
 
 
+class Damaged(ValueError):
+    """A word that the recorder does not write."""
+
+
+class Reader:
+    """Reads the words of a raw file. Records have the numbers of their first words."""
+
+    def __init__(self, raw: bytes, head: Words) -> None:
+        there = memoryview(raw)[head.words_at : head.words_at + head.used * WORD]
+        self.words = there[: len(there) // WORD * WORD].cast("Q")
+        self.forms: dict[int, Record] = {}
+        self.thread = self.tick = 0
+
+    def long(self, place: int, slot: int) -> Record | None:
+        """The record in the words after a place, if it was written whole."""
+        there = self.words[place + 1 : place + LONG_WORDS]
+        record = Record._make(RECORD.unpack(there)) if len(there) == LONG_WORDS - 1 else None
+        if not record or not record.done:
+            return None
+        if slot:
+            self.forms[slot] = record
+        if record.pos:
+            self.thread, self.tick = record.thread, record.pos >> 16
+        return record if record.done == 1 else record._replace(kind=KINDS["VOID"])
+
+    def short(self, slot: int, at: int) -> Record:
+        """A record of a slot's form."""
+        form = self.forms.get(slot)
+        if form is None:
+            raise Damaged
+        if form.kind == KINDS["FRAME"]:
+            return form._replace(at=at, answer=at, thread=self.thread, pos=0, done=1)
+        self.tick += 1
+        return form._replace(at=at, answer=0, thread=self.thread, pos=self.tick << 16, done=1)
+
+    def all(self) -> Iterator[tuple[int, Record]]:
+        place, count = 0, len(self.words)
+        while place < count:
+            at, kind = divmod(self.words[place], SLOTS)
+            record = None
+            if kind >= FIRST_SLOT:
+                record = self.short(kind, at)
+            elif kind == LONG:
+                record = self.long(place, at)
+            elif kind == TURN:
+                self.thread, self.tick = at, self.words[place + 1] if place + 1 < count else 0
+            elif kind == TAKEN_BACK:
+                record = self.short(at, 0)._replace(kind=KINDS["VOID"])
+            elif kind != NOTHING:
+                raise Damaged
+            if record:
+                yield place, record
+            place += LONG_WORDS if kind == LONG else 2 if kind == TURN else 1
+
+
 def all_records(raw: bytes, head: Words) -> Iterator[tuple[int, Record]]:
-    """All records, each with its number, with those that are no event."""
-    whole = memoryview(raw)[head.records_at : head.records_at + head.used * RECORD.size]
-    for number, words in enumerate(RECORD.iter_unpack(whole)):
-        record = Record._make(words)
-        if record.done:
-            yield number, record
+    """All records, each with its number, with those that did not happen: they are VOID."""
+    return Reader(raw, head).all()
 
 
 def records(raw: bytes, head: Words) -> Iterator[tuple[int, Record]]:
@@ -156,7 +226,3 @@ def records(raw: bytes, head: Words) -> Iterator[tuple[int, Record]]:
     for number, record in all_records(raw, head):
         if record.kind != void:
             yield number, record
-
-
-def record_at(raw: bytes, head: Words, number: int) -> Record:
-    return Record._make(RECORD.unpack_from(raw, head.records_at + number * RECORD.size))

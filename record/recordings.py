@@ -133,7 +133,7 @@ class Recorder:
         return Recording(seed, NOT_WHOLE if recorded else WHOLE, races_in(report), "", in_windows, deadlock)
 
     def record_all(self, seeds: Sequence[int], jobs: int, show: Callable[[Recording], None]) -> Dict[int, Recording]:
-        """Records all seeds, so many side by side, and shows each when it is done."""
+        """Records all seeds, this many side by side, and shows each when it is done."""
         found: Dict[int, Recording] = {}
         with concurrent.futures.ThreadPoolExecutor(jobs) as pool:
             for future in concurrent.futures.as_completed([pool.submit(self.record, seed) for seed in seeds]):

@@ -8,6 +8,7 @@ import clocks
 import following
 import places
 import raw as raw_file
+from golang import following as following_go
 from following import DEPARTED, HANGS, MISSED, OTHER_CODE, OTHER_OUTCOME, OTHER_WORLD, WOULD_WAIT
 
 # Kinds that have other names than in the header.
@@ -34,7 +35,8 @@ class Telling:
 
     def __init__(self, clock: clocks.Clock) -> None:
         self.clock = clock
-        self.places = places.Places(clock.raw[: clock.head.records_at])
+        words = following_go.places_words(clock) if clock.words.get("go") else []
+        self.places = places.Places(clock.raw[: clock.head.words_at], words)
 
     def line(self, *addresses: int) -> str:
         """The line of the first of the addresses that has one."""

@@ -10,7 +10,7 @@ from typing import Dict, List, NamedTuple, Optional, Set, Tuple
 
 # How often `matters` may be wrong.
 RATE = 0.001
-# So many runs of each order at most; with more words that vary it is not known.
+# This many runs of each order at most; with more words that vary it is not known.
 MOST_RUNS = 16
 # So much of a word that differs is shown.
 SHOWN = 40

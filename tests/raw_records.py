@@ -6,24 +6,16 @@ from __future__ import annotations
 import bisect
 import functools
 import os
-import re
 import struct
 from collections.abc import Iterator
 from typing import Any, NamedTuple
 
 from elftools.elf.elffile import ELFFile  # type: ignore[import]
+from raw_words import USED_AT, WORDS, WORDS_AT, kinds, numbered_rows
 
-TOP = os.path.dirname(os.path.dirname(os.path.abspath(__file__)))
-WORDS, MODULE, NODE = struct.Struct("<18Q"), struct.Struct("<QQ240s"), struct.Struct("<QQII")
-RECORD, MOST_MODULES = struct.Struct("<QQQQIIHBBBBH"), 128
+MODULE, NODE = struct.Struct("<QQ240s"), struct.Struct("<QQII")
 # The way of a wait at a semaphore, and the bit of a lock that was taken by a try.
 WAITED, BY_TRY = 1, 2
-
-
-def kinds() -> list[str]:
-    """The names of the kinds of records, in the order of their numbers."""
-    with open(os.path.join(TOP, "record/runtime/format.h"), encoding="ascii") as file:
-        return re.findall(r"\w+", file.read().split("enum {")[1].split("}")[0])
 
 
 class Record(NamedTuple):
@@ -36,6 +28,8 @@ class Record(NamedTuple):
     thread: int
     order: int
     of: int
+    # Which of the file's words it begins with, from 0 on.
+    number: int
 
 
 def is_try(record: Record) -> bool:
@@ -43,6 +37,11 @@ def is_try(record: Record) -> bool:
     if record.kind == "PASS":
         return record.order == WAITED and record.answer == BY_TRY
     return record.kind in ("ACQUIRE", "WRITER", "READER_IN") and record.order & BY_TRY > 0
+
+
+def is_end(record: Record) -> bool:
+    """Whether it is the end of an activation whose frame another thread used."""
+    return record.kind == "FREED" and record.order > 0
 
 
 class Node(NamedTuple):
@@ -62,14 +61,12 @@ def read(path: str) -> Raw:
     with open(path, "rb") as file:
         raw = file.read()
     words = WORDS.unpack_from(raw)
-    used, nodes, nodes_at, records_at, count = words[2], words[4], words[5], words[6], words[10]
+    nodes, nodes_at, count = words[4], words[5], words[10]
     modules = [MODULE.unpack_from(raw, WORDS.size + k * MODULE.size) for k in range(count)]
     names, records = kinds(), []
-    for k in range(used):
-        row = RECORD.unpack_from(raw, records_at + k * RECORD.size)
-        at, pc, _, answer, size, node, thread, kind, done, order, of, _ = row
-        if done and names[kind] != "VOID":
-            records.append(Record(names[kind], at, pc, answer, size, node, thread, order, of))
+    for number, row in numbered_rows(raw[words[WORDS_AT] :], words[USED_AT]):
+        at, pc, _, answer, size, node, thread, kind, _, order, of, _ = row
+        records.append(Record(names[kind], at, pc, answer, size, node, thread, order, of, number))
     return Raw(
         [(base, end, name.split(b"\0")[0].decode()) for base, end, name in modules],
         [Node(*NODE.unpack_from(raw, nodes_at + k * NODE.size)) for k in range(nodes)],
@@ -207,7 +204,8 @@ class Places:
 
     def location(self, record: Record) -> str:
         (function, place), *calls = self.stack(record.pc, record.node)
-        inside = "free in " if record.kind == "FREED" else "try in " if is_try(record) else ""
+        freed = "return in " if is_end(record) else "free in " if record.kind == "FREED" else ""
+        inside = "try in " if is_try(record) else freed
         return " < ".join([place, inside + function, *map(" ".join, calls)])
 
     def variable(self, address: int) -> tuple[int, str] | None:

@@ -115,6 +115,8 @@ class Interpreter:
                 living[record.at] = record.size, living[record.at][1]
             elif record.kind in ("FORK", "JOIN"):
                 yield Step(record, f"T{record.at}", 0, 0)
+            elif raw_records.is_end(record):
+                yield Step(record, *self.object_at(record, living), record.size)
             elif record.kind == "FREED":
                 if record.at in living:
                     yield Step(record, living[record.at][1], 0, living[record.at][0])

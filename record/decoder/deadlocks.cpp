@@ -11,21 +11,22 @@ void Holders::let_go(const record &one) {
     else if (!--mine->second.times) lock->second.erase(mine);
 }
 
-void Holders::see(u64 number, const record &one) {
+void Holders::see(const record &one) {
     if (one.of) return;
     if (one.kind == ACQUIRE || one.kind == WRITER || one.kind == READER_IN) {
-        Hold &hold = holds[one.at].try_emplace(one.thread, Hold{number, 0}).first->second;
-        hold.times++;
+        Hold first{{one.pc, one.stack}, 0};
+        holds[one.at].try_emplace(one.thread, first).first->second.times++;
     } else if (one.kind == RELEASE || one.kind == READER_OUT) {
         let_go(one);
     }
 }
 
-u64 Holders::since(u64 at, u16 thread) const {
+std::optional<places::Key> Holders::since(u64 at, u16 thread) const {
     auto lock = holds.find(at);
-    if (lock == holds.end()) return UINT64_MAX;
+    if (lock == holds.end()) return std::nullopt;
     auto hold = lock->second.find(thread);
-    return hold == lock->second.end() ? UINT64_MAX : hold->second.since;
+    if (hold == lock->second.end()) return std::nullopt;
+    return hold->second.since;
 }
 
 void print(FILE *to, const std::vector<Wait> &waits) {

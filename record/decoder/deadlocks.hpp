@@ -1,23 +1,25 @@
 // The deadlock that a run ended in: which thread waits for which lock, and since when another one holds it.
 #pragma once
 #include <map>
+#include <optional>
 #include <string>
 #include <vector>
-#include "raw.hpp"
+#include "places.hpp"
 
 namespace deadlocks {
 
-// A lock that a thread holds: the number of the record since which it holds it, and how often.
+// A lock that a thread holds: where it took it, and how often.
 struct Hold {
-    u64 since, times;
+    places::Key since;
+    u64 times;
 };
 
 // Who holds a lock, by its address: the records that take locks and let them go are met in their order.
 class Holders {
 public:
-    void see(u64 number, const record &one);
-    // The number of the record since which a thread holds the lock at an address; that of no record if it does not.
-    u64 since(u64 at, u16 thread) const;
+    void see(const record &one);
+    // Where a thread took the lock at an address, if it holds it.
+    std::optional<places::Key> since(u64 at, u16 thread) const;
 
 private:
     void let_go(const record &one);

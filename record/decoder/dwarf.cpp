@@ -41,7 +41,8 @@ std::string inside_scope(const std::string &scope, const std::string &name) {
 Unit::Unit(const Dwarf_Die &die, const Dwarf_Die &split) : die(die), top(split.addr ? split : die), known_types(top) {
     Dwarf_Attribute attribute;
     const char *found = dwarf_formstring(dwarf_attr(&this->die, DW_AT_comp_dir, &attribute));
-    if (found && text::in_library(std::string(found) + "/")) folder = std::string(found) + "/";
+    if (found) compiled_in = std::string(found) + "/";
+    if (text::in_library(compiled_in)) folder = compiled_in;
 }
 
 std::string Unit::whole(const char *path) const {
@@ -196,7 +197,8 @@ std::optional<Dwarf_Die> Unit::guessed(Dwarf_Addr place, uint64_t size, bool &pa
     passes_on = false;
     for (const Frame &frame : frames(place)) {
         if (!frame.die.addr || text::in_cxx_library(frame.path)) return std::nullopt;
-        guesses::Guess guess = guesses::guess_in(guesses::statement_at(frame.path, frame.line));
+        std::string path = frame.path.rfind('/', 0) == 0 ? frame.path : compiled_in + frame.path;
+        guesses::Guess guess = guesses::guess_in(guesses::statement_at(path, frame.line));
         if (std::optional<Dwarf_Die> found = known_types.type_of(guess, frame.die, size)) return found;
         passes_on = known_types.passes_on(guess, frame.die);
         if (!passes_on) return std::nullopt;

@@ -60,8 +60,8 @@ private:
     std::vector<const Body *> bodies_at(Dwarf_Addr place);
     Dwarf_Line *row_at(Dwarf_Addr place, const std::vector<const Body *> &chain);
     Dwarf_Die top;
-    // The folder of a unit of Rust's library, whose own paths begin there; else empty.
-    std::string folder;
+    // Where it was compiled. The own paths of a unit of Rust's library begin in this folder, which is else empty.
+    std::string compiled_in, folder;
     blocks::Names known_types;
     bool was_read = false;
     std::vector<Body> bodies;

@@ -90,22 +90,24 @@ void Locals::walk(Dwarf_Die entry, const Around &around) {
     }
 }
 
-// A place that always holds may be counted from a register. One of a list holds for a part of the code.
-void Locals::add_at(Dwarf_Die &die, const Around &around, const Dwarf_Op &operation, bool always) {
-    From from = base;
-    if (operation.atom == DW_OP_fbreg ? !has_base : !always) return;
-    if (operation.atom != DW_OP_fbreg) {
-        if (operation.atom != DW_OP_breg6 && operation.atom != DW_OP_breg7) return;
-        from = *from_of(operation);
-    }
+// A place may be counted from a register. One of a list holds in a part of the code: what is counted from the frame
+// pointer there is so only if the frame is too.
+void Locals::add_at(Dwarf_Die &die, const Around &around, const Dwarf_Op &operation, const dwarf::Ranges &when) {
+    bool is_in_frame = operation.atom == DW_OP_fbreg, is_for_a_while = !when.empty() && !is_in_frame;
+    if (is_in_frame ? !has_base : operation.atom != DW_OP_breg6 && operation.atom != DW_OP_breg7) return;
+    From from = is_in_frame ? base : *from_of(operation);
+    if (is_for_a_while && from == From::POINTER && base != From::POINTER) return;
     std::optional<Dwarf_Die> type = types::type_of(die);
     uint64_t size = std::max<uint64_t>(type ? types::size_of(*type) : 0, 1);
     auto offset = static_cast<int64_t>(operation.number);
     auto is_same = [&](const Local &one) {
         return one.die.addr == die.addr && one.from == from && one.offset == offset;
     };
-    if (std::none_of(all.begin(), all.end(), is_same))
-        all.push_back({from, offset, size, die, around.scope, around.depth, around.inlined});
+    auto known = std::find_if(all.begin(), all.end(), is_same);
+    if (known == all.end())
+        all.push_back({from, offset, size, die, is_for_a_while ? when : around.scope, around.depth, around.inlined,
+                       is_for_a_while});
+    else if (is_for_a_while && known->is_for_a_while) known->scope.insert(known->scope.end(), when.begin(), when.end());
 }
 
 void Locals::add(Dwarf_Die &die, const Around &around) {
@@ -113,14 +115,17 @@ void Locals::add(Dwarf_Die &die, const Around &around) {
     if (!dwarf_diename(&die) || !dwarf_attr(&die, DW_AT_location, &attribute)) return;
     Dwarf_Op *operations = nullptr;
     size_t count = 0;
-    bool always = dwarf_getlocation(&attribute, &operations, &count) == 0;
-    if (always) {
-        if (count == 1) add_at(die, around, operations[0], true);
+    if (dwarf_getlocation(&attribute, &operations, &count) == 0) {
+        if (count == 1) add_at(die, around, operations[0], {});
         return;
     }
     Dwarf_Addr from = 0, start = 0, end = 0;
     for (ptrdiff_t at = 0; (at = dwarf_getlocations(&attribute, at, &from, &start, &end, &operations, &count)) > 0;)
-        if (count == 1) add_at(die, around, operations[0], false);
+        if (count == 1) add_at(die, around, operations[0], {{start, end}});
+}
+
+static bool is_used_in(const dwarf::Ranges &code, const Uses &uses) {
+    return std::any_of(uses.begin(), uses.end(), [&](auto &use) { return dwarf::holds(code, use.first); });
 }
 
 // Each use is for the innermost variable whose scope has it; the one with the most uses is chosen.
@@ -144,7 +149,8 @@ Name Locals::name(const Frame &frame, uint64_t at, uint64_t size, const Uses &us
     std::vector<const Local *> found;
     for (const Local &one : all) {
         int64_t offset = static_cast<int64_t>(at) - start_of(one, frame);
-        if (offset >= 0 && static_cast<uint64_t>(offset) < one.size) found.push_back(&one);
+        bool is_there = offset >= 0 && static_cast<uint64_t>(offset) < one.size;
+        if (is_there && (!one.is_for_a_while || is_used_in(one.scope, uses))) found.push_back(&one);
     }
     const Local *local = found.empty() ? nullptr : chosen(found, uses);
     if (!local) return {"", ""};

@@ -36,6 +36,8 @@ struct Local {
     dwarf::Ranges scope;
     int depth;
     std::string inlined;
+    // Whether it has this place only while the function is in that code.
+    bool is_for_a_while;
 };
 
 // A name of bytes in a frame: the variable with the path in it, and the inlined function that it is of.
@@ -62,7 +64,7 @@ private:
     };
     void walk(Dwarf_Die entry, const Around &around);
     void add(Dwarf_Die &die, const Around &around);
-    void add_at(Dwarf_Die &die, const Around &around, const Dwarf_Op &operation, bool always);
+    void add_at(Dwarf_Die &die, const Around &around, const Dwarf_Op &operation, const dwarf::Ranges &when);
     const Local *chosen(const std::vector<const Local *> &found, const Uses &uses) const;
     const std::function<std::string(Dwarf_Die)> &name_of;
     From base = From::END;

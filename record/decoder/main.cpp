@@ -1,6 +1,6 @@
 // decoder: the trace of a raw file on standard output, and what record/run reports of it on standard error, as lines
-// `fact NAME NUMBER`, `loss CAUSE NUMBER`, `lost CAUSE NAME`, and those of deadlocks::print. With --places it answers
-// where places of code are: see answer_places.
+// `fact NAME NUMBER`, `place NAME PLACE`, `loss CAUSE NUMBER`, `lost CAUSE NAME`, and those of deadlocks::print. With
+// --places it answers where places of code are: see answer_places.
 #include <cstdio>
 #include <cstdlib>
 #include <getopt.h>
@@ -93,6 +93,7 @@ void decode(const Request &request) {
     print_fact("ordered", counts.ordered);
     print_fact("ordered_parts", counts.ordered_parts);
     print_fact("polls", counts.polls);
+    for (const std::string &place : trace.stronger_places()) fprintf(stderr, "place stronger %s\n", place.c_str());
     trace.losses().print(stderr);
     deadlocks::print(stderr, trace.deadlock());
 }

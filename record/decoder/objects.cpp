@@ -87,7 +87,29 @@ void Objects::begin_inside(u64 start, u64 end, Thing thing) {
     if (end <= start) return;
     cut_inside(start, end);
     inside[start] = {end, thing};
-    changed(start, end);
+    changed_inside(start, end, thing);
+}
+
+void Objects::Recents::cut(u64 start, u64 end) {
+    if (last.meets(start, end)) last = other, other = {};
+    if (other.meets(start, end)) other = {};
+    if (last.meets(start, end)) last = {};
+}
+
+// A part began. The page's other parts that were found last are still known.
+void Objects::changed_inside(u64 start, u64 end, Thing thing) {
+    u64 first = start >> PAGE_BITS, last = (end - 1) >> PAGE_BITS;
+    if (last - first >= WHOLE_PAGES) return changed(start, end);
+    for (u64 page = first; page <= last; page++) {
+        Whole &whole = pages[page % WHOLE_PAGES];
+        u32 &age = ages[page % PAGES];
+        bool is_known = whole.page == page && whole.age == age;
+        age++;
+        if (!is_known) continue;
+        whole = {page, 0, age, NOTHING};
+        recent[page % WHOLE_PAGES].cut(start, end);
+        recent[page % WHOLE_PAGES].put({start, end - start, start - place_in(thing, start, start), thing});
+    }
 }
 
 // The activation that has more memory than was known; a new one if there is none.
@@ -156,13 +178,18 @@ void Objects::find_whole(u64 page, Whole &to) const {
     if (block.second.end(block.first) >= end) to.start = block.first, to.thing = block.second.thing;
 }
 
+// Words beside each other have places beside each other.
+size_t Objects::place_of(u64 address) { return ((address >> 3) ^ (address << 13) ^ (address >> 19)) % CACHE; }
+
 Where Objects::found_at(u64 address) {
     u64 page = address >> PAGE_BITS;
     Whole &whole = pages[page % WHOLE_PAGES];
-    if (whole.page != page || whole.age != ages[page % PAGES]) find_whole(page, whole);
+    Recents &two = recent[page % WHOLE_PAGES];
+    if (whole.page != page || whole.age != ages[page % PAGES]) find_whole(page, whole), two = {};
     if (whole.thing != NOTHING) return {whole.thing, address - whole.start};
-    u64 mixed = address * 0x9e3779b97f4a7c15ull >> 48;
-    Found &found = known[mixed % CACHE];
+    if (two.last.has(address)) return {two.last.thing, address - two.last.base};
+    if (two.other.has(address)) return {two.other.thing, address - two.other.base};
+    Found &found = known[place_of(address)];
     u32 age = ages[(address >> PAGE_BITS) % PAGES];
     if (found.address != address || found.age != age) {
         found.where = searched(address);
@@ -176,7 +203,9 @@ Where Objects::searched(u64 address) {
     auto behind = inside.upper_bound(address);
     if (behind != inside.begin() && address < std::prev(behind)->second.end) {
         auto &[start, part] = *std::prev(behind);
-        return {part.thing, place_in(part.thing, start, address)};
+        u64 place = place_in(part.thing, start, address);
+        recent[(address >> PAGE_BITS) % WHOLE_PAGES].put({start, part.end - start, address - place, part.thing});
+        return {part.thing, place};
     }
     auto after = living.upper_bound(address);
     if (after != living.begin()) {

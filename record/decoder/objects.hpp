@@ -29,7 +29,8 @@ constexpr u64 BEFORE_END = 1ull << 40;
 
 class Objects {
 public:
-    explicit Objects(places::Modules &modules) : modules(modules), known(CACHE), pages(WHOLE_PAGES), ages(PAGES) {}
+    explicit Objects(places::Modules &modules)
+        : modules(modules), known(CACHE), pages(WHOLE_PAGES), recent(WHOLE_PAGES), ages(PAGES) {}
     // Before the records go by again.
     void restart();
     // A block that was given back keeps its name until its memory is given out again.
@@ -104,6 +105,19 @@ private:
         u32 age = 0;
         Thing thing = NOTHING;
     };
+    // A part of a page where an address was found.
+    struct Recent {
+        u64 start = 0, size = 0, base = 0;
+        Thing thing = NOTHING;
+        bool has(u64 address) const { return address - start < size; }
+        bool meets(u64 other, u64 end) const { return other < start + size && start < end; }
+    };
+    // The two parts that were found last, while nothing began or changed in the page but these parts.
+    struct Recents {
+        Recent last, other;
+        void put(const Recent &one) { other = last, last = one; }
+        void cut(u64 start, u64 end);
+    };
     static constexpr size_t CACHE = 1 << 16, PAGES = 1 << 16, WHOLE_PAGES = 1 << 12;
     static constexpr int PAGE_BITS = 12;
     static constexpr u32 STACK_PLACE = ~0u, FRAME_PLACE = ~0u - 1, OWN_PLACE = ~0u - 2;
@@ -113,9 +127,11 @@ private:
     Thing same_frame(const record &one) const;
     u64 place_in(Thing thing, u64 start, u64 address) const;
     void changed(u64 start, u64 end);
+    void changed_inside(u64 start, u64 end, Thing thing);
     Where found_at(u64 address);
     Where searched(u64 address);
     void find_whole(u64 page, Whole &to) const;
+    static size_t place_of(u64 address);
     u32 site_at(const places::Key &key);
     const Site &site_of_block(const Name &block);
     std::string base_name(Thing thing);
@@ -145,6 +161,7 @@ private:
     std::unordered_map<u64, Thing> symbols, pieces, others;
     std::vector<Found> known;
     std::vector<Whole> pages;
+    std::vector<Recents> recent;
     std::vector<u32> ages;
 };
 

@@ -1,6 +1,8 @@
 #include "raw.hpp"
 #include <algorithm>
+#include <cstdlib>
 #include <fcntl.h>
+#include <new>
 #include <sys/mman.h>
 #include <sys/stat.h>
 #include <unistd.h>
@@ -11,7 +13,7 @@ static size_t fitting(u64 at, u64 count, size_t each, size_t size) {
     return at > size ? 0 : static_cast<size_t>(std::min<u64>(count, (size - at) / each));
 }
 
-File::File(const std::string &path) {
+File::File(const std::string &path) : name(path) {
     int file = open(path.c_str(), O_RDONLY | O_CLOEXEC);
     struct stat about;
     if (file < 0 || fstat(file, &about)) throw Wrong(path + ": can't be read");
@@ -22,26 +24,40 @@ File::File(const std::string &path) {
     if (there == MAP_FAILED) throw Wrong(path + ": can't be mapped");
     madvise(there, size, MADV_SEQUENTIAL);
     bytes = static_cast<const char *>(there);
-    if (top().magic != MAGIC || top().records_at % 8 || top().stacks_at % 8) throw Wrong(path + ": is no recording");
-    u64 room = top().full ? std::min(top().room, top().whole) : top().room;
-    used = fitting(top().records_at, std::min(top().used, room), sizeof(record), size);
+    if (top().magic != MAGIC || top().words_at % 8 || top().stacks_at % 8) throw Wrong(path + ": is no recording");
+    used = fitting(top().words_at, top().used, sizeof(u64), size);
     nodes = fitting(top().stacks_at, std::min(top().stacks, top().stack_room), sizeof(node), size);
-    first = reinterpret_cast<const record *>(bytes + top().records_at);
-    first_node = reinterpret_cast<const node *>(bytes + top().stacks_at);
+    first = reinterpret_cast<const u64 *>(bytes + (used ? top().words_at : 0));
+    first_node = reinterpret_cast<const node *>(bytes + (nodes ? top().stacks_at : 0));
 }
 
-void File::forget(size_t number) const {
-    const long page = sysconf(_SC_PAGESIZE);
-    size_t start = reinterpret_cast<size_t>(first + (number + 1 - AT_ONCE)),
-           end = reinterpret_cast<size_t>(first + number);
-    start = (start + static_cast<size_t>(page) - 1) & ~static_cast<size_t>(page - 1);
-    end &= ~static_cast<size_t>(page - 1);
+void File::forget(u64 from, u64 to) const {
+    const size_t page = static_cast<size_t>(sysconf(_SC_PAGESIZE));
+    size_t start = (reinterpret_cast<size_t>(first + from) + page - 1) & ~(page - 1);
+    size_t end = reinterpret_cast<size_t>(first + to) & ~(page - 1);
     if (start < end) madvise(reinterpret_cast<void *>(start), end - start, MADV_DONTNEED);
 }
 
 const node &File::call(u32 number) const {
     static const node none{};
     return number < nodes ? first_node[number] : none;
+}
+
+// The memory of slots that no word has stays untouched.
+Records::Records(const File &file)
+    : file(file), reader(static_cast<struct reader *>(calloc(1, sizeof(struct reader))), free) {
+    if (!reader) throw std::bad_alloc();
+    reader->words = file.first_word();
+    reader->end = file.words();
+}
+
+bool Records::next() {
+    while (read_record(reader.get())) {
+        if (reader->place >= passed + AT_ONCE) file.forget(passed, reader->place), passed = reader->place;
+        if (reader->now.kind != VOID) return true;
+    }
+    if (!reader->is_faulty) return false;
+    throw Wrong(file.path() + ": word " + std::to_string(reader->place) + " of the records is damaged");
 }
 
 }

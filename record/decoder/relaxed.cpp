@@ -90,7 +90,10 @@ Form Relaxed::form_of(const forks::Forks &forks, u64 number, const record &one, 
         if (pure) return meets_free ? READS : NOTHING;
     }
     bool one_way = one.kind == ATOMIC_UPDATE && one.order >= CONSUME && one.order <= RELEASES;
-    stronger += (one.order == RELAXED && !is_ordered) || one_way;
+    if ((one.order == RELAXED && !is_ordered) || one_way) {
+        stronger++;
+        stronger_at.emplace(one.pc, one.stack);
+    }
     return WHOLE;
 }
 

@@ -35,9 +35,11 @@ public:
     // Each lock that is taken or let go, and each atomic access of a part, in their order.
     void see_lock(u16 thread, const Held &lock, bool takes);
     void see_atomic(u64 number, const record &one, size_t part);
-    // How an atomic access of these parts is written. If it is written with more order than it has, it is counted.
+    // How an atomic access of these parts is written. If it is written with more order than it has, it is counted, and
+    // its place is kept: the code, and the calls of one such access.
     Form form_of(const forks::Forks &forks, u64 number, const record &one, const std::vector<size_t> &of);
     u64 stronger = 0;
+    std::map<u64, u32> stronger_at;
     releases::Releases orders;
 
 private:

@@ -107,7 +107,7 @@ std::string with_section(const std::string &name) {
     return "omp.critical:" + (has_end ? section.substr(0, section.size() - after.size()) : section);
 }
 
-static bool in_cxx_library(const std::string &path) {
+bool in_cxx_library(const std::string &path) {
     size_t include = path.find("/include/");
     return include != std::string::npos && path.find("/c++/", include + 8) != std::string::npos;
 }

@@ -23,7 +23,8 @@ std::string function_name(const std::string &name);
 std::string without_parameters(std::string name);
 // The lock of a critical section of OpenMP that has a name: `omp.critical:NAME`; clang puts `.var` after it.
 std::string with_section(const std::string &name);
-// Whether a source is of the library of C++ or of Rust.
+// Whether a source is of the library of C++, or of that or Rust's.
+bool in_cxx_library(const std::string &path);
 bool in_library(const std::string &path);
 // For each path its shortest end that no other path ends in.
 std::map<std::string, std::string> short_paths(const std::set<std::string> &paths);

@@ -11,6 +11,8 @@ bool is_access(const record &one) {
 
 bool is_write(const record &one) { return one.kind != READ && one.kind != ATOMIC_READ; }
 
+bool is_end(const record &one) { return one.kind == FREED && one.order == OF_FRAME; }
+
 bool is_synchronization(int kind) {
     return kind == ACQUIRE || kind == RELEASE || kind == PASS || kind == WRITER || kind == TRIED || kind == READER_IN ||
         kind == READER_OUT || kind == ARRIVED || kind == WENT_ON;
@@ -57,10 +59,7 @@ Resolved Trace::resolve(const record &one) {
     case RESIZED: things.resize(one.at, one.size); return {};
     default: break;
     }
-    if (one.kind == FREED) {
-        objects::Where block = options.frees ? things.living_at(one.at) : objects::Where{objects::NOTHING, 0};
-        return {block.thing, 0, block.place};
-    }
+    if (one.kind == FREED) return options.frees ? freed_by(one) : Resolved{};
     if (one.of) {
         if (!users[key_of(one)].several) return {};
         return {things.named(one.of, one.at), 0, one.size};
@@ -70,12 +69,23 @@ Resolved Trace::resolve(const record &one) {
     return {where.thing, where.place, one.size};
 }
 
+// A block, or what an activation had of a frame.
+Resolved Trace::freed_by(const record &one) {
+    if (!is_end(one)) {
+        objects::Where block = things.living_at(one.at);
+        return {block.thing, 0, block.place};
+    }
+    objects::Where part = things.at(one.at);
+    const objects::Activation *frame = things.activation_of(part.thing);
+    bool is_whole = options.raw_names || (frame && frame->frame.end == one.at + one.size);
+    return is_whole ? Resolved{part.thing, part.place, one.size} : Resolved{};
+}
+
 // Of what is no memory, and one thread alone comes to, nothing is written. Forks, joins and fences are met here too.
 void Trace::find_users() {
-    for (size_t number = 0; number < file.records(); number++) {
-        const record &one = file.at(number);
-        file.pass(number);
-        if (!raw::File::happened(one)) continue;
+    for (raw::Records records(file); records.next();) {
+        const record &one = records.one();
+        u64 number = records.number();
         has_threads |= one.thread || one.kind == FORK;
         if (is_plain(one)) continue;
         if (one.of) users[key_of(one)].see(one.thread, true);
@@ -216,7 +226,7 @@ void Trace::see_parts_of(const record &one, const Resolved &of) {
         if (atomic) leaving.keep(part);
         else leaving.see_access(part, one.thread, writes);
     }
-    if (!things.has_activations() || span.from == span.end) return;
+    if (!things.has_activations() || span.from == span.end || is_end(one)) return;
     auto frame = things.activation_of(of.thing);
     for (size_t part = span.from; frame && part < span.end; part++) see_use(one, *frame, of.thing, ends.at(part));
 }
@@ -303,11 +313,12 @@ void Trace::choose() {
 }
 
 const std::string &Trace::location(const record &one) {
-    bool frees = one.kind == FREED, tries = is_try(one);
-    auto &known = frees ? free_locations : tries ? try_locations : locations;
+    bool ends = is_end(one), frees = one.kind == FREED, tries = is_try(one);
+    auto &known = ends ? end_locations : frees ? free_locations : tries ? try_locations : locations;
     auto found = known.find({one.pc, one.stack});
     if (found != known.end()) return found->second;
-    std::string whole = modules.location(one.pc, one.stack, options.frames, frees ? "free" : tries ? "try" : "");
+    const char *inside = ends ? "return" : frees ? "free" : tries ? "try" : "";
+    std::string whole = modules.location(one.pc, one.stack, options.frames, inside);
     return known[{one.pc, one.stack}] = whole;
 }
 

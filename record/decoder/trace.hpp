@@ -130,6 +130,8 @@ bool is_access(const record &one);
 bool is_atomic(int kind);
 bool is_synchronization(int kind);
 bool is_write(const record &one);
+// Whether it is the end of an activation whose frame another thread used.
+bool is_end(const record &one);
 // Whether a record uses a lock, semaphore or barrier that may be destroyed.
 bool is_use(const record &one);
 
@@ -144,6 +146,8 @@ public:
     std::vector<deadlocks::Wait> deadlock();
     // Writes which accesses are not, since forks and joins order them, to the file of the options.
     void write_ordered();
+    // Where accesses are written with more order than they have.
+    std::set<std::string> stronger_places();
 
 private:
     template <class Do> void each(Do what);
@@ -155,6 +159,7 @@ private:
         return {where.thing, where.place, one.size};
     }
     Resolved resolve(const record &one);
+    Resolved freed_by(const record &one);
     void find_users();
     void find_shared();
     void find_lives();
@@ -199,7 +204,7 @@ private:
     void write_text(const std::string &text, u64 number);
     bool fits(u16 thread, u64 other);
     void write_mark(const std::string &line);
-    void see_deadlock(const record &one, size_t number, const Resolved &of);
+    void see_deadlock(const record &one, const Resolved &of);
 
     const raw::File &file;
     Options options;
@@ -219,8 +224,9 @@ private:
     std::unordered_map<Lock, LockSeen, LockHash> locks;
     // Where each thread was at its last record.
     std::vector<places::Key> last_places;
-    // Locations of frees, of locks by a try, and of all other records.
-    std::unordered_map<places::Key, std::string, places::KeyHash> free_locations, try_locations, locations;
+    // Locations of frees, of ends of frames, of locks by a try, and of all other records.
+    std::unordered_map<places::Key, std::string, places::KeyHash> free_locations, end_locations, try_locations,
+        locations;
     std::unordered_map<places::Key, bool, places::KeyHash> chosen_places;
     // The threads of the events that are written, and whether there is a second thread in the recording.
     std::unordered_set<u64> threads;
@@ -234,7 +240,7 @@ private:
     relaxed::Relaxed relaxed;
     deadlocks::Holders holders;
     // The last records of a run that ended in a deadlock, each with what it waits for.
-    std::vector<std::pair<const record *, Resolved>> requests;
+    std::vector<std::pair<record, Resolved>> requests;
     leaving::Leaving leaving;
     pages::Pages pages;
     polls::Polls polls;
@@ -249,21 +255,15 @@ private:
 // All that happened goes by once more, each record with what it is of.
 template <class Do> void Trace::each(Do what) {
     things.restart();
-    for (size_t number = 0; number < file.records(); number++) {
-        const record &one = file.at(number);
-        if (raw::File::happened(one)) what(number, one, of_record(one));
-        file.pass(number);
-    }
+    for (raw::Records records(file); records.next();) what(records.number(), records.one(), of_record(records.one()));
 }
 
 // The same without plain accesses of which nothing is written.
 template <class Do> void Trace::each_written(Do what) {
     things.restart();
-    for (size_t number = 0; number < file.records(); number++) {
-        const record &one = file.at(number);
-        if (raw::File::happened(one) && (!is_plain(one) || pages.may_have(one.at, one.size)))
-            what(number, one, of_record(one));
-        file.pass(number);
+    for (raw::Records records(file); records.next();) {
+        const record &one = records.one();
+        if (!is_plain(one) || pages.may_have(one.at, one.size)) what(records.number(), one, of_record(one));
     }
 }
 

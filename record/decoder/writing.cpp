@@ -108,7 +108,7 @@ Counts Trace::write(FILE *to, FILE *to_numbers) {
         find_operations(one, number, of);
         if (polls.is_left_out(number)) counts.polls++;
         else write_record(one, number);
-        if (file.top().deadlock) see_deadlock(one, number, of);
+        if (file.top().deadlock) see_deadlock(one, of);
     });
     counts.stronger = relaxed.stronger;
     counts.threads = threads.size();
@@ -116,24 +116,33 @@ Counts Trace::write(FILE *to, FILE *to_numbers) {
     return counts;
 }
 
-void Trace::see_deadlock(const record &one, size_t number, const Resolved &of) {
-    holders.see(number, one);
-    if (one.kind == REQUEST) requests.push_back({&one, of});
+void Trace::see_deadlock(const record &one, const Resolved &of) {
+    holders.see(one);
+    if (one.kind == REQUEST) requests.push_back({one, of});
 }
 
 // Each thread waits for the next one, and the last for the first.
 std::vector<deadlocks::Wait> Trace::deadlock() {
     std::vector<deadlocks::Wait> found;
     for (size_t k = 0; k < requests.size(); k++) {
-        const record &one = *requests[k].first;
-        u16 holder = requests[(k + 1) % requests.size()].first->thread;
-        u64 since = holders.since(one.at, holder);
+        const record &one = requests[k].first;
+        u16 holder = requests[(k + 1) % requests.size()].first.thread;
+        std::optional<places::Key> since = holders.since(one.at, holder);
         std::string lock = name_of({"", "", requests[k].second.thing, requests[k].second.place});
-        std::string held_at = since < file.records() ? modules.place(file.at(since).pc, file.at(since).stack) : "?";
+        std::string held_at = since ? modules.place(since->pc, since->call) : "?";
         found.push_back({one.thread, holder, modules.place(one.pc, one.stack), lock, held_at});
     }
     return found;
 }
+
+// The places of records, each given by its code and its calls.
+static std::set<std::string> places_of(places::Modules &modules, const std::map<u64, u32> &records) {
+    std::set<std::string> found;
+    for (auto &at : records) found.insert(modules.place(at.first, at.second));
+    return found;
+}
+
+std::set<std::string> Trace::stronger_places() { return places_of(modules, relaxed.stronger_at); }
 
 void Trace::write_ordered() {
     FILE *to = fopen(options.ordered.c_str(), "w");

@@ -1,4 +1,13 @@
-/* The hooks before accesses, which the compiler puts in, and the memory functions. */
+/* The hooks before accesses, which the compiler puts in, and the memory functions. Interposes __tsan_read*,
+ * __tsan_write*, __tsan_mem* and, by the linker's --wrap, memcpy, memmove and memset. Must not call these three by
+ * their plain names, which lead back here: __real_memcpy is the library's. */
+#define OF_ACCESSES
+#include "accesses.h"
+#include "callers.h"
+#include "events.h"
+#include "follow.h"
+#include "turns.h"
+#include "words.h"
 
 /* A turn ends after so many accesses, which are drawn below twice `--yield`. Where a turn brought no place of code
  * that is new for its thread, the thread's next one is twice as long, up to so many times. */
@@ -27,13 +36,13 @@ static void begin_turn(int waits) {
     news = 0;
 }
 
-static void see_place(u64 pc) {
+static inline void see_place(u64 pc) {
     u64 hash = (pc ^ (u64)me << 40) * 0x9e3779b97f4a7c15ull >> 48;
     if (!seen_places[hash]) seen_places[hash] = news = 1;
 }
 
 /* One hook in some gives the token away before it is passed. */
-static void maybe_give(void) {
+static inline void maybe_give(void) {
     keep_turn();
     if (following && !inside) {
         arrive(CLOCK(tick + 1, 0));
@@ -45,31 +54,38 @@ static void maybe_give(void) {
 }
 
 /* Before a read: whether it is that of a loop that waits. */
-static void look_for_waiting(u64 at, u64 pc) {
+static inline void look_for_waiting(u64 at, u64 pc) {
     int again = (last_read[0].pc == pc && last_read[0].at == at) || (last_read[1].pc == pc && last_read[1].at == at);
     last_read[1] = last_read[0];
     last_read[0].pc = pc, last_read[0].at = at;
     if (again && left_of_turn > 2 * (u64)one_in) begin_turn(1);
 }
 
-/* An access of a call that has been made, in the turn that it was made in: no other thread comes between. */
-static inline void accessed(int kind, const volatile void *at, u64 size, u64 pc) {
-    if (IDLE || !size) return;
+static inline __attribute__((always_inline)) void put_access(int kind, u64 at, u64 size, u64 pc) {
     if (is_full && !following) {
-        __atomic_store_n(&head->used, head->used + 1, __ATOMIC_RELAXED);
+        head->lost++;
         return;
     }
     see_place(pc);
-    put(kind, (u64)at, size, pc);
+    put_inline(record_of(kind, at, size, pc), 0);
+}
+
+/* An access of a call that has been made, in the turn that it was made in: no other thread comes between. */
+static void accessed(int kind, const volatile void *at, u64 size, u64 pc) {
+    if (!IDLE && size) put_access(kind, (u64)at, size, pc);
+}
+
+/* Nearly all hooks are of this kind: all of it is inlined here. */
+static __attribute__((noinline)) void come_to_access(int kind, u64 at, u64 size, u64 pc) {
+    if (following) about_to(kind, at, size, pc);
+    if (kind == READ) look_for_waiting(at, pc);
+    else last_read[0].pc = last_read[1].pc = 0;
+    maybe_give();
+    put_access(kind, at, size, pc);
 }
 
 static inline void access_(int kind, const volatile void *at, u64 size, u64 pc) {
-    if (IDLE || !size) return;
-    if (following) about_to(kind, (u64)at, size, pc);
-    if (kind == READ) look_for_waiting((u64)at, pc);
-    else last_read[0].pc = last_read[1].pc = 0;
-    maybe_give();
-    accessed(kind, at, size, pc);
+    if (!IDLE && size) come_to_access(kind, (u64)at, size, pc);
 }
 
 /* Before a call whose accesses are known when it has been made: another thread may come first. */
@@ -127,9 +143,6 @@ void __tsan_ignore_thread_begin(void) {}
 void __tsan_ignore_thread_end(void) {}
 
 /* ---- memory functions: by the linker's --wrap, and by the names that newer compilers call ---- */
-
-extern void *__real_memcpy(void *, const void *, size_t), *__real_memmove(void *, const void *, size_t),
-    *__real_memset(void *, int, size_t);
 
 static void copied(void *to, const void *from, size_t n, u64 pc) {
     access_(READ, from, n, pc);

@@ -1,9 +1,11 @@
 /* The recorder as one file: see recorder.h. */
+#define ONE_FILE
 #include "recorder.h"
 #include "callers.c"
 #include "turns.c"
 #include "plan.c"
 #include "freed.c"
+#include "words.c"
 #include "events.c"
 #include "frames.c"
 #include "follow.c"
@@ -44,9 +46,7 @@
 #include "patterns.c"
 #include "processes.c"
 #include "loading.c"
-#undef syscall
 #include "futex.c"
-#define syscall raw_syscall
 #include "openmp.c"
 #include "ordered.c"
 #include "tasks.c"

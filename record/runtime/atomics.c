@@ -1,4 +1,14 @@
-/* Atomics: done in the thread's turn, and atomic all the same, since a turn may be taken by force. */
+/* Atomics: done in the thread's turn, and atomic all the same, since a turn may be taken by force. Interposes
+ * __tsan_atomic* and the library calls __atomic_* of 16 bytes and of any size. Must not give the token between the
+ * record and the operation: another thread's operation would come between. */
+#define OF_ATOMICS
+#include "atomics.h"
+#include "accesses.h"
+#include "callers.h"
+#include "deadlocks.h"
+#include "events.h"
+#include "follow.h"
+#include "words.h"
 
 /* Where the library of C++ counts who waits at an atomic variable, a semaphore, a latch or a barrier, so that it wakes
  * nobody in vain. Who waits looks at the variable itself again, so these counts order nothing. */
@@ -6,19 +16,27 @@ extern char waiter_pool[] __asm__("_ZZNSt8__detail18__waiter_pool_base6_S_forEPK
 #define WAITER_POOL (16 * 128)
 static int is_waiter_count(const volatile void *at) { return waiter_pool && (u64)at - (u64)waiter_pool < WAITER_POOL; }
 
-/* The record of an atomic access comes before it; its place. */
-static u64 atomic_(int kind, const volatile void *at, u64 size, int order, u64 pc) {
+/* The record of an atomic access comes before it; its place. One that `may_fail` becomes a read if it does. */
+static u64 atomic_as(int kind, const volatile void *at, u64 size, int order, u64 pc, int may_fail) {
     if (IDLE) return NO_PLACE;
     if (following) about_to(kind, (u64)at, size, pc);
     look_for_waiting((u64)at, pc);
     maybe_give();
     see_place(pc);
     if (is_waiter_count(at)) order = __ATOMIC_RELAXED;
-    return put_record(
-        (struct record){.kind = (u8)kind, .at = (u64)at, .size = (u32)size, .pc = pc, .order = (u8)order});
+    struct record r = {.kind = (u8)kind, .at = (u64)at, .size = (u32)size, .pc = pc, .order = (u8)order};
+    return may_fail ? put_open_record(r) : put_record(r);
 }
 
-#define SC __ATOMIC_SEQ_CST
+static u64 atomic_(int kind, const volatile void *at, u64 size, int order, u64 pc) {
+    return atomic_as(kind, at, size, order, pc, 0);
+}
+
+/* The update at a place came to nothing. */
+static void become_read(u64 place, int order) {
+    if (place != NO_PLACE) long_at(place)->kind = ATOMIC_READ, long_at(place)->order = (u8)order;
+}
+
 #define UPDATE(bits, T, name, call) \
     T __tsan_atomic##bits##_##name(volatile T *a, T v, int order) { \
         atomic_(ATOMIC_UPDATE, a, bits / 8, order, PC); \
@@ -27,10 +45,10 @@ static u64 atomic_(int kind, const volatile void *at, u64 size, int order, u64 p
 /* One that failed is a read. */
 #define EXCHANGE(bits, T) \
     static int exchange##bits(volatile T *a, T *wanted, T v, int order, int failed, u64 pc) { \
-        u64 place = atomic_(ATOMIC_UPDATE, a, bits / 8, order, pc); \
+        u64 place = atomic_as(ATOMIC_UPDATE, a, bits / 8, order, pc, 1); \
         int done = compare##bits(a, wanted, v); \
         if (place != NO_PLACE) check_swap(done, pc); \
-        if (!done && place != NO_PLACE) records[place].kind = ATOMIC_READ, records[place].order = (u8)failed; \
+        if (!done) become_read(place, failed); \
         return done; \
     } \
     int __tsan_atomic##bits##_compare_exchange_strong(volatile T *a, T *w, T v, int m, int f) { \
@@ -172,9 +190,9 @@ static _Bool compare_wide(size_t n, volatile void *at, void *wanted, void *from)
 }
 
 _Bool racebench_compare(size_t n, volatile void *at, void *wanted, void *from, int order, int failed) {
-    u64 place = atomic_(ATOMIC_UPDATE, at, n, order, PC);
+    u64 place = atomic_as(ATOMIC_UPDATE, at, n, order, PC, 1);
     _Bool done = compare_wide(n, at, wanted, from);
     if (place != NO_PLACE) check_swap(done, PC);
-    if (!done && place != NO_PLACE) records[place].kind = ATOMIC_READ, records[place].order = (u8)failed;
+    if (!done) become_read(place, failed);
     return done;
 }

@@ -1,5 +1,13 @@
-/* Keys and attributes of threads, mutexes and condition variables, and how a thread is scheduled and cancelled. By the
- * linker's --wrap. */
+/* Keys and attributes of threads, mutexes and condition variables, and how a thread is scheduled and cancelled.
+ * Interposes pthread_attr_*, pthread_mutexattr_*, pthread_key_create and their kin by the linker's --wrap. Must not
+ * call them by their plain names: start.c makes its key by __real_pthread_key_create. */
+#define OF_ATTRIBUTES
+#include "attributes.h"
+#include "accesses.h"
+#include "callers.h"
+#include "events.h"
+#include "fills.h"
+#include "texts.h"
 
 /* A call that changes what it reads. */
 #define CHANGES(name, given, passed_on, at, size) \

@@ -1,4 +1,12 @@
-/* The threads of C11 are those of POSIX with other answers. */
+/* The threads of C11 are those of POSIX with other answers. Interposes thrd_create, mtx_lock, cnd_wait, call_once and
+ * their kin. Must not call pthread_mutex_lock and its kin, which would make a second record: `lock` makes it. */
+#include "accesses.h"
+#include "callers.h"
+#include "conditions.h"
+#include "events.h"
+#include "locks.h"
+#include "meetings.h"
+#include "threads.h"
 
 struct c11_child {
     int (*body)(void *);

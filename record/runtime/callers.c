@@ -1,10 +1,11 @@
 /* The place in the program of a call that a library made: `std::thread::join` of the C++ library calls `pthread_join`,
- * and the line is the one of the program that called `join`. */
+ * and the line is the one of the program that called `join`. Interposes nothing. Each hook calls it for its place, so
+ * it must not put a record or wait; while it unwinds the stack, `inside` is set. */
+#define OF_CALLERS
+#include "callers.h"
+#include "plan.h"
 #include <unwind.h>
 
-struct range {
-    u64 start, size;
-};
 #define MOST_RANGES 64
 /* The programs and libraries that have hooks. */
 static struct range hooked[MOST_RANGES];
@@ -71,7 +72,6 @@ static int is_foreign(u64 pc) {
 
 /* Whether the lock call that this thread is in was made by such a library. */
 static __thread u8 by_library;
-#define LOCK_PC (by_library = !IDLE && is_foreign((u64)__builtin_return_address(0)), PC)
 
 /* A part with hooks has code here. */
 static void note_hooked(u64 pc) {
@@ -107,23 +107,11 @@ static _Unwind_Reason_Code step(struct _Unwind_Context *context, void *data) {
     return ++w->steps < MOST_STEPS ? _URC_NO_REASON : _URC_NORMAL_STOP;
 }
 
-/* A call of a library that the recorder makes for the program, and how many calls the hooks saw begin before. What the
- * library calls then is called at this place. */
-struct library_call {
-    u64 pc;
-    u32 depth;
-};
 static __thread struct library_call library_call;
 static void end_library_call(struct library_call *before) { library_call = *before; }
-#define IN_LIBRARY(call) \
-    ({ \
-        __attribute__((cleanup(end_library_call))) struct library_call before_ = library_call; \
-        library_call = (struct library_call){PC, depth}; \
-        (call); \
-    })
 
 /* The first place with hooks around a place in a library; the place itself where there is none. */
-static u64 caller_in_program(u64 pc) {
+static __attribute__((noinline)) u64 caller_in_program(u64 pc) {
     if (is_hooked(pc)) return pc;
     if (library_call.pc && library_call.depth == depth) return library_call.pc;
     int error = errno;

@@ -1,5 +1,20 @@
 /* What goes through a descriptor. A call on a channel that will not wait is made in the thread's turn, so that the
- * pass beside it is in the order of the calls: who receives comes after who sent. It is a semaphore. */
+ * pass beside it is in the order of the calls: the receiver comes after the sender. It is a semaphore. Interposes read
+ * and write by the linker's --wrap, and readv, recv, send, pread, eventfd_read and their kin. Must not wait in the
+ * call with the token: ON_CHANNEL parks first. */
+#define OF_CHANNELS
+#include "channels.h"
+#include "accesses.h"
+#include "callers.h"
+#include "conditions.h"
+#include "deadlocks.h"
+#include "descriptors.h"
+#include "events.h"
+#include "follow.h"
+#include "plan.h"
+#include "signs.h"
+#include "turns.h"
+#include "words.h"
 
 extern ssize_t __real_read(int, void *, size_t), __real_write(int, const void *, size_t);
 
@@ -12,9 +27,6 @@ static int at_once(int f, short what) {
 }
 
 static int is_nonblocking(int f) { return !!(syscall(SYS_fcntl, f, F_GETFL, 0) & O_NONBLOCK); }
-
-/* How a call on a channel is to be made: in the turn, without it, or not since a handler came. */
-enum { WITHOUT_TURN, IN_TURN, INTERRUPTED };
 
 static void park_for(int f, u32 channel, short what) {
     int awaited_before = awaited;
@@ -39,12 +51,6 @@ static int comes_at_once(int f, u32 channel, short what, int flags) {
     }
     return IN_TURN;
 }
-
-#define ON_CHANNEL(f, channel, what, flags, call) \
-    ({ \
-        int how_ = comes_at_once(f, channel, what, flags); \
-        how_ == INTERRUPTED ? (errno = EINTR, -1) : how_ == IN_TURN ? (call) : OUTSIDE(call); \
-    })
 
 /* After a call that received, or was told that nothing more comes, or was refused. By flags it may leave the bytes. */
 static ssize_t received_by(int f, ssize_t n, int flags, u64 pc) {
@@ -77,7 +83,7 @@ static void sends(int f, u64 pc) {
 static ssize_t sent(int f, ssize_t n) {
     u32 channel = out_of(f);
     if (!channel || IDLE) return n;
-    if (n > 0 && sending != NO_PLACE) records[sending].answer += (u64)n;
+    if (n > 0 && sending != NO_PLACE) long_at(sending)->answer += (u64)n;
     unpark(key_of(channel));
     return n;
 }
@@ -188,26 +194,6 @@ static void wrote_address(int there, const void *a, const socklen_t *n, socklen_
     wrote(n, sizeof *n, pc);
 }
 
-/* `address` and `size` are where the address of who sent is wanted. */
-#define RECEIVES(name, given, passed_on, f, flags, address, size, ...) \
-    ssize_t name given { \
-        const socklen_t *size_ = (size); \
-        socklen_t room = size_ ? *size_ : 0; \
-        static ssize_t(*real) given; \
-        if (!real) real = (ssize_t(*) given)next(#name, NULL); \
-        ssize_t bytes = received_by(f, ON_CHANNEL(f, in_of(f), POLLIN, flags, real passed_on), flags, PC); \
-        goes_over(WRITE, __VA_ARGS__, bytes, PC); \
-        wrote_address(bytes >= 0, (address), size_, room, PC); \
-        return bytes; \
-    }
-#define SENDS(name, given, passed_on, f, flags, ...) \
-    ssize_t name given { \
-        static ssize_t(*real) given; \
-        if (!real) real = (ssize_t(*) given)next(#name, NULL); \
-        goes_over(READ, __VA_ARGS__, SSIZE_MAX, PC); \
-        sends(f, PC); \
-        return sent(f, ON_CHANNEL(f, out_of(f), POLLOUT, flags, real passed_on)); \
-    }
 RECEIVES(readv, (int f, const struct iovec *v, int n), (f, v, n), f, 0, NULL, NULL, v, pieces_of(n))
 RECEIVES(recvfrom, (int f, void *to, size_t n, int g, struct sockaddr *a, socklen_t *m), (f, to, n, g, a, m), f, g, a,
          m, ONE(to, n))

@@ -1,5 +1,9 @@
-/* Functions of the library of C++ that go over letters in code without hooks: from_chars and to_chars of numbers with a
- * point, and the hash of a text. By the linker's --wrap. Programs of C have no such library. */
+/* Functions of the library of C++ that go over letters in code without hooks. Programs of C have no such library.
+ * Interposes std::from_chars and std::to_chars of numbers with a point, and std::_Hash_bytes, by the linker's --wrap.
+ * Must not call anything else of the library of C++, which the program may lack. */
+#include "accesses.h"
+#include "callers.h"
+#include "texts.h"
 
 /* What from_chars and to_chars return: where they ended, and an error or 0. */
 struct chars_end {

@@ -1,5 +1,14 @@
-/* The time: it is as recorded where a plan is followed. And what the C library makes of a time, of which some lies in
- * memory that all threads share. */
+/* The time: a followed run gets it as recorded. Also what the C library makes of a time, of which some lies in memory
+ * that all threads share. Interposes clock_gettime, time and gettimeofday, and, by the linker's --wrap, localtime,
+ * mktime, strftime and their kin. Must not ask for the time by these names: it would be a tick. */
+#define OF_CLOCKS
+#include "clocks.h"
+#include "accesses.h"
+#include "callers.h"
+#include "events.h"
+#include "follow.h"
+#include "plan.h"
+#include "texts.h"
 
 static int is_of_program(u64 from) { return from - main_start < main_size || is_hooked(from); }
 
@@ -7,7 +16,7 @@ static int is_of_program(u64 from) { return from - main_start < main_size || is_
 #define WRITES_TIME(at) \
     do { \
         u64 from_ = (u64)__builtin_return_address(0); \
-        if ((at) && is_of_program(from_)) access_(WRITE, (at), sizeof *(at), from_); \
+        if (is_there(at) && is_of_program(from_)) access_(WRITE, (at), sizeof *(at), from_); \
     } while (0)
 
 static int time_of(clockid_t k, struct timespec *t, u64 from) {
@@ -33,7 +42,7 @@ int timespec_get(struct timespec *t, int base) {
 }
 
 int gettimeofday(struct timeval *t, void *z) {
-    if (IDLE || !t) return (int)syscall(SYS_gettimeofday, t, z);
+    if (IDLE || !is_there(t)) return (int)syscall(SYS_gettimeofday, t, z);
     struct tick_entry *e = world_expected(ANSWER, PC);
     struct timeval now;
     if (e) now = (struct timeval){(time_t)e->at, (suseconds_t)e->answer};

@@ -1,13 +1,18 @@
-/* Condition variables. The recorder itself keeps who waits: which woken thread comes first would else be the kernel's
- * choice, and where a plan is followed a woken thread must not have the mutex before its turn. */
+/* Condition variables. The recorder itself keeps the waiting threads: the kernel would else choose which woken thread
+ * comes first, and in a followed run a woken thread must not have the mutex before its turn. Interposes
+ * pthread_cond_*wait, pthread_cond_signal and pthread_cond_broadcast. Must not call the library's wait: only the
+ * recorder's list knows who waits. */
+#define OF_CONDITIONS
+#include "conditions.h"
+#include "accesses.h"
+#include "callers.h"
+#include "deadlocks.h"
+#include "events.h"
+#include "follow.h"
+#include "locks.h"
+#include "plan.h"
+#include "turns.h"
 
-struct waiter {
-    pthread_cond_t *c;
-    pthread_mutex_t *m;
-    u64 pc;
-    volatile int signaled;
-    struct waiter *next;
-};
 static struct waiter *waiters;
 
 static void add_waiter(struct waiter *w) {
@@ -93,16 +98,6 @@ static int wait_for(pthread_cond_t *c, pthread_mutex_t *m, const struct timespec
 /* The waiters of a variable that processes share are kept by the system. */
 #define SHARED_COND(c) ((c)->__data.__wrefs & 1)
 #define CLOCK_OF_COND(c) ((c)->__data.__wrefs & 2 ? CLOCK_MONOTONIC : CLOCK_REALTIME)
-#define WAITED(call) \
-    ({ \
-        u64 pc_ = LOCK_PC; \
-        waits_at(c, pc_); \
-        put_lock(RELEASE, (u64)m, 0, pc_); \
-        unpark(m); \
-        int waited_ = OUTSIDE(call); \
-        put_lock(ACQUIRE, (u64)m, (u64)waited_, pc_); \
-        waited_; \
-    })
 
 int pthread_cond_wait(pthread_cond_t *c, pthread_mutex_t *m) {
     REAL_OF(pthread_cond_wait, "GLIBC_2.3.2", int, pthread_cond_t *, pthread_mutex_t *);

@@ -1,5 +1,9 @@
-/* Nodes of the containers of C++: code of the library of C++ links them, which has no hooks. It is called by the
- * headers, so the linker's --wrap reaches each call. Programs of C have no such library. */
+/* Nodes of the containers of C++: code of the library of C++ links them, which has no hooks. Programs of C have no
+ * such library. Interposes the functions of std::__detail::_List_node_base, which the headers call, by the linker's
+ * --wrap. Must not call access_ between two changes of nodes, since it may give the token: no other thread may see
+ * half a change. */
+#include "accesses.h"
+#include "callers.h"
 
 struct list_node {
     struct list_node *next, *before;

@@ -1,5 +1,12 @@
 /* A run that hangs in a deadlock: each thread is parked, and some wait in a circle, each for a lock that the next one
- * holds. The recorder ends the run then. Who holds a lock follows from the records. */
+ * holds. The recorder ends the run then. Who holds a lock follows from the records. Interposes nothing. The watcher
+ * calls look_for_deadlock with the turns' lock held, so this must not wait, allocate or take that lock. */
+#define OF_DEADLOCKS
+#include "deadlocks.h"
+#include "events.h"
+#include "follow.h"
+#include "turns.h"
+#include "words.h"
 
 /* The record of a request by each thread that is parked for a lock; its kind is VOID for other threads. Its `size` is 1
  * if the thread wants to read. */
@@ -10,9 +17,9 @@ static struct record wanted[MOST_THREADS];
 /* Parked threads of which each waits for a lock that another one of them holds. */
 static u8 is_stuck[MOST_THREADS];
 
-/* A lock that a thread holds, how often, and the number of the record since which it holds it. */
+/* A lock that a thread holds, and how often. */
 struct hold {
-    u64 at, since;
+    u64 at;
     u32 thread, times;
     u8 reads;
 };
@@ -40,12 +47,12 @@ static struct hold *hold_of(u64 at, u32 thread) {
     return NULL;
 }
 
-static void note_taken(const struct record *r, u64 number) {
+static void note_taken(const struct record *r) {
     struct hold *h = hold_of(r->at, r->thread);
     if (!h && hold_count == MOST_HOLDS) return;
     if (!h) {
         h = &holds[hold_count++];
-        *h = (struct hold){r->at, number, r->thread, 0, r->kind == READER_IN};
+        *h = (struct hold){r->at, r->thread, 0, r->kind == READER_IN};
     }
     h->times++;
 }
@@ -64,10 +71,12 @@ static void find_holds(void) {
     memset(wanted_bits, 0, sizeof wanted_bits);
     for (u32 k = 0; k < parked_count; k++)
         if (wanted[parked[k]].kind) wanted_bits[bit_of(wanted[parked[k]].at)] = 1;
-    for (u64 k = 0; k < head->used; k++) {
-        struct record *r = &records[k];
+    static struct reader all;
+    memset(&all, 0, sizeof all);
+    all.words = words, all.end = head->used;
+    for (const struct record *r; (r = read_record(&all));) {
         if (r->of || !wanted_bits[bit_of(r->at)]) continue;
-        if (r->kind == ACQUIRE || r->kind == WRITER || r->kind == READER_IN) note_taken(r, k);
+        if (r->kind == ACQUIRE || r->kind == WRITER || r->kind == READER_IN) note_taken(r);
         else if (r->kind == RELEASE || r->kind == READER_OUT) note_let_go(r);
     }
 }
@@ -114,8 +123,7 @@ static void end_in_deadlock(u32 thread) {
         if (t < first) first = t;
     u32 t = first;
     do {
-        u64 place = next_place();
-        if (place != NO_PLACE) records[place] = wanted[t], head->deadlock++;
+        if (put_long(&wanted[t], 0) != NO_PLACE) head->deadlock++;
         t = next_of(t);
     } while (t != first);
     end_by_abort();

@@ -1,11 +1,17 @@
 /* Descriptors: a number that was closed and is given out again passes from the one to the other. Pipes, eventfds and
- * the two ways of a socket pair are channels, by the number of the descriptor. */
+ * the two ways of a socket pair are channels, by the number of the descriptor. Interposes open, socket, pipe, dup,
+ * fcntl, close, fopen, flock and their kin. Must not open or close a descriptor by these names: the recorder's own
+ * calls go by `syscall`. */
+#define OF_DESCRIPTORS
+#include "descriptors.h"
+#include "accesses.h"
+#include "atomics.h"
+#include "callers.h"
+#include "events.h"
+#include "sockets.h"
+#include "turns.h"
+#include "words.h"
 
-#define MOST_DESCRIPTORS 65536
-static struct end {
-    u32 reads, writes;
-    u8 is_pipe, is_stream, is_signals, file_lock;
-} ends[MOST_DESCRIPTORS];
 static u32 channels;
 /* A child process has the ends too: what comes through a channel then may not be of this process. */
 static volatile u8 has_forked;
@@ -15,17 +21,6 @@ static u32 in_of(int f) { return is_known(f) ? ends[f].reads : 0; }
 static u32 out_of(int f) { return is_known(f) ? ends[f].writes : 0; }
 /* What threads that wait for a channel are parked at. */
 static const void *key_of(u32 channel) { return (const char *)ends + channel; }
-
-/* The channel of a queue, of semaphores, of what a poll watches, of a library that is opened, of a signal, or of a file:
- * by their kind and their number in the system. */
-enum { QUEUE, MESSAGES, SEMAPHORES, WATCHED, LIBRARY, SIGNAL, NAMED_PIPE, FILE_LOCK };
-static struct numbered {
-    u64 kind, number;
-    u32 channel;
-    /* What is watched. */
-    int f;
-    struct numbered *next;
-} * all_numbered[1024];
 
 /* In the thread's turn. */
 static struct numbered *numbered_of(u64 kind, u64 number) {
@@ -52,9 +47,6 @@ static int gives(int f, u64 pc) {
     return f;
 }
 
-/* What kind of channel a descriptor is an end of. In a stream each byte comes once, in the order of the sends. */
-enum { NO_STREAM, STREAM, PIPE };
-
 static void set_end(int f, u32 reads, u32 writes, int kind) {
     if (is_known(f)) ends[f] = (struct end){reads, writes, kind == PIPE, kind != NO_STREAM, 0, 0};
 }
@@ -64,8 +56,8 @@ static u64 pass_bytes(int f, int way, u64 bytes, u64 pc) {
     u32 channel = way == POSTED ? out_of(f) : in_of(f);
     int error = errno;
     u8 order = (u8)(is_known(f) && ends[f].is_stream ? way : NO_WAY);
-    u64 place = put_record(
-        (struct record){.kind = PASS, .at = channel, .of = OF_CHANNEL, .pc = pc, .answer = bytes, .order = order});
+    struct record r = {.kind = PASS, .at = channel, .of = OF_CHANNEL, .pc = pc, .answer = bytes, .order = order};
+    u64 place = way == POSTED ? put_open_record(r) : put_record(r);
     errno = error;
     return place;
 }

@@ -1,13 +1,16 @@
-/* The records: one array in a file that is mapped, so that it is whole however the program ends. */
+/* The records, and the calls around them. Interposes __tsan_func_entry and __tsan_func_exit, which the compiler puts
+ * around each function. Must not allocate: the hooks of the heap come here too. Calls of the C library run with
+ * `inside` set. */
+#define OF_EVENTS
+#include "events.h"
+#include "callers.h"
+#include "follow.h"
+#include "frames.h"
+#include "freed.h"
+#include "plan.h"
+#include "turns.h"
+#include "words.h"
 
-/* The calls that the hooks saw begin, and the numbers of their nodes, of which the first `known_nodes` are found.
- * Deeper calls than these have the node of the last. They lie outside of the thread's stack, which may be small. Of a
- * frame, `base` is the frame pointer, `end` its end and `from` where it was recorded from; 0 if that is not known. */
-#define CALLS 16384
-struct call {
-    u64 site, body, stack, return_to, base, end, from;
-    u32 node;
-};
 static __thread struct call *calls;
 static __thread u32 known_nodes;
 
@@ -16,57 +19,15 @@ static struct node *all_nodes;
 static u32 *node_table;
 static u64 node_table_size;
 
-/* How far the file has room on the disk: a mapped page that the disk has no room for ends the program. */
-static u64 records_there, stacks_there;
-#define PIECE 65536
-static int raw_file = -1;
-
-/* Which file it is: a program that closes all descriptors may have another one at this number then. */
-static dev_t raw_device;
-static ino_t raw_inode;
-
-static int has_room(u64 at, u64 size) {
-    struct stat about;
-    if (fstat(raw_file, &about)) return 0;
-    if (!raw_inode) raw_device = about.st_dev, raw_inode = about.st_ino;
-    if (about.st_dev != raw_device || about.st_ino != raw_inode) return 0;
-    return posix_fallocate(raw_file, (off_t)at, (off_t)size) == 0;
-}
-
-/* The memory of records that are long past is given back, since the file has them: a long run takes no more of it. */
-static void forget_records(void) {
-    const u64 round = 65536;
-    if (records_there < 4 * PIECE) return;
-    u64 start = (u64)&records[records_there - 4 * PIECE], end = start + PIECE * sizeof *records;
-    start = (start + round - 1) / round * round;
-    madvise((void *)start, end / round * round - start, MADV_DONTNEED);
-}
-
-/* Whether a tenth of the file system is free. So many records, 200 MB, may take what there is. */
-#define FIRST_RECORDS (1 << 22)
-static int leaves_a_tenth(void) {
-    struct statfs about;
-    if (records_there < FIRST_RECORDS || fstatfs(raw_file, &about)) return 1;
-    return about.f_bavail >= about.f_blocks / 10;
-}
-
-static int more_records(u64 place) {
-    if (head->full) return 0;
-    u8 was = inside;
-    inside = 1;
-    u64 n = records_there + PIECE < head->room ? PIECE : head->room - records_there;
-    u64 end = head->records_at + records_there * sizeof *records;
-    if (leaves_a_tenth() && has_room(end, n * sizeof *records)) records_there += n, forget_records();
-    else head->full = 1, head->whole = records_there;
-    inside = was;
-    return place < records_there;
-}
+/* How many nodes the disk has room for. */
+static u64 stacks_there;
+#define PIECE_OF_STACKS 65536
 
 static int more_nodes(void) {
     if (head->full || stacks_there >= head->stack_room) return 0;
     u8 was = inside;
     inside = 1;
-    u64 n = stacks_there + PIECE < head->stack_room ? PIECE : head->stack_room - stacks_there;
+    u64 n = head->stack_room - stacks_there < PIECE_OF_STACKS ? head->stack_room - stacks_there : PIECE_OF_STACKS;
     int there = has_room(head->stacks_at + stacks_there * sizeof(struct node), n * sizeof(struct node));
     if (there) stacks_there += n;
     inside = was;
@@ -99,10 +60,10 @@ static u32 node_of(u32 parent, u64 body, u64 site) {
     }
 }
 
-/* Only a thread that has its turn makes nodes; a signal's handler that comes meanwhile takes what is known. */
-static u32 stack_now(void) {
+/* The node of the innermost of so many calls. Only a thread that has its turn makes nodes; a signal's handler that
+ * comes meanwhile takes what is known. */
+static __attribute__((noinline)) u32 node_at(u32 d) {
     static __thread u8 busy;
-    u32 d = depth < CALLS ? depth : CALLS;
     while (known_nodes < d && !busy) {
         busy = 1;
         u32 k = known_nodes;
@@ -114,10 +75,16 @@ static u32 stack_now(void) {
     return d ? calls[d - 1].node : 0;
 }
 
+static inline u32 stack_now(void) {
+    u32 d = depth < CALLS ? depth : CALLS;
+    if (!d) return 0;
+    return d <= known_nodes ? calls[d - 1].node : node_at(d);
+}
+
 static int is_tick(int kind) { return kind != ALLOCATED && kind != FREED && kind != RESIZED && kind != STACK; }
 
-/* The thread comes to its next hook; its clock there. Where a plan is followed it waits for its turn. */
-static u64 next_pos(int kind, u64 at, u64 size, u64 pc) {
+/* The thread comes to its next hook while a plan may be followed, and waits for its turn; its clock there. */
+static __attribute__((noinline)) u64 next_planned(int kind, u64 at, u64 size, u64 pc) {
     int counts = is_tick(kind);
     u64 pos = counts ? CLOCK(tick + 1, 0) : CLOCK(tick, sub + (kind == FREED));
     int planned = following && (counts || (kind == FREED && plan->frees));
@@ -132,44 +99,61 @@ static u64 next_pos(int kind, u64 at, u64 size, u64 pc) {
     return pos;
 }
 
-/* Whether there is no room for more records. */
-static volatile u8 is_full;
-
-/* The place of the next record, or NO_PLACE where there is no room. */
-static u64 next_place(void) {
-    u64 place = __atomic_fetch_add(&head->used, 1, __ATOMIC_RELAXED);
-    if (place < head->room && (place < records_there || more_records(place))) return place;
-    is_full = 1;
-    return NO_PLACE;
+/* The thread comes to its next hook, in its turn; its clock there. */
+static inline u64 next_pos(int kind, u64 at, u64 size, u64 pc) {
+    if (following || !is_tick(kind)) return next_planned(kind, at, size, pc);
+    tick++, sub = 0;
+    return CLOCK(tick, 0);
 }
 
-/* Makes a record, in the thread's turn; its place, or NO_PLACE where there is no room. */
-static u64 put_record(struct record r) {
+/* The thread's clock at the end of a call whose frame others used. What other frames others used differs in a run that
+ * is followed. But each call leaves where its frame is at a hook, so after the last hook no other call has this depth. */
+static u64 pos_of_end(u64 at, u64 size, u64 pc) {
+    u64 pos = CLOCK(tick, FRAME_ENDS | depth);
+    int planned = is_planned(pos);
+    if (planned) {
+        about_to(FREED, at, size, pc);
+        arrive(pos);
+    }
+    keep_turn();
+    if (planned && following) passed_hook(pos, FREED, pc);
+    return pos;
+}
+
+/* Makes a record, in the thread's turn; its place, or NO_PLACE if there is no room. One that `stays_open` is changed
+ * when the call has been made. Inlined, so that the record is in registers. */
+static inline __attribute__((always_inline)) u64 put_inline(struct record r, int stays_open) {
     if (IDLE) return NO_PLACE;
     keep_turn();
-    r.pos = next_pos(r.kind, r.at, r.size, r.pc);
+    int is_end = r.kind == FREED && r.order == OF_FRAME;
+    r.pos = is_end ? pos_of_end(r.at, r.size, r.pc) : next_pos(r.kind, r.at, r.size, r.pc);
     count_record();
-    look_at_block(&r);
+    if (plan) {
+        struct record whole = r;
+        look_at_block(&whole);
+    }
     if (me >= MOST_THREADS) {
         __atomic_fetch_add(&head->unrecorded, 1, __ATOMIC_RELAXED);
         return NO_PLACE;
     }
-    note_frame(&r);
+    if (is_of_frames(r.kind, r.of)) note_frame(r.at);
     note_use_of_stack();
-    u64 place = next_place();
-    if (place == NO_PLACE) return NO_PLACE;
     r.stack = stack_now();
     r.thread = (u16)me;
-    r.done = 0;
-    records[place] = r;
-    __atomic_store_n(&records[place].done, 1, __ATOMIC_RELEASE);
-    return place;
+    if (!stays_open && is_tick(r.kind) && !r.answer && fits_word(r)) return put_word(r, (r.pos >> 16) - 1, r.pos >> 16);
+    struct record whole = r;
+    return put_long(&whole, 0);
 }
 
-static u64 put(int kind, u64 at, u64 size, u64 pc) {
-    return put_record(
-        (struct record){.kind = (u8)kind, .at = at, .size = size > UINT_MAX ? UINT_MAX : (u32)size, .pc = pc});
+static u64 put_open_record(struct record r) { return put_inline(r, 1); }
+static u64 put_record(struct record r) { return put_inline(r, 0); }
+
+/* The record of so many bytes. */
+static inline struct record record_of(int kind, u64 at, u64 size, u64 pc) {
+    return (struct record){.kind = (u8)kind, .at = at, .size = size > UINT_MAX ? UINT_MAX : (u32)size, .pc = pc};
 }
+
+static u64 put(int kind, u64 at, u64 size, u64 pc) { return put_record(record_of(kind, at, size, pc)); }
 
 static u64 put_of(int of, int kind, u64 at, u64 pc) {
     return put_record((struct record){.kind = (u8)kind, .at = at, .pc = pc, .of = (u8)of});
@@ -178,11 +162,6 @@ static u64 put_of(int of, int kind, u64 at, u64 pc) {
 /* What came of a call: no event of the trace, but a tick. */
 static u64 put_answer(int kind, u64 at, u64 answer, u64 pc) {
     return put_record((struct record){.kind = (u8)kind, .at = at, .answer = answer, .pc = pc});
-}
-
-/* What was recorded before a call that was then refused did not happen. */
-static void take_back(u64 place) {
-    if (place != NO_PLACE) records[place].kind = VOID;
 }
 
 static int make_calls(void) {
@@ -208,14 +187,16 @@ void __tsan_func_entry(void *site) {
         calls[depth].stack = (u64)__builtin_frame_address(0);
         calls[depth].return_to = (u64)site;
         calls[depth].base = *(u64 *)__builtin_frame_address(0);
-        calls[depth].end = calls[depth].from = 0;
+        calls[depth].end = calls[depth].from = calls[depth].is_shared = 0;
         if (known_nodes > depth) known_nodes = depth;
     }
     depth++;
 }
 
 void __tsan_func_exit(void) {
-    if (depth) depth--;
+    if (!depth) return;
+    if (is_noted_end()) note_end(PC);
+    depth--;
 }
 
 /* Whether a name is of OpenMP. A program that calls nothing else of libgomp than what the recorder takes is not linked

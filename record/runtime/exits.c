@@ -1,5 +1,9 @@
-/* Futures that become ready when a thread ends, such as by `set_value_at_thread_exit`: code of the library of C++ makes
- * them so, which has no hooks. Who waits for one reads its state by the headers. By the linker's --wrap. */
+/* Futures that become ready when a thread ends, such as by `set_value_at_thread_exit`: code of the library of C++
+ * makes them so, which has no hooks. A thread that waits for one reads its state by the headers. Interposes
+ * _Make_ready::_M_set by the linker's --wrap. Must not put a record inside the library's call, which only lists the
+ * state: becomes_ready puts it at the thread's end. */
+#include "atomics.h"
+#include "callers.h"
 
 /* What the library calls at the end of the thread, and the weak pointer to the state of the future. */
 struct at_exit {

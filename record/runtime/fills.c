@@ -1,4 +1,12 @@
-/* Calls that fill memory of the program. What they wrote is known afterwards. By the linker's --wrap. */
+/* Calls that fill memory of the program. What they wrote is known afterwards. Interposes getcwd, stat, uname,
+ * getrandom, frexp and others by the linker's --wrap. Must not record the write before the call: a call that fails
+ * writes nothing. */
+#include "fills.h"
+#include "accesses.h"
+#include "callers.h"
+#include "deadlocks.h"
+#include "texts.h"
+#include "wide.h"
 #include <arpa/inet.h>
 #include <sys/ioctl.h>
 #include <sys/statvfs.h>
@@ -7,18 +15,7 @@
 #include <sys/times.h>
 #include <sys/utsname.h>
 
-/* `size` is how many bytes the call wrote at `at`; `answer` is what it gave back. */
-#define FILLS(type, name, given, passed_on, before, at, size) \
-    WEAKLY type __real_##name given; \
-    type __wrap_##name given { \
-        before; \
-        comes_to_call(); \
-        type answer = __real_##name passed_on; \
-        wrote((at), (size), PC); \
-        return answer; \
-    }
 static size_t address_size(int family) { return family == AF_INET ? 4 : 16; }
-#define TEXT_AT(at) ((at) ? __real_strlen((const char *)(at)) + 1 : 0)
 FILLS(char *, getcwd, (char *to, size_t n), (to, n), , answer, TEXT_AT(answer))
 FILLS(ssize_t, readlink, (const char *p, char *to, size_t n), (p, to, n), READS(p, TEXT_AT(p)), to,
       answer > 0 ? (u64)answer : 0)

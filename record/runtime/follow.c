@@ -1,4 +1,12 @@
-/* Following a plan: the threads take the token in its order. A thread stops at its next hook, whatever that is. */
+/* Following a plan: the threads take the token in its order. A thread stops at its next hook, of any kind. Interposes
+ * nothing; a debugger sets a breakpoint at racebench_race_stands. Must not allocate or call a function that the
+ * recorder takes: a hook there would be a tick that no plan has. */
+#define OF_FOLLOW
+#include "follow.h"
+#include "events.h"
+#include "plan.h"
+#include "threads.h"
+#include "turns.h"
 
 static u32 lent[64];
 static volatile u32 lends;
@@ -21,7 +29,7 @@ static void about_to(int kind, u64 at, u64 size, u64 pc) {
     about.kind = kind, about.at = at, about.size = size, about.pc = pc;
 }
 
-static void count_record(void) {
+static inline void count_record(void) {
     progress++, record_count++, futile = 0;
     if (me < MOST_THREADS) ticks_of[me] = tick;
 }
@@ -98,6 +106,12 @@ static int fits(u64 expected, int kind, u64 pc) {
     if (PLACE_OF(expected) != as_recorded(pc)) return 0;
     return k == kind || (kind == ATOMIC_UPDATE && k == ATOMIC_READ) ||
         (k == VOID && kind != ACQUIRE && kind != WRITER && kind != PASS);
+}
+
+/* Whether the thread's next step in the plan has this clock. */
+static int is_planned(u64 pos) {
+    u64 k = following && me < plan->threads ? next_step[me] : ULLONG_MAX;
+    return following && k < plan->steps && steps[k].pos == pos;
 }
 
 /* Whether the thread is before the access that the recording has at this clock. */

@@ -1,5 +1,5 @@
 /* The raw file that the recorder writes as the program runs, for the recorder and for the decoder: numbers as this
- * machine has them. A head, the nodes of the calls at stacks_at, the records at records_at. */
+ * machine has them. A head, the nodes of the calls at stacks_at, the records as words at words_at. */
 #pragma once
 #include <stdint.h>
 
@@ -34,7 +34,12 @@ enum { BY_PROGRAM, BY_LIBRARY, BY_TRY };
  * sub. `answer` is what came of a call, `order` the memory order of an atomic or the way of a PASS. The `size` of TRIED
  * is 1 where a reader tried. STACK has the pointer of the thread's own variables as `answer`. FRAME is memory of an
  * activation of the function at `pc`, up to the frame's end; `answer` is where the frame began below, and `order` is 1
- * if an earlier FRAME has a part of it. It has no clock. */
+ * if an earlier FRAME has a part of it. It has no clock. A FREED with OF_FRAME as its `order` is the end of an activation
+ * whose memory another thread used: from `at` on, `size` bytes. Its `sub` is FRAME_ENDS and how deep the call is. `done` is 1
+ * once the record is whole, and 2 if it did not happen after all. */
+enum { OF_BLOCK, OF_FRAME };
+#define FRAME_ENDS 0x8000
+
 struct record {
     u64 at, pc, pos, answer;
     u32 size, stack;
@@ -43,6 +48,20 @@ struct record {
     u16 unused;
 };
 
+/* The records are a stream of words. The low 16 bits of a word say what it is, and the others are its content.
+ * NOTHING is a word that was not written. After LONG there is a whole record in the next words; unless the content is
+ * 0, it is the slot whose form the record is from now on. TURN has a thread as its content, and the next word says how
+ * many hooks that thread has passed. TAKEN_BACK is a record that did not happen after all; its content is its slot.
+ *
+ * Any other number, from FIRST_SLOT on, is a slot: a record of its form, whose `at` is the content. Its thread is that
+ * of the last TURN, or of the last long record with a clock. It is the thread's next tick. Its `answer` is 0. But a
+ * FRAME is no tick, and its `answer` is its `at`. */
+enum { NOTHING, LONG, TURN, TAKEN_BACK };
+#define FIRST_SLOT 16
+#define SLOTS 65536
+#define LONG_WORDS 7
+#define TURN_WORDS 2
+
 /* A function that was entered: a place in it, where it was called, and the node of its caller. `same` is the node that
  * stands for it: where a function calls itself, the one above it that has the same two places. */
 struct node {
@@ -50,7 +69,7 @@ struct node {
     u32 parent, same;
 };
 
-#define MAGIC 0x3243455242524352ull
+#define MAGIC 0x3343455242524352ull
 #define MOST_MODULES 128
 #define MODULE_PATH 240
 
@@ -59,13 +78,16 @@ struct module {
     char path[MODULE_PATH];
 };
 
-/* The head of the raw file. It is written as the program runs, so it is whole however the program ends. `units` are
- * the compiled parts with hooks. If the disk has no more room, `full` is set, and `whole` records are there. `forks` are
- * child processes, `programs` other programs that were started, and `unrecorded` are records of threads after the last
- * one that is recorded. If the program hangs in a deadlock, `deadlock` is how many threads are in it. Its requests are the
- * last records, each before the one of the thread that holds its lock. */
+/* The head of the raw file. It is written as the program runs, so it is whole however the program ends. `room` is how
+ * many records there may be, `kept` how many there are, in `used` words, and `lost` how many had no room. If the disk
+ * has no more room, `full` is set. `units` are the compiled parts with hooks. `process` is the one that is recorded.
+ * `forks` are child processes, `programs` other programs that were started, and `unrecorded` are records of threads after
+ * the last one that is recorded.
+ *
+ * If the program hangs in a deadlock, `deadlock` is how many threads are in it. Its requests are the last records, each
+ * before the one of the thread that holds its lock. */
 struct head {
-    u64 magic, room, used, stack_room, stacks, stacks_at, records_at, turns, forced, strangers, modules, units, full,
-        whole, forks, programs, unrecorded, deadlock;
+    u64 magic, room, used, stack_room, stacks, stacks_at, words_at, turns, forced, strangers, modules, units, full,
+        kept, lost, forks, programs, unrecorded, deadlock, process;
     struct module module[MOST_MODULES];
 };

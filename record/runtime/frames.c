@@ -1,5 +1,12 @@
-/* Frames: which activation of a function has an address of a stack. The first record of an activation's memory has a
- * FRAME before it. */
+/* Frames: which activation of a function has an address of a stack. A FRAME record comes before the first record of an
+ * activation's memory. Interposes nothing. put_record calls note_frame, which must not call put_record; it takes the
+ * place of its own record itself. The end of a call is a record of its hook. */
+#define OF_FRAMES
+#include "frames.h"
+#include "events.h"
+#include "follow.h"
+#include "turns.h"
+#include "words.h"
 
 /* The stack of a thread, the lowest address that the thread had in use at its last record, and whether a call of it set
  * memory aside after it began. */
@@ -13,6 +20,12 @@ static struct stack stack_of[MOST_THREADS];
 /* The threads that have a stack, in the order of their stacks. */
 static u32 stacks_in_order[MOST_THREADS];
 static volatile u32 stack_count;
+/* Where this thread last found no stack, as long as stacks have changed so often and no more. */
+static __thread struct {
+    u64 from, size;
+    u32 changes;
+} no_stack;
+static volatile u32 stack_changes;
 
 #if defined __x86_64__
 /* How many stacks start at an address or below it. */
@@ -27,9 +40,13 @@ static u32 stacks_up_to(u64 at) {
 }
 
 static u32 thread_at(u64 at) {
-    u32 k = stacks_up_to(at);
+    u32 changes = stack_changes, k = stacks_up_to(at);
     u32 thread = k ? stacks_in_order[k - 1] : NOBODY;
-    return thread != NOBODY && at < stack_of[thread].end ? thread : NOBODY;
+    u64 end = k ? stack_of[thread].end : 0;
+    if (at < end) return thread;
+    u64 next = k < stack_count ? stack_of[stacks_in_order[k]].start : ULLONG_MAX;
+    no_stack.changes = changes, no_stack.from = end, no_stack.size = next - end;
+    return NOBODY;
 }
 
 static void drop_stack(u32 k) {
@@ -43,6 +60,7 @@ static void forget_stack(void) {
     u32 k = stacks_up_to(stack_of[me].start);
     if (k && stacks_in_order[k - 1] == me) drop_stack(k - 1);
     stack_of[me].end = 0;
+    stack_changes++;
     unlock_turns();
 }
 
@@ -58,6 +76,7 @@ static void note_stack(void) {
     memmove(&stacks_in_order[k + 1], &stacks_in_order[k], (stack_count - k) * sizeof *stacks_in_order);
     stacks_in_order[k] = me;
     stack_count++;
+    stack_changes++;
     unlock_turns();
 }
 
@@ -122,8 +141,8 @@ static struct call *call_at(const struct stack *s, u64 at, u64 *from) {
     return k && is_in_stack(s, &c[k - 1]) ? &c[k - 1] : NULL;
 }
 
-static int is_of_frames(const struct record *r) {
-    switch (r->kind) {
+static inline int is_of_frames(int kind, int of) {
+    switch (kind) {
     case READ:
     case WRITE:
     case ATOMIC_READ:
@@ -137,7 +156,7 @@ static int is_of_frames(const struct record *r) {
     case READER_IN:
     case READER_OUT:
     case ARRIVED:
-    case WENT_ON: return r->of == OF_MEMORY;
+    case WENT_ON: return of == OF_MEMORY;
     default: return 0;
     }
 }
@@ -149,19 +168,22 @@ static void take_from_outer(const struct stack *s, struct call *c, u64 end) {
 }
 
 static void put_frame(struct stack *s, u32 thread, struct call *c, u64 from, u64 end) {
-    u64 place = next_place();
-    if (place == NO_PLACE) return;
-    records[place] = (struct record){.kind = FRAME,
-                                     .at = from,
-                                     .size = (u32)(end - from),
-                                     .pc = c->body,
-                                     .answer = start_of(c),
-                                     .thread = (u16)thread,
-                                     .order = c->from != 0};
+    struct record r = {.kind = FRAME,
+                       .at = from,
+                       .size = (u32)(end - from),
+                       .pc = c->body,
+                       .answer = start_of(c),
+                       .thread = (u16)thread,
+                       .order = c->from != 0};
     c->from = from;
     if (from < start_of(c)) s->sets_aside = 1;
     if (s->sets_aside) take_from_outer(s, c, end);
-    __atomic_store_n(&records[place].done, 1, __ATOMIC_RELEASE);
+    if (thread != me || r.answer != from || !fits_word(r)) {
+        struct record whole = r;
+        put_long(&whole, 0);
+        return;
+    }
+    put_word(r, tick - 1, tick - 1);
 }
 
 /* Records the frame of a call, if an address is the first of it, or below what was recorded of it. */
@@ -169,33 +191,66 @@ static void note_frame_in(u32 thread, u64 at) {
     struct stack *s = &stack_of[thread];
     u64 from;
     struct call *c = call_at(s, at, &from);
-    if (!c || (c->from && from >= c->from)) return;
+    if (!c) return;
+    if (thread != me) c->is_shared = 1;
+    if (c->from && from >= c->from) return;
     u32 k = (u32)(c - *s->calls);
     put_frame(s, thread, c, from, end_of(c, outer_end(s, *s->calls, k)));
 }
 
 /* Before a record of memory. A thread ends its calls only with the lock of turns. Below what another thread has in use
  * there is no frame. */
-static void note_frame(const struct record *r) {
-    if (!is_of_frames(r) || me >= MOST_THREADS) return;
-    if (r->at - stack_start < stack_size) {
-        if (stack_of[me].end) note_frame_in(me, r->at);
+static void note_frame_at(u64 at) {
+    if (at - stack_start < stack_size) {
+        if (stack_of[me].end) note_frame_in(me, at);
         return;
     }
-    u32 thread = thread_at(r->at);
+    u32 thread = thread_at(at);
     if (thread == NOBODY) return;
     lock_turns();
-    int is_in_use = r->at >= stack_of[thread].used_from && r->at < stack_of[thread].end;
-    if (is_in_use) note_frame_in(thread, r->at);
+    int is_in_use = at >= stack_of[thread].used_from && at < stack_of[thread].end;
+    if (is_in_use) note_frame_in(thread, at);
     unlock_turns();
+}
+
+static inline void note_frame(u64 at) {
+    if (at - no_stack.from >= no_stack.size || no_stack.changes != stack_changes) note_frame_at(at);
 }
 
 static void note_use_of_stack(void) {
     if (me < MOST_THREADS) stack_of[me].used_from = (u64)__builtin_frame_address(0);
 }
+
+/* Whether the end of the innermost call is recorded: another thread used its frame, or will in a run that is followed. */
+static int is_noted_end(void) {
+    if (!depth || depth > CALLS) return 0;
+    int is_noted = calls[depth - 1].is_shared || is_planned(CLOCK(tick, FRAME_ENDS | depth));
+    return is_noted && me < MOST_THREADS && stack_of[me].end;
+}
+
+/* The innermost call ends: its frame is written, as a block is by a free. Until this thread has its stack in use again,
+ * who still uses the frame comes to the activation that ended. If the function jumps to the hook, the return address is
+ * its caller's, and the place is that of its begin. */
+static void note_end(u64 pc) {
+    struct call *c = &calls[depth - 1];
+    u64 end = end_of(c, outer_end(&stack_of[me], calls, depth - 1)), from = c->from ? c->from : start_of(c);
+    if (from >= end) return;
+    put_record((struct record){.kind = FREED,
+                               .at = from,
+                               .size = (u32)(end - from),
+                               .pc = pc == c->return_to ? c->body : pc,
+                               .order = OF_FRAME});
+    stack_of[me].used_from = end;
+}
 #else
+static int is_noted_end(void) { return 0; }
+static void note_end(u64 pc) { (void)pc; }
 static void forget_stack(void) {}
 static void note_stack(void) {}
-static void note_frame(const struct record *r) { (void)r; }
+static inline int is_of_frames(int kind, int of) {
+    (void)kind, (void)of;
+    return 0;
+}
+static inline void note_frame(u64 at) { (void)at; }
 static void note_use_of_stack(void) {}
 #endif

@@ -1,5 +1,10 @@
 /* Blocks of the heap in a followed run: an access of a block that was freed is noted in the plan once the race stands.
  * Interposes nothing. Runs in the turn of its thread, so no other thread is here. Must not call the heap. */
+#define OF_FREED
+#include "freed.h"
+#include "channels.h"
+#include "follow.h"
+#include "plan.h"
 
 /* A block whose allocation was recorded. */
 struct block {

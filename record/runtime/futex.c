@@ -1,6 +1,17 @@
-/* Waits that a library makes by `syscall`: those of std::atomic, std::latch and std::barrier of C++20, and of Rust. A
- * waiter is kept by the recorder. Who waits has to look again at what it waits for anyway, so all that wait at a place
- * are woken. */
+/* Waits that a library makes by `syscall`: those of std::atomic, std::latch and std::barrier of C++20, and of Rust.
+ * The recorder keeps the waiters. A waiter has to look again at its place anyway, so all that wait at a place are
+ * woken. Interposes syscall. Must not call `syscall`, which is this function here: raw_syscall is the kernel's. */
+#include "accesses.h"
+#include "atomics.h"
+#include "callers.h"
+#include "channels.h"
+#include "descriptors.h"
+#include "events.h"
+#include "processes.h"
+#include "turns.h"
+
+/* This file defines the function that recorder.h replaces elsewhere. */
+#undef syscall
 
 static long wait_at(u32 *at, u32 value, u64 pc) {
     maybe_give();
@@ -36,3 +47,5 @@ long syscall(long number, ...) {
     if (what == FUTEX_WAKE_OP) unpark((void *)e);
     return raw_syscall(number, a, b, c, d, e, f);
 }
+
+#define syscall raw_syscall

@@ -1,4 +1,14 @@
-/* The heap: where blocks begin and end, so that memory that is given out again is another variable. */
+/* The heap: where blocks begin and end, so that memory that is given out again is another variable. Interposes malloc,
+ * free and their kin, new and delete of C++, and mmap, munmap and mremap. Must not call malloc or free, here and in
+ * all other files: __libc_malloc and __libc_free are the library's. */
+#define OF_HEAP
+#include "heap.h"
+#include "accesses.h"
+#include "callers.h"
+#include "deadlocks.h"
+#include "events.h"
+#include "follow.h"
+#include "turns.h"
 
 #define PAGE (size_t) sysconf(_SC_PAGESIZE)
 

@@ -1,6 +1,12 @@
 /* Streams of C++ that are read: code of the library of C++ does it, which has no hooks. It moves the place of the next
- * letter to read in the stream's buffer, and fills what the program reads into. The standard streams have no buffer of
- * their own, and there only what is filled is told. By the linker's --wrap. */
+ * letter to read in the stream's buffer, and fills the program's memory. The standard streams have no buffer, and only
+ * the filling is recorded there. Interposes operator>>, get, getline, read and their kin by the linker's --wrap. Must
+ * not call them inside the recorder, as in ostreams.c. */
+#include "accesses.h"
+#include "callers.h"
+#include "follow.h"
+#include "ostreams.h"
+#include "texts.h"
 
 /* Where the classes of the library have how many letters a stream read last, and the places of the next letter to read
  * and of the end of what can be read. */

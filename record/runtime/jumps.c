@@ -1,4 +1,8 @@
-/* Calls that are left by longjmp, of which the hooks see no end. */
+/* Calls that are left by longjmp, of which the hooks see no end. Interposes longjmp, _longjmp and siglongjmp. Must not
+ * put a record once the calls are left: it would have the stack that is jumped to. */
+#include "callers.h"
+#include "events.h"
+#include "frames.h"
 #include <setjmp.h>
 
 #if defined __x86_64__
@@ -17,17 +21,20 @@ static u64 stack_after(const struct __jmp_buf_tag *to) {
 #endif
 
 /* Calls whose frames lie below the stack after the jump are over. A jump from one stack to another leaves none. */
-static void leave_calls(const struct __jmp_buf_tag *to) {
+static void leave_calls(const struct __jmp_buf_tag *to, u64 pc) {
     u64 after = stack_after(to), here = (u64)__builtin_frame_address(0);
     if (IDLE || !calls || here - stack_start >= stack_size || after - stack_start >= stack_size) return;
-    while (depth && (depth > CALLS || calls[depth - 1].stack + 2 * sizeof(u64) < after)) depth--;
+    while (depth && (depth > CALLS || calls[depth - 1].stack + 2 * sizeof(u64) < after)) {
+        if (is_noted_end()) note_end(pc);
+        depth--;
+    }
     if (depth <= library_call.depth) library_call.pc = 0;
 }
 
 #define JUMPS(name) \
-    __attribute__((noreturn)) void name(struct __jmp_buf_tag *to, int value) { \
+    __attribute__((noreturn)) void name(struct __jmp_buf_tag to[1], int value) { \
         REAL(name, void, struct __jmp_buf_tag *, int); \
-        leave_calls(to); \
+        leave_calls(to, PC); \
         real(to, value); \
         __builtin_unreachable(); \
     }

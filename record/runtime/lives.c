@@ -1,5 +1,10 @@
-/* The life of locks, condition variables, semaphores and barriers: who makes or destroys one writes its bytes. The
- * decoder takes each use of it for a read. What the C library ends when the program exits has no line of the program. */
+/* The life of locks, condition variables, semaphores and barriers: a call that makes or destroys one writes its bytes.
+ * The decoder takes each use of it for a read. What the C library ends when the program exits has no line of the
+ * program. Interposes the *_init and *_destroy calls. Must not record a call that code without hooks made: libraries
+ * make locks too. */
+#include "accesses.h"
+#include "callers.h"
+#include "events.h"
 
 static void lives(const void *it, size_t size, u64 pc) {
     if (!IDLE && is_hooked(pc)) accessed(WRITE, it, size, pc);

@@ -1,5 +1,12 @@
 /* Libraries that are opened as the program runs. One thread opens them at a time, as the C library has it, and the
- * others wait in the recorder. Who gets a library that is open already comes after its constructors. */
+ * others wait in the recorder. A thread that gets a library which is open already comes after its constructors.
+ * Interposes dlopen. Must not hold the turns' lock in the call, since constructors have hooks. */
+#include "accesses.h"
+#include "callers.h"
+#include "descriptors.h"
+#include "events.h"
+#include "meetings.h"
+#include "turns.h"
 
 static const char loader;
 

@@ -1,25 +1,23 @@
-/* Mutexes and spin locks. An acquire is recorded after it was had, a release before it is done, so the trace never has
- * a lock held twice. A thread tries, and waits for who holds the lock. */
+/* Mutexes and spin locks. Records an acquire after the lock is taken and a release before it is dropped, so the trace
+ * never has a lock held twice. A thread tries, and waits for the holder of the lock. Interposes pthread_mutex_* and
+ * pthread_spin_* that take and release, flockfile and its kin. Must not call a lock function that waits: the thread
+ * has the token, and the holder could never release. */
+#define OF_LOCKS
+#include "locks.h"
+#include "accesses.h"
+#include "callers.h"
+#include "deadlocks.h"
+#include "events.h"
+#include "follow.h"
+#include "plan.h"
+#include "turns.h"
+#include "words.h"
 
 static int is_past(const struct timespec *t, clockid_t clock) {
     struct timespec now;
     syscall(SYS_clock_gettime, clock, &now);
     return now.tv_sec > t->tv_sec || (now.tv_sec == t->tv_sec && now.tv_nsec >= t->tv_nsec);
 }
-
-/* A call that tries, again and again while it is answered `busy`, for as long as `until` says; `parks` is the call that
- * waits in between. */
-#define TRIES(busy, call, parks, until, clock) \
-    ({ \
-        int answer_, late_ = 0; \
-        while ((answer_ = (call)) == (busy) && !late_) { \
-            late_ = (parks); \
-            if (!late_ && (until) && is_past((until), (clock))) late_ = 1; \
-        } \
-        answer_ == (busy) ? ETIMEDOUT : answer_; \
-    })
-#define TRIES_LOCK(call, reads, at, until, clock, pc) \
-    TRIES(EBUSY, (call), park_for_lock((reads), (at), (until), (clock), (pc)), (until), (clock))
 
 /* The `order` of a lock's record, with BY_TRY as `how` if the call waits for nobody or not for ever. */
 static u8 order_of_lock(int how) { return (u8)(how | (by_library ? BY_LIBRARY : BY_PROGRAM)); }

@@ -1,5 +1,15 @@
-/* Semaphores, barriers, what is done once, statics of C++. Each waits in the recorder, so that the order of those that
- * go on is drawn. */
+/* Semaphores, barriers, what is done once, statics of C++. Each waits in the recorder, so that the order in which
+ * threads go on is drawn. Interposes sem_*, pthread_barrier_wait, pthread_once, __cxa_guard_*, __tsan_acquire and
+ * __tsan_release. Must not call the library's calls that wait: a thread that waits there keeps the token. */
+#define OF_MEETINGS
+#include "meetings.h"
+#include "accesses.h"
+#include "atomics.h"
+#include "callers.h"
+#include "conditions.h"
+#include "events.h"
+#include "locks.h"
+#include "turns.h"
 
 /* Comes after all earlier passes of this object, and before all later ones. */
 static void pass(const volatile void *at, u64 pc) {
@@ -81,13 +91,6 @@ int sem_clockwait(sem_t *s, clockid_t c, const struct timespec *t) {
     return IDLE ? real(s, c, t) : wait_semaphore(s, t, c, PC);
 }
 
-/* What threads of this process meet at: a barrier, or what is made once. */
-struct meeting {
-    const void *at;
-    /* `round` counts the meetings at a barrier, or how often what is done once failed. */
-    u32 inside, round, who;
-    struct meeting *next;
-};
 #define MEETING_HEADS 256
 static struct meeting *meetings[MEETING_HEADS];
 

@@ -1,5 +1,15 @@
-/* Queues of messages of POSIX and of System V, semaphores of System V, and timers that call a function: who receives,
- * waits or is called comes after who sent, posted or set. */
+/* Queues of messages of POSIX and of System V, semaphores of System V, and timers that call a function: the receiver,
+ * the waiter or the called function comes after the call that sent, posted or set. Interposes mq_send, msgsnd, semop,
+ * timer_create and their kin. Must not wait in the call with the token. */
+#include "accesses.h"
+#include "atomics.h"
+#include "callers.h"
+#include "descriptors.h"
+#include "events.h"
+#include "meetings.h"
+#include "openmp.h"
+#include "threads.h"
+#include "turns.h"
 #include <mqueue.h>
 #include <sys/msg.h>
 #include <sys/sem.h>

@@ -1,4 +1,10 @@
-/* Numbers of texts: how far a conversion goes over the text, and where it says that it ended. */
+/* Numbers of texts: how far a conversion goes over the text, and where it ends. Interposes, by the linker's --wrap,
+ * strtol, strtod, atoi, the scanf family and their kin. Must not call them by their plain names, as in texts.c. */
+#include "accesses.h"
+#include "callers.h"
+#include "readers.h"
+#include "streams.h"
+#include "texts.h"
 
 /* How many bytes of a text are looked at: those of the number and one behind it, or what is skipped and one. */
 static size_t looked_at(const char *s, const char *end) {

@@ -1,43 +1,29 @@
-/* OpenMP of GCC (libgomp): a team meets where its region begins and ends, and at its barriers; critical sections are
- * locks. The threads of the team have the token only while they are in code of the program. */
+/* OpenMP of GCC (libgomp): a team meets at the begin and the end of its region, and at its barriers; critical sections
+ * are locks. The threads of the team have the token only while they are in code of the program. Interposes
+ * GOMP_parallel, GOMP_loop_*, GOMP_barrier, GOMP_critical_*, omp_set_lock and their kin. Must not enter the library
+ * with the token: it waits there for the whole team. */
+#define OF_OPENMP
+#include "openmp.h"
+#include "accesses.h"
+#include "atomics.h"
+#include "callers.h"
+#include "deadlocks.h"
+#include "events.h"
+#include "follow.h"
+#include "locks.h"
+#include "meetings.h"
+#include "ordered.h"
+#include "threads.h"
+#include "turns.h"
 
-/* Who comes back from the library waits for the others of the team: one that has the token brings all in line, in the
- * order of their numbers, so that nothing hangs on whom the system wakes first. */
-struct comer {
-    u32 thread;
-    struct comer *next;
-};
-
-struct region {
-    /* The library looks here for what the tasks of a region sum up, as in the program's own data. */
-    void *sums;
-    void (*body)(void *);
-    void *data;
-    u64 team, pc;
-    u32 master, size, in;
-    /* The last meeting for which a thread makes what it will give to all. */
-    u64 made;
-    /* Its loops whose iterations wait for others: ordered.c. */
-    struct doacross *loops;
-    volatile u32 back;
-    struct comer *comers;
-    /* In a team with tasks the library runs these while it waits: how many no thread has begun, and how many threads wait
-     * without one. */
-    volatile u8 has_tasks;
-    volatile u32 ready, idle;
-    /* A team that began while a plan was followed: the library alone lets it go on, in any order. */
-    u8 is_planned;
-};
 static u32 teams;
 /* The team of this thread, the how many-th meeting of the team its next one is, and the meeting of its work that is
  * shared out. */
 static __thread struct region *my_region;
 static __thread u64 my_team, my_round, my_share;
 static __thread struct doacross *my_loop;
-static void end_loops(struct region *r);
 static __thread u8 has_stack;
 #define FIRST_ROUND 1
-#define LAST_ROUND 0xffffffff
 
 static void meet_team(int kind, u64 team, u64 round, u64 pc) {
     if (team) meet(kind, OF_TEAM, team, round, pc);
@@ -262,17 +248,6 @@ static void take_share(u64 pc) {
     meet_team(ARRIVED, my_team, my_share, pc);
 }
 
-#define SHARES(type, name, begins, given, passed_on) \
-    type name given { \
-        static type(*real) given; \
-        if (!real) real = (type(*) given)next(#name, NULL); \
-        if (!IDLE) { \
-            if (begins) my_share = my_round++; \
-            take_share(PC); \
-        } \
-        return real passed_on; \
-    }
-typedef unsigned long long ull;
 /* clang-format off */
 #define LOOP_SHARES(kind) \
     SHARES(_Bool, GOMP_loop_##kind##_start, 1, (long a, long b, long by, long n, long *from, long *to), \

@@ -1,4 +1,15 @@
-/* Loops of OpenMP whose iterations have an order. */
+/* Loops of OpenMP whose iterations have an order. Interposes GOMP_ordered_*, GOMP_loop_ordered_* and GOMP_doacross_*.
+ * Must not enter the library with the token, as in openmp.c. */
+#define OF_ORDERED
+#include "ordered.h"
+#include "accesses.h"
+#include "atomics.h"
+#include "callers.h"
+#include "events.h"
+#include "meetings.h"
+#include "openmp.h"
+#include "plan.h"
+#include "turns.h"
 
 /* ---- parts that come in the order of their turns ---- */
 
@@ -55,18 +66,7 @@ SHARES(_Bool, GOMP_loop_ull_ordered_runtime_start, 1, (_Bool up, ull a, ull b, u
  * comes there at its source, and those that have it as a sink go on from it. They wait in the recorder, since the library
  * spins ---- */
 
-/* The most loops in one another of one such loop, and the most iterations, of which a bit each says that they came. */
-#define MOST_DIMENSIONS 16
 #define MOST_ITERATIONS (1ull << 33)
-
-/* `share` is the meeting of the team that shares the loop out, and `number` stands for the loop in a trace. */
-struct doacross {
-    u64 share, number;
-    u32 dimensions;
-    u64 size[MOST_DIMENSIONS];
-    u8 *came;
-    struct doacross *next;
-};
 
 static struct doacross *new_doacross(u32 dimensions, const u64 *sizes) {
     struct doacross *d = __libc_calloc(1, sizeof *d);

@@ -1,12 +1,14 @@
-/* Streams of C++ that are written to: code of the library of C++ does it, which has no hooks. It moves the place of the
- * next letter in the stream's buffer. The standard streams have no buffer of their own, and there nothing is told. By
- * the linker's --wrap. */
+/* Streams of C++ that are written to: code of the library of C++ does it, which has no hooks. It moves the place of
+ * the next letter in the stream's buffer. The standard streams have no buffer, and nothing is recorded there.
+ * Interposes operator<<, put, write, flush and their kin by the linker's --wrap. Must not call them inside the
+ * recorder: each is there only if the program calls it. */
+#define OF_OSTREAMS
+#include "ostreams.h"
+#include "accesses.h"
+#include "callers.h"
+#include "texts.h"
 
-/* Where the classes of the library have the state and the buffer of a stream, and the place of the next letter in a
- * buffer. */
-#define STATE_IN_STREAM 32
 #define BUFFER_IN_STREAM 232
-#define NEXT_IN_BUFFER 40
 
 /* The part that all streams share lies where the table of the stream's class says. */
 static char *shared_of_stream(void *stream) { return (char *)stream + (*(long **)stream)[-3]; }

@@ -1,5 +1,12 @@
-/* More calls of the C library that fill memory of the program, or that share memory of the library. Not by --wrap: some
- * of their names make the linker warn. */
+/* More calls of the C library that fill memory of the program, or that share memory of the library. Interposes
+ * strptime, inet_aton, tmpnam, drand48, ecvt_r and their kin; not by --wrap, since some of their names make the linker
+ * warn. Must not call them by their plain names, as in texts.c. */
+#include "accesses.h"
+#include "callers.h"
+#include "events.h"
+#include "fills.h"
+#include "signals.h"
+#include "texts.h"
 
 #define FILLS_LATE(type, name, given, passed_on, before, at, size) \
     type name given { \
@@ -15,8 +22,8 @@ FILLS_LATE(char *, strptime, (const char *s, const char *f, struct tm *to), (s, 
            (READS(s, TEXT_AT(s)), READS(f, TEXT_AT(f))), to, answer ? sizeof *to : 0)
 FILLS_LATE(int, inet_aton, (const char *s, struct in_addr *to), (s, to), READS(s, TEXT_AT(s)), to,
            answer &&to ? sizeof *to : 0)
-FILLS_LATE(char *, tmpnam, (char *to), (to), , answer, answer ? L_tmpnam : 0)
-FILLS_LATE(char *, tmpnam_r, (char *to), (to), , answer, answer ? L_tmpnam : 0)
+FILLS_LATE(char *, tmpnam, (char to[L_tmpnam]), (to), , answer, answer ? L_tmpnam : 0)
+FILLS_LATE(char *, tmpnam_r, (char to[L_tmpnam]), (to), , answer, answer ? L_tmpnam : 0)
 FILLS_LATE(void *, memfrob, (void *to, size_t n), (to, n), READS(to, n), to, n)
 FILLS_LATE(int, fstatat, (int d, const char *p, struct stat *to, int how), (d, p, to, how), READS(p, TEXT_AT(p)), to,
            answer ? 0 : sizeof *to)

@@ -1,4 +1,12 @@
-/* Patterns of texts, and names of hosts and of users. */
+/* Patterns of texts, and names of hosts and of users. Interposes regcomp, regexec, regfree, getpwnam, gethostbyname
+ * and, by the linker's --wrap, getaddrinfo. Must not record a call of another library's function of the same name,
+ * whose pattern has another size. */
+#include "accesses.h"
+#include "callers.h"
+#include "clocks.h"
+#include "events.h"
+#include "fills.h"
+#include "texts.h"
 #include <netdb.h>
 #include <pwd.h>
 #include <regex.h>
@@ -20,7 +28,7 @@ int regcomp(regex_t *to, const char *pattern, int how) {
 }
 
 /* With REG_STARTEND the first match says where the text begins and ends. */
-int regexec(const regex_t *compiled, const char *s, size_t n, regmatch_t *to, int how) {
+int regexec(const regex_t *compiled, const char *s, size_t n, regmatch_t to[n], int how) {
     REAL(regexec, int, const regex_t *, const char *, size_t, regmatch_t *, int);
     if (!IS_SEEN) return real(compiled, s, n, to, how);
     READS(compiled, sizeof *compiled);

@@ -1,61 +1,15 @@
 /* A plan: the order in which a schedule brings the threads. record/follow makes it, of a witness and of the clock of
  * the recording. The clock of a thread is the number of hooks that it came to (tick), and in between the number of
- * blocks that it gave back (sub). No name and no address is compared, only places of code. */
+ * blocks that it gave back (sub). No name and no address is compared, only places of code. Interposes nothing. It runs
+ * at hooks, so it must not call functions of the C library that the recorder takes, such as strcmp. */
+#define OF_PLAN
+#include "plan.h"
+#include "follow.h"
 
-enum { EVENT, STAND, LAST }; /* types of steps */
-enum { NOT_FOLLOWING, FOLLOWING, STANDS, DEPARTED, DONE };
-enum { OTHER_CODE = 1, MISSED, WOULD_WAIT, HANGS, ENDED, OTHER_OUTCOME, OTHER_WORLD };
-
-/* A step of the plan: the thread and its clock, the event, the thread's next step, and which steps of others have to
- * be done before. */
-struct step {
-    u32 thread, type;
-    u64 pos, event, next, needs, needs_count, done, unused;
-};
-/* Where the ticks of a thread are, and how many. */
-struct known {
-    u64 first, count;
-};
 struct fork_of {
     u64 parent, pos, child;
 };
-/* A tick of the recording: pc << 16, 128 where an event of the trace is of it, and the kind; then what the record
- * says. */
-struct tick_entry {
-    u64 code, at, answer;
-};
-/* clang-format off */
-#define KIND_OF(code) ((int)((code) & 127))
-#define IS_EVENT(code) ((code) & 128)
-/* clang-format on */
-#define PLACE_OF(code) ((code) >> 16)
 
-struct frame {
-    u64 body, site;
-};
-#define MOST_FRAMES 64
-#define MOST_TOLD 64
-/* A thread that stands before its access. */
-struct standing {
-    u64 thread, pos, at, size, kind, pc, kernel_id, value[2], value_there, after[2], after_there, frames;
-    struct frame frame[MOST_FRAMES];
-};
-/* An access of a block that was freed, or a second free: by which thread the block was freed, and where. */
-#define MOST_USES 16
-struct use {
-    u64 kind, thread, size, freed_by, pc, freed_at;
-};
-struct plan {
-    /* what record/follow says; the thread that did the last access goes on for so many accesses (`alone`) */
-    u64 magic, threads, steps, forks, ticks, frees, held_back, alone, patience_ms;
-    u64 threads_at, forks_at, steps_at, ticks_at, needs_at, first_at, modules_at, modules;
-    /* what comes back */
-    u64 state, step, why, thread, pos, kind, pc, expected, spurious, passed_ticks, last_pc, out_of_order, refused_tries,
-        uses;
-    struct standing standing[2];
-    u64 at_tick[MOST_TOLD];
-    struct use use[MOST_USES];
-};
 #define PLAN_MAGIC 0x3357464252524352ull
 
 static struct plan *plan;

@@ -1,6 +1,11 @@
 /* Child processes and other programs, which are not recorded: they are counted in the head, which all processes share.
- * Most calls come by the linker's --wrap. A child of vfork runs in the memory of its parent, and what is called here
- * between its begin and its exec must not wait, and must not allocate. */
+ * Interposes exec*, posix_spawn, popen and clone, mostly by the linker's --wrap, and system. A child of vfork runs in
+ * the memory of its parent: between its begin and its exec the code here must not wait or allocate. */
+#define OF_PROCESSES
+#include "processes.h"
+#include "atomics.h"
+#include "events.h"
+#include "turns.h"
 
 /* This is a child process, and has not become another program. */
 static u8 is_child;

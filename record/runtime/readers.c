@@ -1,4 +1,13 @@
-/* Reader-writer locks. Each reader holds a lock of its own, and a writer all of these. */
+/* Reader-writer locks. Each reader holds a lock of its own, and a writer holds all of them. Interposes
+ * pthread_rwlock_* that take and release. Must not call a lock function that waits, as in locks.c. */
+#define OF_READERS
+#include "readers.h"
+#include "accesses.h"
+#include "callers.h"
+#include "deadlocks.h"
+#include "events.h"
+#include "locks.h"
+#include "turns.h"
 
 #define MOST_READ_HOLDS 64
 static __thread struct {

@@ -1,5 +1,11 @@
-/* What the parts of the recorder share. They are compiled as one file, all.c, without the sanitizer's hooks, and linked
- * into the recorded program in place of the sanitizer's library. */
+/* What all files of the recorder share. all.c makes one file of them, which is compiled without the sanitizer's hooks and
+ * linked into the recorded program in place of the sanitizer's library. All that they share is static there, so that no
+ * name of theirs meets one of the program. X.h declares what X.c shares. Each file also compiles by itself, which
+ * tools/lint tries: what others define is extern then.
+ *
+ * Everywhere: memory comes from __libc_malloc, a system call goes by raw_syscall, and `inside` is set around a call of a
+ * library that may come back by a hook. */
+#pragma once
 #define _GNU_SOURCE
 #include <dlfcn.h>
 #include <errno.h>
@@ -42,19 +48,25 @@
 #include <unistd.h>
 
 #include "format.h"
+#include "reading.h"
 
 typedef unsigned __int128 u128;
+
+/* How a header declares what another file defines. */
+#ifdef ONE_FILE
+#define OTHERS static
+#else
+#define OTHERS extern
+#endif
 
 /* Threads beyond this number run, but free of the token and unrecorded. */
 #define MOST_THREADS 16384
 #define NOBODY 0xffffffffu
 #define NO_PLACE ULLONG_MAX
-#define PC in_program((u64)__builtin_return_address(0))
 /* A hook does nothing before the start, in a child process, and inside the recorder itself. */
 #define IDLE (!on || inside)
 
 static struct head *head;
-static struct record *records;
 static volatile int on;
 static u32 one_in = 40;
 /* Volatile: the C library calls back into the recorder, as into malloc, although its headers say that it does not. */
@@ -86,10 +98,6 @@ extern void __libc_free(void *);
 extern int __real_pthread_sigmask(int, const sigset_t *, sigset_t *), __real_sigemptyset(sigset_t *),
     __real_sigfillset(sigset_t *), __real_sigaddset(sigset_t *, int);
 
-/* callers.c: where the program called what led here. */
-static u64 caller_in_program(u64 pc), site_of_call(u64 site);
-static u64 main_start, main_size;
-static inline u64 in_program(u64 pc) { return pc - main_start < main_size || IDLE ? pc : caller_in_program(pc); }
 #if defined __x86_64__
 static inline long by_kernel(long number, long a, long b, long c, long d, long e, long f) {
     long answer;
@@ -125,71 +133,12 @@ static long raw_syscall(long number, ...) {
 }
 #define syscall raw_syscall
 
-/* turns.c: the token. */
-static void take(void);
-static void give(void);
-static void let_others(void);
-static int park(const volatile void *at, const struct timespec *until, clockid_t clock);
-static void unpark(const volatile void *at);
-/* deadlocks.c: parks for a lock, to write or to read. */
-enum { TO_WRITE, TO_READ };
-static int park_for_lock(int reads, const volatile void *at, const struct timespec *until, clockid_t clock, u64 pc);
-static void keep_turn(void);
-static void watch(void);
-/* events.c: the records. */
-static u64 put(int kind, u64 at, u64 size, u64 pc);
-static u64 put_of(int of, int kind, u64 at, u64 pc);
-static void take_back(u64 place);
-static void note_modules(void);
-static void *found(const char *name, const char *version);
-static void *next(const char *name, const char *version);
-/* frames.c: whose memory of a stack is. */
-static void note_stack(void);
-static void forget_stack(void);
-static void note_frame(const struct record *r);
-static void note_use_of_stack(void);
-/* accesses.c */
-static void maybe_give(void);
-/* channels.c, streams.c */
-static int at_once(int f, short what);
-static void sends(int f, u64 pc);
-static ssize_t sent(int f, ssize_t n);
-static void sends_stream(FILE *s, u64 pc);
-static void sent_stream(FILE *s);
-enum { NO_END = -1, NO_SPACE = -2 };
-static void awaits_stream(FILE *s, size_t bytes, int end);
-static void received_stream(FILE *s, u64 pc);
-/* threads.c */
-static u8 hold_cancel(void);
-static void let_cancel(u8 held);
-static void stranger(void);
-static void own_stack(void);
-/* follow.c: where a plan is followed. */
-static volatile int following;
-static void about_to(int kind, u64 at, u64 size, u64 pc);
-static void arrive(u64 pos);
-static void passed_hook(u64 pos, int kind, u64 pc);
-static u32 choose(void);
-static int may_take(void);
-static int waits_in_plan(void);
-static void last_access_done(void);
-static void count_record(void);
+/* Headers say of some pointers that they are never NULL, and the compiler drops a test of them. It keeps this one. */
+static inline int is_there(const volatile void *p) {
+    __asm__("" : "+r"(p));
+    return p != NULL;
+}
 
 #define CLOCK(tick, sub) ((tick) << 16 | (sub))
-#define REAL(name, type, ...) \
-    static type (*real)(__VA_ARGS__); \
-    if (!real) real = (type(*)(__VA_ARGS__))next(#name, NULL)
-#define REAL_OF(name, version, type, ...) \
-    static type (*real)(__VA_ARGS__); \
-    if (!real) real = (type(*)(__VA_ARGS__))next(#name, version)
 /* A function that not every program is linked with. */
 #define WEAKLY extern __attribute__((weak))
-/* A call that waits in the C library, without the token. */
-#define OUTSIDE(call) \
-    ({ \
-        int idle_ = IDLE; \
-        if (!idle_) give(); \
-        __typeof__(call) answer_ = (call); \
-        if (!idle_) take(); \
-        answer_; \
-    })

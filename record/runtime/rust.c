@@ -1,5 +1,16 @@
-/* The locks and condition variables of Rust's standard library. record/rustlang/library.py puts calls of these functions
- * at the start of the library's own. If nothing is recorded they do nothing, and the library's function goes on. */
+/* The locks and condition variables of Rust's standard library. record/rustlang/library.py puts calls of these
+ * functions at the start of the library's own. If nothing is recorded they do nothing, and the library's function goes
+ * on. Interposes nothing of C. Must not wait in a lock of the library, as in locks.c. */
+#include "accesses.h"
+#include "atomics.h"
+#include "callers.h"
+#include "conditions.h"
+#include "deadlocks.h"
+#include "follow.h"
+#include "locks.h"
+#include "plan.h"
+#include "readers.h"
+#include "turns.h"
 
 enum { NOT_RECORDED = -1, REFUSED, TAKEN };
 

@@ -1,5 +1,10 @@
-/* More functions of the C library that go over texts: those that cut them, and those that look for letters of a set. By
- * the linker's --wrap, as in texts.c. */
+/* More functions of the C library that go over texts: those that cut them, and those that look for letters of a set.
+ * Interposes, by the linker's --wrap, strspn, strtok, strsep, memmem, asprintf and their kin. Must not call them by
+ * their plain names, as in texts.c. */
+#include "accesses.h"
+#include "callers.h"
+#include "descriptors.h"
+#include "texts.h"
 
 extern size_t __real_strspn(const char *, const char *), __real_strcspn(const char *, const char *);
 extern char *__real_strpbrk(const char *, const char *), *__real_strcasestr(const char *, const char *);

@@ -2,7 +2,16 @@
  * it back at its end: else the thread would wait on with the token. One that comes while its thread waits in the
  * recorder gets the turn first, and the thread goes on in it. Signals that are pending at its end come at once, and
  * their handlers run in the same turn. A signal that comes while its thread works on turns is put off until it waits
- * or is done. */
+ * or is done. Interposes sigaction, signal, the calls that change a mask and those on sets. What runs in a handler
+ * must not allocate, and must not wait for the turns' lock. */
+#include "signals.h"
+#include "accesses.h"
+#include "callers.h"
+#include "channels.h"
+#include "deadlocks.h"
+#include "events.h"
+#include "follow.h"
+#include "turns.h"
 
 static struct sigaction handlers[NSIG];
 
@@ -112,8 +121,6 @@ sighandler_t signal(int number, sighandler_t handler) {
 }
 
 /* ---- sets of signals: the C library keeps them in a word ---- */
-
-enum { SIGNAL_WORD = 8 };
 
 #define CHANGES_MASK(name) \
     extern int __real_##name(int, const sigset_t *, sigset_t *); \

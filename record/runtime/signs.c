@@ -1,4 +1,13 @@
-/* Signals that a thread sends to this process, and that another waits for: as a message. */
+/* Signals that a thread sends to this process, and that another waits for: as a message. Interposes kill, sigqueue,
+ * pthread_kill and pthread_sigqueue. Must not put a record after the call: the handler may have run already. */
+#define OF_SIGNS
+#include "signs.h"
+#include "accesses.h"
+#include "callers.h"
+#include "descriptors.h"
+#include "events.h"
+#include "readers.h"
+#include "turns.h"
 
 static void sends_signal(int number, u64 pc) {
     if (IDLE || number <= 0) return;

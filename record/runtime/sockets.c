@@ -1,5 +1,15 @@
-/* Connections between sockets of this process, by address or by path: a channel for each way, and one more that connect() passes before
- * accept(). Both ends know the two addresses, the connecting end as its own and the other's. */
+/* Connections between sockets of this process, by address or by path: a channel for each way, and one more that
+ * connect() passes before accept(). Both ends know the two addresses, the connecting end as its own and the other's.
+ * Interposes listen and connect; world.c has accept. Must not call malloc: __libc_malloc keeps the table. */
+#define OF_SOCKETS
+#include "sockets.h"
+#include "accesses.h"
+#include "atomics.h"
+#include "callers.h"
+#include "descriptors.h"
+#include "events.h"
+#include "plan.h"
+#include "turns.h"
 
 #define MOST_ADDRESS 32
 /* The byte of an address that says that it is a path, whose letters are mixed into the first ones. */

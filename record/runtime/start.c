@@ -1,4 +1,17 @@
-/* The start of the recording. */
+/* The start of the recording, and its end. Interposes __tsan_init, which each compiled part with hooks calls. Must not
+ * take the token before `on` is set, and must not wait: main has not begun. */
+#include "accesses.h"
+#include "atomics.h"
+#include "attributes.h"
+#include "callers.h"
+#include "deadlocks.h"
+#include "descriptors.h"
+#include "events.h"
+#include "plan.h"
+#include "processes.h"
+#include "threads.h"
+#include "turns.h"
+#include "words.h"
 
 /* The compiled parts of the program that have hooks, before the head is there. */
 static u64 early_units;
@@ -20,8 +33,8 @@ static u64 lay_out(struct head *h, u64 room) {
     h->room = room;
     h->stack_room = room / 4 < 4096 ? 4096 : room / 4 > 1 << 24 ? 1 << 24 : room / 4;
     h->stacks_at = sizeof *h;
-    h->records_at = (h->stacks_at + h->stack_room * sizeof(struct node) + 4095) / 4096 * 4096;
-    return h->records_at + room * sizeof(struct record);
+    h->words_at = (h->stacks_at + h->stack_room * sizeof(struct node) + 4095) / 4096 * 4096;
+    return h->words_at + (room * LONG_WORDS + PIECE) / PIECE * PIECE * sizeof *words;
 }
 
 /* Makes room for the table of nodes and the first of each part; whether there is any. */
@@ -31,7 +44,7 @@ static int has_first_room(void) {
                       MAP_PRIVATE | MAP_ANONYMOUS | MAP_NORESERVE, -1, 0);
     if (node_table == MAP_FAILED || !more_nodes()) return 0;
     head->stacks = 1;
-    return more_records(0);
+    return more_words(0);
 }
 
 /* Maps as much room as the limits of the process allow: the address space and the size of a file may have one. */
@@ -51,8 +64,15 @@ static void *map_room(struct head *wanted, u64 room) {
     }
 }
 
+/* Counts this program, which is not recorded, unless the recorded process became it or started it: that is counted. */
+static void note_other_program(void) {
+    u64 recorded = __atomic_load_n(&head->process, SC);
+    if (recorded == (u64)getpid() || recorded == (u64)getppid()) return;
+    __atomic_fetch_add(&head->programs, 1, SC);
+}
+
 /* Maps the file that record/run made. The first process that comes to it has it; its children, and other programs that
- * it starts, find it taken and are not recorded. */
+ * are started, find it taken and are not recorded. */
 static int map_file(const char *name) {
     struct head wanted = {0};
     raw_file = name && *name ? (int)syscall(SYS_openat, AT_FDCWD, name, O_RDWR | O_CLOEXEC) : -1;
@@ -61,9 +81,13 @@ static int map_file(const char *name) {
     void *p = map_room(&wanted, option("RACEBENCH_RECORD_ROOM", 1 << 20));
     if (p == MAP_FAILED || !has_room(0, sizeof *head)) return 0;
     head = p;
-    if (!__atomic_compare_exchange_n(&head->magic, &nothing, MAGIC, 0, SC, SC)) return 0;
+    if (!__atomic_compare_exchange_n(&head->magic, &nothing, MAGIC, 0, SC, SC)) {
+        note_other_program();
+        return 0;
+    }
+    __atomic_store_n(&head->process, (u64)getpid(), SC);
     lay_out(head, wanted.room);
-    records = (struct record *)((char *)p + head->records_at);
+    words = (u64 *)((char *)p + head->words_at);
     all_nodes = (struct node *)((char *)p + head->stacks_at);
     head->units = early_units;
     return has_first_room();

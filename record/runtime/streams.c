@@ -1,5 +1,15 @@
-/* Streams of the C library whose descriptor is a channel, such as one that fdopen made of a pipe: a call that may write the
- * stream's buffer out sends, and a call that may read it receives. */
+/* Streams of the C library whose descriptor is a channel, such as one that fdopen made of a pipe: a call that may
+ * write the stream's buffer out sends, and a call that may read it receives. Interposes fputc, fgetc, getline, fdopen,
+ * fflush, fclose and their kin. Must not print: a stream of the program would be written. */
+#define OF_STREAMS
+#include "streams.h"
+#include "accesses.h"
+#include "callers.h"
+#include "channels.h"
+#include "descriptors.h"
+#include "events.h"
+#include "texts.h"
+#include "turns.h"
 
 /* The descriptor of a stream. One of memory has none, but anything in its place. */
 static int descriptor_of(FILE *s) {
@@ -44,15 +54,6 @@ static void received_stream(FILE *s, u64 pc) {
     unpark(key_of(channel));
 }
 
-#define WRITES_STREAM(name, s, given, passed_on) \
-    int name given { \
-        static int(*real) given; \
-        if (!real) real = (int(*) given)next(#name, NULL); \
-        sends_stream(s, PC); \
-        int answer = real passed_on; \
-        sent_stream(s); \
-        return answer; \
-    }
 WRITES_STREAM(fputc, to, (int c, FILE *to), (c, to))
 WRITES_STREAM(putc, to, (int c, FILE *to), (c, to))
 WRITES_STREAM(putchar, stdout, (int c), (c))
@@ -133,15 +134,6 @@ int fflush(FILE *to) {
     return answer;
 }
 
-#define READS_STREAM(type, name, s, given, passed_on) \
-    type name given { \
-        static type(*real) given; \
-        if (!real) real = (type(*) given)next(#name, NULL); \
-        awaits_stream(s, 1, NO_END); \
-        type answer = real passed_on; \
-        received_stream(s, PC); \
-        return answer; \
-    }
 READS_STREAM(int, fgetc, from, (FILE * from), (from))
 READS_STREAM(int, getc, from, (FILE * from), (from))
 READS_STREAM(int, getchar, stdin, (void), ())

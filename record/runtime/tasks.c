@@ -1,5 +1,18 @@
 /* Tasks of OpenMP (libgomp). A task comes after its maker made it. Its end comes before its maker's next taskwait is
- * over, before the end of its task group, and before the end of the next barrier of its team. */
+ * over, before the end of its task group, and before the end of the next barrier of its team. Interposes GOMP_task,
+ * GOMP_taskloop, GOMP_taskwait, GOMP_taskgroup_*, GOMP_single_copy_* and omp_fulfill_event. Must not enter the library
+ * with the token, as in openmp.c. */
+#include "accesses.h"
+#include "atomics.h"
+#include "callers.h"
+#include "deadlocks.h"
+#include "events.h"
+#include "follow.h"
+#include "heap.h"
+#include "meetings.h"
+#include "openmp.h"
+#include "threads.h"
+#include "turns.h"
 
 #define DEPENDS 8
 #define UPWARDS 256

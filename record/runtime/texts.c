@@ -1,19 +1,22 @@
-/* Functions of the C library that go over memory of the program: texts, what is printed, what is sorted. What they read
- * and write is told before it is done, by the linker's --wrap. */
+/* Functions of the C library that go over memory of the program: texts, what is printed, what is sorted. The records
+ * of what they read and write come before the call. Interposes, by the linker's --wrap, strlen, strcmp and their kin,
+ * qsort, bsearch, and the printf family. Must not call these by their plain names: the recorder's own calls would be
+ * recorded. */
+#define OF_TEXTS
+#include "texts.h"
+#include "accesses.h"
+#include "callers.h"
+#include "channels.h"
+#include "descriptors.h"
+#include "heap.h"
+#include "streams.h"
 
-extern size_t __real_strlen(const char *), __real_strnlen(const char *, size_t);
 extern int __real_strcmp(const char *, const char *), __real_strncmp(const char *, const char *, size_t);
 extern int __real_strcasecmp(const char *, const char *), __real_strncasecmp(const char *, const char *, size_t);
-extern int __real_memcmp(const void *, const void *, size_t);
-extern void *__real_memchr(const void *, int, size_t);
-extern char *__real_strchr(const char *, int), *__real_strrchr(const char *, int);
 extern char *__real_strstr(const char *, const char *);
 extern char *__real_strcpy(char *, const char *), *__real_stpcpy(char *, const char *);
 extern char *__real_strncpy(char *, const char *, size_t), *__real_strcat(char *, const char *);
 extern char *__real_strncat(char *, const char *, size_t);
-
-#define READS(at, n) (IDLE ? (void)0 : access_(READ, (at), (n), PC))
-#define WRITES(at, n) (IDLE ? (void)0 : access_(WRITE, (at), (n), PC))
 
 static int lower(int c) { return c >= 'A' && c <= 'Z' ? c + 32 : c; }
 

@@ -1,4 +1,21 @@
-/* Threads. */
+/* Threads: their numbers, their begin and their end. Interposes pthread_create, the joins, pthread_detach,
+ * pthread_cancel and pthread_setcanceltype. Must not put a record after end_of_thread, which gives the token away for
+ * good. */
+#define OF_THREADS
+#include "threads.h"
+#include "accesses.h"
+#include "atomics.h"
+#include "attributes.h"
+#include "callers.h"
+#include "events.h"
+#include "follow.h"
+#include "frames.h"
+#include "openmp.h"
+#include "plan.h"
+#include "turns.h"
+#include "watcher.h"
+#include "words.h"
+#include "world.h"
 
 struct child {
     void *(*body)(void *);

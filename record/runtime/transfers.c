@@ -1,4 +1,11 @@
-/* Calls that move bytes from one descriptor to another, or go over many messages. */
+/* Calls that move bytes from one descriptor to another, or go over many messages. Interposes splice, tee, sendfile,
+ * vmsplice, preadv, pwritev, sendmmsg and recvmmsg. Must not wait in the call with the token, as in channels.c. */
+#include "accesses.h"
+#include "callers.h"
+#include "channels.h"
+#include "descriptors.h"
+#include "events.h"
+#include "turns.h"
 #include <sys/sendfile.h>
 
 /* Before a call that takes bytes from one channel and sends them through another: whether it is made in the turn, so

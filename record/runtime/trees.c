@@ -1,6 +1,9 @@
-/* The balanced tree below std::map and std::set. The library of C++ links, turns and walks it in code without hooks, so
- * the recorder does this instead, step by step as the library does it. A turn of the tree is done in one turn of its
- * thread: no other thread sees half of it. Programs of C have no such library. */
+/* The balanced tree below std::map and std::set. The library of C++ links, turns and walks it in code without hooks,
+ * so the recorder does this instead, step by step as the library does it. Programs of C have no such library.
+ * Interposes the _Rb_tree functions by the linker's --wrap. Must not give the token during a turn of the tree: no
+ * other thread may see half of it. */
+#include "accesses.h"
+#include "callers.h"
 
 enum { RED, BLACK };
 /* `side[0]` is the left one. The head is the parent of the root, and has the first and the last node at its sides. */

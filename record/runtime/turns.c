@@ -1,5 +1,11 @@
 /* The token: a thread of the program runs only while it has it. A hook comes before its access, so with two threads
- * running the order of the records could be another than that of the accesses. */
+ * running the records could have another order than the accesses. Interposes nothing. With the turns' lock held it
+ * must not put a record, allocate or call the C library: a hook would wait for the same lock. */
+#define OF_TURNS
+#include "turns.h"
+#include "channels.h"
+#include "follow.h"
+#include "threads.h"
 
 static volatile u32 holder = NOBODY;
 static volatile u64 progress;
@@ -23,11 +29,6 @@ static u64 left_of_turn = 1;
 static volatile u8 short_wait;
 /* Parked threads look whether what they wait for came from outside: nothing is drawn meanwhile. */
 static u8 rescuing;
-
-/* What `inside` has while a thread passes the turn on or waits for it, and while it has the turns' lock. A signal that
- * comes meanwhile is handled when the thread waits or is done: signals.c. */
-#define IN_TURNS 2
-#define HAS_LOCK 4
 
 /* Signals of this thread that came in the midst of its work on turns; it blocks them until they may come. */
 static __thread u64 put_off;
@@ -54,12 +55,6 @@ static void unlock_turns(void) {
     __atomic_store_n(&turns_lock, 0, __ATOMIC_RELEASE);
     leave_turns(inside & (u8)~HAS_LOCK);
 }
-
-/* What a thread has again after its work on turns. */
-struct before {
-    int error;
-    u8 inside, holds_cancel;
-};
 
 static struct before enter_turns(void) {
     struct before b = {errno, inside, 0};
@@ -293,9 +288,6 @@ static void unpark(const volatile void *at) {
     let_cancel(held);
 }
 
-/* For so many looks of the watcher parked threads look again: a handler that came while its thread was in the recorder
- * may have posted what they wait for, or the kernel let go of a mutex. */
-#define LOOKS_AGAIN 3
 static volatile u32 looks_again;
 
 /* The turns' lock is held. */
@@ -306,7 +298,7 @@ static void bring_parked_in_line(void) {
     }
 }
 
-static void keep_turn(void) {
+static inline void keep_turn(void) {
     if (me == NOBODY || holder != me) take();
 }
 
@@ -331,10 +323,6 @@ static u64 ran_ms(u32 thread) {
     syscall(SYS_clock_gettime, ~(clockid_t)kernel_ids[thread] << 3 | 6, &t);
     return (u64)t.tv_sec * 1000 + (u64)t.tv_nsec / 1000000;
 }
-
-/* Where nothing happened for so many looks of 20 ms, and threads are parked, these look again: what they wait for
- * may have come from a library or from another process. */
-#define LOOKS_BEFORE_RESCUE 5
 
 static void rescue(void) {
     rescuing = 1;

@@ -1,4 +1,11 @@
-/* Calls of streams that take no lock, and those that the headers put in their place. */
+/* Calls of streams that take no lock, and those that the headers put there instead. Interposes fputc_unlocked,
+ * fgetc_unlocked, __overflow, __uflow, setvbuf and their kin. Must not print, as in streams.c. */
+#include "accesses.h"
+#include "callers.h"
+#include "events.h"
+#include "streams.h"
+#include "texts.h"
+
 #undef fread_unlocked
 #undef fwrite_unlocked
 #undef putc_unlocked

@@ -1,4 +1,13 @@
-/* Two threads beside those of the program: one takes the token from a thread that keeps it, and one waits for it. */
+/* Two threads beside those of the program: one takes the token from a thread that keeps it, and one waits for it.
+ * Interposes nothing. Both have `inside` set and no number, so they must not put a record, take the token or open a
+ * descriptor of the program's table. */
+#define OF_WATCHER
+#include "watcher.h"
+#include "deadlocks.h"
+#include "events.h"
+#include "follow.h"
+#include "plan.h"
+#include "turns.h"
 
 /* Milliseconds of a processor. */
 #define LONG_RUN 1000

@@ -1,4 +1,10 @@
-/* Functions of wide characters, by the linker's --wrap. `n` counts letters. */
+/* Functions of wide characters; `n` counts letters. Interposes wcslen, wcscmp, wmemcpy, mbstowcs, swprintf and their
+ * kin by the linker's --wrap. Must not call them by their plain names, as in texts.c. */
+#define OF_WIDE
+#include "wide.h"
+#include "accesses.h"
+#include "callers.h"
+#include "texts.h"
 #include <wchar.h>
 
 extern size_t __real_wcslen(const wchar_t *), __real_wcsnlen(const wchar_t *, size_t);

@@ -1,5 +1,18 @@
-/* Calls that wait for the world: others run meanwhile. What the world answered is a tick: where a plan is followed, it
- * is waited for, or given again. */
+/* Calls that wait for the world: others run meanwhile. What the world answered is a tick: a followed run waits for it,
+ * or gets it again. Interposes nanosleep, wait, poll, select, epoll_wait, accept, sched_yield and their kin. Must not
+ * wait with the token. */
+#include "world.h"
+#include "accesses.h"
+#include "callers.h"
+#include "channels.h"
+#include "descriptors.h"
+#include "events.h"
+#include "follow.h"
+#include "meetings.h"
+#include "plan.h"
+#include "signs.h"
+#include "sockets.h"
+#include "turns.h"
 
 #define WAITS(type, name, given, passed_on) \
     type name given { \
@@ -26,7 +39,6 @@ WAITS(int, thrd_sleep, (const struct timespec *t, struct timespec *rest), (t, re
         filled; \
         return answer; \
     }
-#define FILLED(at, does) ((at) && (does) ? wrote((at), sizeof *(at), PC) : (void)0)
 #define ENDED (FILLED(status, answer > 0), FILLED(usage, answer > 0))
 AWAITS(pid_t, wait, (int *status), (status), FILLED(status, answer > 0))
 AWAITS(pid_t, waitpid, (pid_t p, int *status, int g), (p, status, g), FILLED(status, answer > 0))

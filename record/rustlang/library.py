@@ -101,7 +101,7 @@ def stacks(root: str) -> list[Source]:
 
 
 def manifest(root: str) -> Source:
-    """The library is linked into each program, since a library of its own would need the recorder."""
+    """The library is linked into each program, since its own library would need the recorder."""
     source = Source(root, "std/Cargo.toml")
     source.change('crate-type = ["dylib", "rlib"]', 'crate-type = ["rlib"]')
     return source

@@ -1,0 +1,24 @@
+/* What words.c shares. */
+#pragma once
+#include "recorder.h"
+#ifdef OF_WORDS
+#define SHARED static
+#else
+#define SHARED OTHERS
+#endif
+
+/* So many words get room on the disk at once. */
+#define PIECE (1 << 18)
+
+SHARED u64 *words;
+SHARED int raw_file;
+SHARED volatile u8 is_full;
+
+SHARED int has_room(u64 at, u64 size);
+SHARED int more_words(u64 end);
+SHARED struct record *long_at(u64 place);
+SHARED int fits_word(struct record r);
+SHARED u64 put_word(struct record r, u64 before, u64 after);
+SHARED u64 put_long(const struct record *r, u64 slot);
+SHARED void take_back(u64 place);
+#undef SHARED
