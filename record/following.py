@@ -16,6 +16,7 @@ import clocks
 import plans
 import raw as raw_file
 import running
+from golang import following as following_go
 
 NOT_FOLLOWING, FOLLOWING, STANDS, DEPARTED, DONE = range(5)
 OTHER_CODE, MISSED, WOULD_WAIT, HANGS, ENDED, OTHER_OUTCOME, OTHER_WORLD = range(1, 8)
@@ -131,7 +132,7 @@ class Result:
 
 
 def check_program(clock: clocks.Clock, words: Sequence[str]) -> None:
-    """The program has to be the one that was recorded: its code is what a run is compared by."""
+    """The program must be the one that was recorded: its code is what a run is compared by."""
     path = clocks.program_of(words[0])
     if not path or not os.path.exists(path):
         recorded_in = clock.words.get("cwd", "")
@@ -260,6 +261,8 @@ def surroundings_of(
     """The environment of a followed run."""
     paths = [f"/proc/{os.getpid()}/fd/{file.fileno()}" for file in (records, planned)]
     words = plan.clock.words
+    if words.get("go"):
+        return following_go.surroundings(words, seed, paths)
     found: Dict[str, str] = running.environment(
         paths[0], seed, words["yield"], words["room"], RACEBENCH_FOLLOW=paths[1]
     )

@@ -188,6 +188,11 @@ def judge_thousands(racebench: str) -> None:
         raise Wrong("2,000 goroutines have a race")
 
 
+def left_out(said: str) -> int:
+    """How many records had no room, as record/run says it."""
+    return int(re.findall(r"(\d+) records left out \(--room\)", said)[0])
+
+
 def judge_options() -> None:
     """Each option of record/run does what it says, or is refused by a line."""
     whole = recorded("pipeline")[0].splitlines()[1:-1]
@@ -196,11 +201,15 @@ def judge_options() -> None:
     if trace.splitlines()[1:-1] != whole[:20] or f"{len(whole) - 20} events left out" not in said:
         raise Wrong(f"--max: {said}")
     _, said = recorded("pipeline", "--room", "1", wanted=1)
-    room = int(re.findall(r"(\d+) records left out \(--room\)", said)[0]) - 60
+    room = left_out(said) - 60
     trace, said = recorded("pipeline", "--room", str(room), wanted=4)
-    judge_marks(trace, f"recording|end(LEFT OUT 61 FROM {len(trace.splitlines()) - 2}: ROOM)|")
+    # Timers of the library make some records more or fewer.
+    if not 30 < left_out(said) < 90:
+        raise Wrong(f"--room {room}: {said}")
+    judge_marks(trace, f"recording|end(LEFT OUT {left_out(said)} FROM {len(trace.splitlines()) - 2}: ROOM)|")
     recorded("pipeline", "--room", str(room), "--partial")
-    trace, said = recorded("pipeline", "--from", "30")
+    trace, said = recorded("pipeline", "--from", "30", wanted=4)
+    judge_marks(trace, "recording|end(LEFT OUT 30 FROM 0: FROM)|")
     kept = trace.splitlines()[1:-1]
     held = len(kept) - (len(whole) - 30)
     if held < 0 or kept[held:] != whole[30:] or any("|acq(" not in line for line in kept[:held]):
@@ -212,15 +221,68 @@ def judge_choices() -> None:
     trace, _ = recorded("pipeline", "--frames", "0")
     if " < " in trace or not re.search(r"\|clean\.go:\d+$", trace, re.MULTILINE):
         raise Wrong(f"--frames 0: {trace[:300]}")
-    trace, said = recorded("pipeline", "--only", "races.go")
-    if "left out, which no line of races.go accesses" not in said or "|r(heap:" in trace:
+    trace, said = recorded("pipeline", "--only", "races.go", wanted=4)
+    count = re.findall(r"(\d+) parts of variables left out, which no line of races\.go accesses", said)
+    last = f"recording|end(LEFT OUT {' '.join(count)} FROM 0: ONLY)|"
+    if "|r(heap:" in trace or trace.splitlines()[-1] != last:
         raise Wrong(f"--only: {said}")
     trace, _ = recorded("counter", "--only", "races.go", "--raw", "raw")
     if "|w(main.hits)|" not in trace or not os.path.getsize("raw"):
         raise Wrong("--only of the right file leaves the variable out, or --raw keeps nothing")
-    _, said = recorded("counter", "--clock", "clock", wanted=2)
-    if said != "record/run: --clock: a Go program can't be followed, so it has no clock\n":
-        raise Wrong(f"--clock: {said}")
+    for options, why in (
+        (["--clock", "clock", "--from", "2"], "--clock: the trace of a clock begins with the first event"),
+        (["--ordered", "ordered"], "--ordered: the trace of a Go program leaves out no access"),
+        (["--names", "raw"], "--names: the variables of a Go program have the names of the source"),
+    ):
+        trace, said = recorded("counter", *options, wanted=2)
+        if trace or not said.startswith(f"record/run: {why}") or said.count("\n") != 1:
+            raise Wrong(f"{options}: {said}")
+
+
+# Programs whose race the real program is led to, with what the order changes: a variable, a map, a timer, a channel
+# without a buffer, a pointer, a mutex, a lock for readers, a panic, a condition.
+FOLLOWED = (
+    ("counter", "the outputs differ: 2 with A first (A goes on), 1 with B first (B goes on)"),
+    ("mapwrite", "is the same"),
+    ("timer", "the outputs differ: 1 with A first (A goes on), 0 with B first (B goes on)"),
+    ("chanrace", "the outputs differ: 2 with A first (A goes on), 1 with B first (B goes on)"),
+    ("publish", "is the same"),
+    ("hidden", "the outputs differ: 2 with A first (A goes on), 1 with B first (B goes on)"),
+    ("readers", "is the same"),
+    ("panics", "is the same"),
+    ("condless", "is the same"),
+)
+
+
+def judge_followed(racebench: str, name: str, what: str) -> None:
+    """Both goroutines are led to their accesses, and the order of these has its effect."""
+    recorded(name, "--seed", "2", "--clock", "clock")
+    confirm = [os.path.join(RECORD, "confirm"), "--racebench", racebench, "trace.std", "clock"]
+    out, _ = ran(confirm)
+    if not re.search(r"^races (\d+), stand \1, departed 0, ", out, re.MULTILINE) or what not in out:
+        raise Wrong(f"{name}: {out}")
+
+
+def judge_stands(racebench: str) -> None:
+    """record/follow prints where both goroutines stand, with their calls and what is there; a schedule that is not of
+    this recording is refused, and so is gdb."""
+    recorded("hidden", "--seed", "2", "--clock", "clock")
+    a, b = re.findall(r"^race (\d+) (\d+) ", ran([racebench, "triage", "trace.std"])[0], re.MULTILINE)[0]
+    with open("witness", "w", encoding="utf-8") as file:
+        file.write(ran([racebench, "witness", "trace.std", a, b])[0])
+    follow = [os.path.join(RECORD, "follow"), "--witness", "witness"]
+    _, said = ran([*follow, "--then", "stop", "clock", a, b])
+    calls = r"    #0 main\.\(\*account\)\.(close|deposit) races\.go:\d+\n    #1 main\.hidden\.func\d races\.go:\d+\n"
+    stands = r"record/follow: the race stands: T\d at races\.go:\d+, T\d at races\.go:\d+\n"
+    standing = r"  {}: T\d, (read|write) of 1 byte at \w+, which hold 0x[01]\n"
+    wanted = stands + standing.format("A") + calls + standing.format("B") + calls
+    if not re.fullmatch(wanted, said):
+        raise Wrong(f"record/follow: {said}")
+    _, said = ran([*follow, "--gdb", "clock", a, b], 3)
+    if said != "record/follow: --gdb: gdb knows no goroutines; the stacks are those that record/follow prints\n":
+        raise Wrong(f"--gdb: {said}")
+    if "witness of another race" not in ran([*follow, "clock", a, str(int(b) + 1)], 3)[1]:
+        raise Wrong("a schedule of another race is followed")
 
 
 def judge_stop() -> None:
@@ -401,6 +463,9 @@ def all_cases(racebench: str) -> Iterator[Case]:
     yield "Go: options", judge_options, ()
     yield "Go: more options", judge_choices, ()
     yield "Go: --for", judge_stop, ()
+    for name, what in FOLLOWED:
+        yield f"Go: following {name}", judge_followed, (racebench, name, what)
+    yield "Go: where both stand", judge_stands, (racebench,)
     yield "Go: an unknown Go", judge_unknown, ()
     yield "Go: record/go", judge_command, (racebench,)
     yield "Go: a full disk", judge_full_disk, ()

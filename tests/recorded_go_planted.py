@@ -4,7 +4,7 @@ A scenario has goroutines of its own. The first one writes a datum, and the last
 the next orders the two, or the datum is also accessed after the first pass or before the last one: that is a race, and
 a label names it. So each race of the recording has its label, and each label has a race, within some seeds.
 
-    recorded_go_planted.py PROGRAM FIRST COUNT     so many programs from a seed on, in a process of its own
+    recorded_go_planted.py PROGRAM FIRST COUNT     this many programs from a seed on, in its own process
 """
 
 import os

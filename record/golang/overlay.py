@@ -11,7 +11,7 @@ import re
 from collections.abc import Iterator
 
 HERE = os.path.dirname(os.path.realpath(__file__))
-RECORDER = os.path.join(HERE, "recorder.c")
+RECORDER, FOLLOWER = os.path.join(HERE, "recorder.c"), os.path.join(HERE, "follow.h")
 # The kinds of events of the changed sources, as recorder.c and decode/log.go count them.
 LOCK, UNLOCK, REFUSED, READ_LOCK, READ_UNLOCK, READ_REFUSED, WRITE_LOCK, WRITE_UNLOCK, WRITE_REFUSED = range(9)
 CHANNEL_MEETS, CHANNEL_BUFFER, CHANNEL_REFUSED, SIGNALED, WOKEN = range(16, 21)
@@ -80,8 +80,7 @@ def race_source(root: str) -> Source:
     source.change(
         "uintptr(unsafe.Pointer(&racectx)), pc, 0)", "uintptr(unsafe.Pointer(&racectx)), pc, raceorigin(pc))"
     )
-    seeds = "	racecall(&__record_seed, uintptr(unsafe.Pointer(&raceseed)), 0, 0, 0)\n"
-    source.after("abi.FuncPCABI0(racecallbackthunk), 0)\n", seeds)
+    source.after("abi.FuncPCABI0(racecallbackthunk), 0)\n", "	racestart()\n")
     return source
 
 
@@ -118,12 +117,22 @@ def channels(root: str) -> Iterator[Source]:
         "func racenotify(c *hchan, idx uint, sg *sudog) {\n	gp := getg()\n	if sg != nil {\n		gp = sg.g\n	}\n"
         f"	raceevent({CHANNEL_BUFFER}, gp, unsafe.Pointer(c), uintptr(idx))\n}}\n",
     )
+    turn = "	if raceenabled {\n		raceturn(0)\n	}\n"
+    for head in (
+        "func chansend(c *hchan, ep unsafe.Pointer, block bool, callerpc uintptr) bool {\n",
+        "func chanrecv(c *hchan, ep unsafe.Pointer, block bool) (selected, received bool) {\n",
+        "func closechan(c *hchan) {\n",
+    ):
+        source.after(head, turn)
+    calls = "racereadpc(c.raceaddr(), callerpc, abi.FuncPCABIInternal(chansend))\n"
+    source.after(calls, "		raceturn(0)\n")
     send = "	selected = chansend(c, elem, false, getcallerpc())\n"
     source.change("	return chansend(c, elem, false, getcallerpc())\n", refused_try(send, 0) + "	return\n")
     receive = "	selected, received = chanrecv(c, elem, false)\n"
     source.change("	return chanrecv(c, elem, false)\n", refused_try(receive, 1) + "	return\n", 1, "func selectnbrecv(")
     yield source
     source = Source(root, "runtime/select.go")
+    source.pattern(r"(func selectgo\(.*\{\n)", r"\1" + turn)
     source.after(
         "	if !block {\n		selunlock(scases, lockorder)\n",
         "		for _, casei := range lockorder {\n			receives := uintptr(0)\n			if int(casei) >= nsends {\n"
@@ -138,15 +147,11 @@ def locks(root: str) -> Iterator[Source]:
         source.text += "\nfunc Event(kind uintptr, addr unsafe.Pointer) {" + work.replace("value", "0") + "}\n"
         source.text += "\nfunc EventOf(kind uintptr, addr unsafe.Pointer, value uintptr) {" + work + "}\n"
         source.text += "\nfunc Refused() {" + ("\n	runtime.RaceRefused()\n" if name == "race" else "\n") + "}\n"
+        source.text += "\nfunc Turn() {" + ("\n	runtime.RaceTurn()\n" if name == "race" else "\n") + "}\n"
+        for pass_ in ("Acquire", "Release", "ReleaseMerge") if name == "race" else ():
+            source.after(f"func {pass_}(addr unsafe.Pointer) {{\n", "	runtime.RaceTurn()\n")
         yield source
-    source = Source(root, "sync/mutex.go")
-    source.change("race.Acquire(unsafe.Pointer(m))", event(LOCK, "m"), 3)
-    # Between the record and what lets the mutex go no other goroutine may run, or a try would be refused too late.
-    source.change("race.Release(unsafe.Pointer(m))", event(UNLOCK, "m") + "\n		race.Disable()")
-    source.after("	new := atomic.AddInt32(&m.state, -mutexLocked)\n", "	if race.Enabled {\n		race.Enable()\n	}\n")
-    refused = f"		if race.Enabled {{\n			{event(REFUSED, 'm')}\n			race.Refused()\n		}}\n		return false\n"
-    source.change("		return false\n", refused, 2, "func (m *Mutex) TryLock")
-    yield source
+    yield mutex(root)
     yield reader_locks(root)
     source = Source(root, "sync/pool.go")
     source.body(
@@ -155,6 +160,25 @@ def locks(root: str) -> Iterator[Source]:
     )
     yield source
     yield conditions(root)
+
+
+def guarded(*lines: str) -> str:
+    """Statements for a program with the recorder."""
+    return "	if race.Enabled {\n" + "".join(f"		{line}\n" for line in lines) + "	}\n"
+
+
+def mutex(root: str) -> Source:
+    """A mutex is one record. What it does inside is none, and no other goroutine runs between the two."""
+    source = Source(root, "sync/mutex.go")
+    begins = guarded("race.Turn()", "race.Disable()")
+    for head in ("func (m *Mutex) Lock() {\n", "func (m *Mutex) TryLock() bool {\n"):
+        source.after(head, begins)
+    source.change("race.Acquire(unsafe.Pointer(m))", "race.Enable()\n		" + event(LOCK, "m"), 3)
+    source.change("race.Release(unsafe.Pointer(m))", f"race.Turn()\n		{event(UNLOCK, 'm')}\n		race.Disable()")
+    source.change("		m.unlockSlow(new)\n	}\n", "		m.unlockSlow(new)\n	}\n" + guarded("race.Enable()"))
+    refused = guarded("race.Enable()", event(REFUSED, "m"), "race.Refused()") + "		return false\n"
+    source.change("		return false\n", refused, 2, "func (m *Mutex) TryLock")
+    return source
 
 
 def reader_locks(root: str) -> Source:
@@ -174,6 +198,8 @@ def reader_locks(root: str) -> Source:
         source.change(writers, "", 1, f"func (rw *RWMutex) {name}(")
     release = "race.Release(unsafe.Pointer(&rw.readerSem))"
     source.change(release, event(WRITE_UNLOCK, "rw"), 1, "func (rw *RWMutex) Unlock(")
+    for name in ("RLock()", "TryRLock() bool", "RUnlock()", "Lock()", "TryLock() bool", "Unlock()"):
+        source.after(f"func (rw *RWMutex) {name} {{\n", guarded("race.Turn()"))
     return source
 
 
@@ -186,9 +212,9 @@ def conditions(root: str) -> Source:
         text = f"race.EventOf({kind}, unsafe.Pointer(c), uintptr({number}))"
         return f"	if race.Enabled {{\n		{text}\n	}}\n"
 
-    source.after("	runtime_notifyListWait(&c.notify, t)\n", told(WOKEN, "t"))
+    source.after("	runtime_notifyListWait(&c.notify, t)\n", guarded("race.Turn()") + told(WOKEN, "t"))
     one, all_ = "	runtime_notifyListNotifyOne(&c.notify)\n", "	runtime_notifyListNotifyAll(&c.notify)\n"
-    waits = "	if c.notify.notify != c.notify.wait {\n	%s	}\n"
+    waits = guarded("race.Turn()") + "	if c.notify.notify != c.notify.wait {\n	%s	}\n"
     source.change(one, waits % told(SIGNALED, "c.notify.notify + 1") + one)
     source.change(all_, waits % told(SIGNALED, "c.notify.wait") + all_)
     return source
@@ -200,15 +226,20 @@ def files(root: str) -> Iterator[Source]:
     source.change('import "sync/atomic"\n', 'import (\n	"internal/race"\n	"sync/atomic"\n	"unsafe"\n)\n')
 
     def told(kind: int) -> str:
-        return f"if race.Enabled {{\n{event(kind, 'mu')}\n}}\n"
+        return guarded("race.Enable()", event(kind, "mu"), "race.Disable()")
 
+    for head in ("incref() bool", "increfAndClose() bool", "decref() bool", "rwlock(read bool) bool"):
+        source.after(
+            f"func (mu *fdMutex) {head} {{\n", guarded("race.Turn()", "race.Disable()", "defer race.Enable()")
+        )
     source.change("			return true\n", told(FILE_KEPT) + "return true\n", 1, "func (mu *fdMutex) incref()")
     source.change("			return true\n", told(FILE_CLOSED) + "return true\n", 1, "func (mu *fdMutex) increfAndClose()")
     source.after("func (mu *fdMutex) decref() bool {\n", told(FILE_KEPT))
     which = f"if read {{\n{told(FILE_READS)}}} else {{\n{told(FILE_WRITES)}}}\n"
     source.change("				return true\n", which + "return true\n", 1, "func (mu *fdMutex) rwlock(")
     which = f"if read {{\n{told(FILE_READ)}}} else {{\n{told(FILE_WRITTEN)}}}\n"
-    source.after("func (mu *fdMutex) rwunlock(read bool) bool {\n", which)
+    begins = guarded("race.Turn()", "race.Disable()", "defer race.Enable()")
+    source.after("func (mu *fdMutex) rwunlock(read bool) bool {\n", begins + which)
     closed = "		if old&mutexClosed != 0 {\n"
     source.change(closed, closed + told(FILE_KEPT), 3)
     yield source
@@ -260,8 +291,34 @@ def scheduler(root: str) -> Iterator[Source]:
         r"(\t\t\t\t)(preemptone\((\w+)\)\n)(\t\t\t\t// In case of syscall)",
         r"\1if raceseed == 0 {\n\1\2\1} else if pd.schedwhen+raceforceNS <= now {\n\1	raceforce(\3)\n\1}\n\4",
     )
+    planned(source)
+    yield from timers(root, source)
     yield source
     yield from drawn(root)
+
+
+def planned(source: Source) -> None:
+    """Goroutines that go on by a plan: the one whose turn it is, and none while the plan waits for the world."""
+    source.after("func newproc(fn *funcval) {\n", "	if raceenabled {\n		raceturn(0)\n	}\n")
+    source.change("		racefini()\n", "		raceturn(1)\n		racefini()\n", 2)
+    source.pattern(
+        r"(func runqget\(.*\{\n)",
+        r"\1	if racefollows {\n		if gp := racenext(); gp != nil {\n			return gp, false\n		}\n	}\n",
+    )
+    idle = "	if racefollows {\n		if gp := raceidle(); gp != nil {\n			return gp, false, false\n		}\n		goto top\n	}\n"
+    source.change("	allpSnapshot := allp\n", idle + "	allpSnapshot := allp\n")
+
+
+def timers(root: str, source: Source) -> Iterator[Source]:
+    """While a plan is followed, timers fire only if it waits for them."""
+    waits = "	if racefollows && !racetimers() {\n		return now, 0, false\n	}\n"
+    old = "func checkTimers(pp *p, now int64) (rnow, pollUntil int64, ran bool) {\n"
+    if old in source.text:
+        source.after(old, waits)
+        return
+    newer = Source(root, "runtime/time.go")
+    newer.pattern(r"(func \(ts \*timers\) check\(now int64\) .*\{\n)", r"\1" + waits)
+    yield newer
 
 
 def drawn(root: str) -> Iterator[Source]:
@@ -305,6 +362,8 @@ def recorder(root: str) -> str:
     """The recorder's source, with the name of the GOROOT that its programs are built from."""
     with open(RECORDER, encoding="utf-8") as file:
         text = file.read()
+    with open(FOLLOWER, encoding="utf-8") as file:
+        text = text.replace('#include "follow.h"\n', file.read())
     escaped = root.replace("\\", "\\\\").replace('"', '\\"')
     return f'#define GOROOT_MARK "RACEBENCH_GOROOT={escaped}"\n{text}'
 

@@ -38,13 +38,16 @@ enum {
     FINALIZER,
     SWITCH,
     MORE,
-    EVENTS = 32 // the kinds of __record_event begin here
+    EVENTS = 32, // the kinds of __record_event begin here
+    QUIET = 64   // set in the kind of an access inside of race.Disable, which is no tick
 };
 enum { MEETS = 16, BUFFER = 17 };
 // Why records are missing.
 enum { ROOM = 1, DISK };
 // Who started a goroutine, as raceorigin says.
 enum { BY_PROGRAM, BY_RUNTIME, BY_TIMER };
+// The number of the main goroutine's context.
+enum { MAIN = 1 };
 
 // The overlay names the GOROOT here; record/run looks for this text in a program.
 #ifndef GOROOT_MARK
@@ -73,9 +76,12 @@ struct waiting {
     u64 address, pc;
     int (*work)(u8 *);
 };
+// The first three words are what racedraw of the changed sources draws from: how many records the goroutine made, what
+// it drew since the last one, and what it is known by in each run.
 struct context {
-    u32 thread, stack;
-    int ignore, waits;
+    u64 ticks, draws, id;
+    u32 thread, stack, number;
+    int ignore, waits, may_pass, is_timer;
     struct waiting waiting;
 };
 struct call {
@@ -98,6 +104,9 @@ static struct entry *table;
 static struct call *calls;
 
 void __tsan_init(void **thread, void **processor, void *callback);
+static void *mapped(u64 bytes);
+
+#include "follow.h"
 
 static u64 drawn(void) {
     draw ^= draw << 13, draw ^= draw >> 7, draw ^= draw << 17;
@@ -145,8 +154,10 @@ static void put(u32 thread, u64 what, u32 stack, u64 high) {
 // Places of code are kept as the distance from this file, which has 32 bits.
 static u64 place_of(u64 pc) { return (u32)(pc - (u64)&__tsan_init); }
 
-static void put_access(u32 thread, int kind, u64 address, u64 size, u32 stack, u64 pc) {
-    put(thread, what_of(address, kind, size < 255 ? size : 255), stack, place_of(pc));
+static void put_access(struct context *c, int kind, u64 address, u64 size, u32 stack, u64 pc) {
+    int quiet = c->ignore ? QUIET : 0;
+    if (!quiet) tick(c, kind, pc);
+    put(c->thread, what_of(address, kind | quiet, size < 255 ? size : 255), stack, place_of(pc));
     if (size >= 255) append(what_of(size, MORE, 0), 0);
 }
 
@@ -185,7 +196,7 @@ static struct context *context(void) {
     static u32 threads;
     if (!contexts_left) contexts = mapped((u64)(contexts_left = 1 << 12) * sizeof *contexts);
     struct context *c = contexts++;
-    contexts_left--, c->thread = threads++;
+    contexts_left--, c->thread = threads++, c->number = NOBODY;
     return c;
 }
 
@@ -220,6 +231,7 @@ static void open_log(const char *path) {
     u64 room = number("RACEBENCH_GO_ROOM", ~0ull / RECORD);
     header->limit = room < ~0ull / RECORD ? room * RECORD : ~0ull - RECORD;
     header->base = (u64)&__tsan_init, header->magic = MAGIC;
+    open_plan(getenv("RACEBENCH_GO_FOLLOW"), header->base);
     strncpy((char *)header + GOROOT_AT, GOROOT_MARK, HEAD - GOROOT_AT - 1);
     off = !table || !calls;
 }
@@ -232,8 +244,20 @@ void __tsan_init(void **thread, void **processor, void *callback) {
     *thread = context(), *processor = 0;
 }
 
-// What a run draws from; 0 if nothing is recorded.
-void __record_seed(u64 *seed) { *seed = off ? 0 : drawn() | 1; }
+// What a goroutine is known by in each run: its parent, and how many records that had made.
+static u64 id_of(const struct context *parent) {
+    u64 id = parent ? (parent->id ^ parent->ticks) * 0x9E3779B97F4A7C15ULL : 0;
+    return (id ^ id >> 29) * 0xBF58476D1CE4E5B9ULL + 1;
+}
+
+// What the goroutines of a run draw from, and what its scheduler draws from; 0 if nothing is recorded. A run that
+// follows a plan has a seed of its own for what comes after it.
+void __record_seed(u64 *seed, u64 *scheduler) {
+    *seed = off ? 0 : drawn() | 1;
+    draw ^= number("RACEBENCH_GO_AFTER", 0) * 0xD1B54A32D192ED03ULL;
+    draw |= !draw;
+    *scheduler = drawn() | 1;
+}
 
 // The goroutine that runs was stopped by force.
 void __record_forced(void) {
@@ -268,6 +292,10 @@ void __tsan_go_start(struct context *parent, void **thread, u64 pc, u64 origin) 
     struct context *c = *thread = context();
     if (!begin(c)) return;
     if (origin == BY_PROGRAM || origin == BY_TIMER) started = 1;
+    int ticks_on = parent && origin != BY_RUNTIME && origin != BY_TIMER;
+    if (ticks_on) tick(parent, FORK, pc);
+    c->id = id_of(parent), c->is_timer = origin == BY_TIMER, c->ticks = c->is_timer;
+    give_number(c, c->thread == MAIN ? 0 : origin == BY_RUNTIME ? NOBODY : number_of(parent, origin));
     header->threads++;
     u32 stack = parent ? parent->stack : 0;
     put(parent ? parent->thread : 0, what_of(c->thread, FORK, origin), stack, place_of(pc));
@@ -276,6 +304,8 @@ void __tsan_go_start(struct context *parent, void **thread, u64 pc, u64 origin) 
 
 static void simple(struct context *c, int kind, u64 address, u64 high) {
     if (!begin(c)) return;
+    if (kind != END) tick(c, kind, 0);
+    else if (following && c->number != NOBODY) is_last_done(c->number);
     put(c->thread, what_of(address, kind, 0), c->stack, high);
     done();
 }
@@ -315,15 +345,23 @@ static u64 yields(void) {
     return 1;
 }
 
+// Whether a goroutine waits for its turn in a plan, before an access.
+static u64 waits_for(struct context *c, int kind, u64 address, u64 size, u32 stack, u64 pc) {
+    struct waiting w = {kind, (u32)size, stack, 0, address, pc, 0};
+    if (!following || c->ignore) return 0;
+    c->waiting = w;
+    return must_wait(c, 1);
+}
+
 // The access comes after the hook, and the record must come after the yield: until then it waits in its goroutine.
 static u64 accessed(struct context *c, int kind, u64 address, u64 size, u64 pc) {
     if (!started || !begin(c)) return 0;
-    u64 answer = yields();
+    u64 answer = waits_for(c, kind, address, size, c->stack, pc) || yields();
     if (answer) {
         struct waiting w = {kind, (u32)size, c->stack, 0, address, pc, 0};
         c->waiting = w, c->waits = 1;
     } else {
-        put_access(c->thread, kind, address, size, c->stack, pc);
+        put_access(c, kind, address, size, c->stack, pc);
     }
     done();
     return answer;
@@ -336,8 +374,23 @@ void __record_waiting(struct context *c, u64 top) {
     c->waits = 0;
     if (w->work) w->kind = w->work((u8 *)(top - w->depth));
     if (!begin(c)) return;
-    put_access(c->thread, w->kind, w->address, w->size, w->stack, w->pc);
+    put_access(c, w->kind, w->address, w->size, w->stack, w->pc);
     done();
+}
+
+// After a yield: whether the goroutine has to wait on for its turn.
+void __record_again(struct context *c, u64 *answer) { *answer = c && c->waits && must_wait(c, 1); }
+
+// Before an operation that makes records: 1 if others may go on first, 2 if the goroutine waits for its turn. The main
+// goroutine, which `ends` the program, waits for the end of the plan.
+void __record_turn(struct context *c, u64 *answer, u64 ends) {
+    *answer = 0;
+    if (off || !c || c->ignore) return;
+    c->waiting.pc = 0;
+    if (ends && following && due() == c->number && c->number != NOBODY && !is_last_done(c->number))
+        depart(ENDED, c->number, 0, 0, 0, 0);
+    if (ends ? following && c->number != NOBODY : must_wait(c, 0)) *answer = 2;
+    else if (started && !ends) *answer = yields();
 }
 
 u64 __tsan_read(struct context *c, u64 address, u64 pc) { return accessed(c, READ, address, 1, pc); }
@@ -351,9 +404,12 @@ u64 __tsan_write_range(struct context *c, u64 address, u64 size, u64 pc) {
 
 static u64 accessed_inside(struct context *c, int kind, u64 address, u64 caller, u64 pc) {
     if (!started || !begin(c)) return 0;
-    put_access(c->thread, kind, address, 1, caller ? child(c->stack, caller, ~0u, 0) : c->stack, pc);
+    u32 stack = caller ? child(c->stack, caller, ~0u, 0) : c->stack;
+    u64 answer = waits_for(c, kind, address, 1, stack, pc);
+    if (answer) c->waits = 1;
+    else put_access(c, kind, address, 1, stack, pc);
     done();
-    return 0;
+    return answer;
 }
 u64 __tsan_read_pc(struct context *c, u64 address, u64 caller, u64 pc) {
     return accessed_inside(c, READ, address, caller, pc);
@@ -415,6 +471,8 @@ u64 __record_event(struct context *c, u64 kind, u64 address, u64 value) {
     if (!begin(c)) return 0;
     struct context *other = kind == MEETS ? (struct context *)value : 0;
     u64 high = other ? other->thread : kind < MEETS ? place_of(value) : value;
+    tick(c, (int)(EVENTS + kind), kind < MEETS ? value : 0);
+    if (other) tick(other, (int)(EVENTS + kind), 0);
     put(c->thread, what_of(address, EVENTS + kind, 0), c->stack, high);
     u64 place = kind < MEETS ? 0 : place_in(c, *(u64 **)__builtin_frame_address(0));
     if (place || other) append(what_of(other ? other->stack : 0, MORE, 0), place);
@@ -456,19 +514,27 @@ struct operation {
     int may_wait, may_yield_after;
 };
 
+// Whether a goroutine waits for its turn in a plan, before an atomic operation. No garbage is collected then.
+static int is_to_wait(struct context *c, u8 *a, u64 place, const struct operation *is) {
+    struct waiting w = {0, is->size, c->stack, 0, *(u64 *)a, place, is->work};
+    if (!following) return 0;
+    c->waiting = w;
+    return must_wait(c, 1);
+}
+
 // A loop over an atomic variable must let others go on. The yield comes before the operation, but for 64 bits that
 // may be the pointer that is stored: its block must not be lost. It comes after such an exchange that failed.
 static u64 atomic(struct context *c, u64 caller, u8 *a, u64 top, u64 *frame, const struct operation *is) {
     if (off || !started || !c || c->ignore) return is->work(a), 0;
     u64 place = of_caller(frame, a, caller);
-    if (is->may_wait && yields()) {
+    if (is_to_wait(c, a, place, is) || (is->may_wait && yields())) {
         struct waiting w = {0, is->size, c->stack, (u32)(top - (u64)a), *(u64 *)a, place, is->work};
         c->waiting = w, c->waits = 1;
         return 1;
     }
     int kind = is->work(a);
     if (!begin(c)) return 0;
-    put_access(c->thread, kind, *(u64 *)a, is->size, c->stack, place);
+    put_access(c, kind, *(u64 *)a, is->size, c->stack, place);
     done();
     return is->may_yield_after && kind == FAILED_MODIFY ? yields() : 0;
 }

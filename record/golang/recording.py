@@ -2,6 +2,7 @@
 
 # mypy: disallow-untyped-calls=False
 import argparse
+import concurrent.futures
 import os
 import shutil
 import struct
@@ -13,20 +14,24 @@ import time
 from dataclasses import dataclass, field
 from typing import IO
 
+import clocks
+import raw as raw_file
 import running
 from golang import building
 
 HEAD = struct.Struct("<16Q")
 MAGIC = 0x32304F4745434152
 # Places of the head's numbers, in the order of recorder.c.
-APPENDED, LOST, STOP_AT = 3, 5, 8 * 15
+APPENDED, LOST, BASE, STOP_AT = 3, 5, 7, 8 * 15
 # Numbers that mean that there is no limit.
 NO_LIMIT = (1 << 63) - 1
 MOST_ROOM = 1 << 36
 MOST_EVENTS, MOST_BYTES, MOST_THREADS = 1_048_576, 268_435_456, 256
+# A clock has no more goroutines.
+MOST_NUMBERS = 65536
 # The status if the recording is not whole.
 NOT_WHOLE = 4
-# So many seconds are between two looks whether a program has begun.
+# How many seconds are between two looks whether a program has begun.
 LOOK = 0.005
 
 
@@ -50,7 +55,8 @@ def surroundings(given: argparse.Namespace, path: str) -> dict[str, str]:
     """What a recorded program has in its environment. A garbage collection would depend on time, so it comes only when
     half of the memory is used."""
     room = given.room if given.room < MOST_ROOM else ""
-    debug = [word for word in os.environ.get("GODEBUG", "").split(",") if word and "asyncpreemptoff" not in word]
+    settings = os.environ.get("GODEBUG", "").split(",")
+    debug = [word for word in settings if word and not word.startswith(("asyncpreemptoff=", "memprofilerate="))]
     half = os.sysconf("SC_PAGE_SIZE") * os.sysconf("SC_PHYS_PAGES") // 2
     usual = {} if "GOGC" in os.environ or "GOMEMLIMIT" in os.environ else {"GOGC": "off", "GOMEMLIMIT": str(half)}
     ours = {
@@ -58,7 +64,8 @@ def surroundings(given: argparse.Namespace, path: str) -> dict[str, str]:
         "RACEBENCH_GO_SEED": str(given.seed),
         "RACEBENCH_GO_YIELD": str(getattr(given, "yield")),
         "RACEBENCH_GO_ROOM": str(room),
-        "GODEBUG": ",".join([*debug, "asyncpreemptoff=1"]),
+        # Samples of the heap would draw numbers.
+        "GODEBUG": ",".join([*debug, "asyncpreemptoff=1", "memprofilerate=0"]),
     }
     return {**os.environ, **usual, **ours}
 
@@ -69,7 +76,7 @@ def head_of(file: IO[bytes]) -> tuple[int, ...]:
 
 
 def stop_recording_after(seconds: float, file: IO[bytes]) -> None:
-    """So many seconds after the first record no more are kept. The program goes on."""
+    """This many seconds after the first record no more are kept. The program goes on."""
 
     def stop() -> None:
         while not head_of(file)[APPENDED]:
@@ -92,7 +99,11 @@ def run(given: argparse.Namespace, file: IO[bytes], path: str) -> int:
 def decoder_words(given: argparse.Namespace, status: int) -> list[str]:
     limited = not given.stream and given.max < NO_LIMIT
     words = [f"-max={given.max if limited else NO_LIMIT}", f"-from={given.first}", f"-frames={given.frames}"]
-    words += [f"-threads={0 if given.stream else MOST_THREADS}", f"-cause={'FOR' if given.seconds else 'ROOM'}"]
+    # In a clock no two goroutines have one number.
+    words += [
+        f"-threads={0 if given.stream or given.clock else MOST_THREADS}",
+        f"-cause={'FOR' if given.seconds else 'ROOM'}",
+    ]
     flags = {"-lossy": limited, "-slots": given.slots, "-killed": status < 0}
     return words + [flag for flag, wanted in flags.items() if wanted] + [f"-only={file}" for file in given.only]
 
@@ -122,24 +133,60 @@ def facts_of(text: str) -> Facts:
 
 
 def decoded(given: argparse.Namespace, file: IO[bytes], root: str, status: int) -> Facts | None:
-    """Writes the trace on standard output; what the decoder counted, or None if it did not write all of it."""
+    """Writes the trace on standard output, and its clock if that is wanted; what the decoder counted, or None if it did
+    not write all of it."""
     with tempfile.TemporaryDirectory(prefix="record") as folder:
-        decoder = building.decoder_of(building.go_of(root), folder)
-        number = file.fileno()
-        words = [
-            decoder,
-            *decoder_words(given, status),
-            program_of(given.program) or given.program,
-            f"/dev/fd/{number}",
-        ]
-        done = subprocess.run(
-            words, stderr=subprocess.PIPE, pass_fds=[number], preexec_fn=running.be_deaf, check=False
-        )
-    facts = facts_of(done.stderr.decode(errors="replace"))
-    if done.returncode:
-        say("the trace was not written whole" + (f": signal {-done.returncode}" if done.returncode < 0 else ""))
-        return None
+        beside = Beside(given, folder) if given.clock else None
+        numbers = [file.fileno(), *(beside.numbers if beside else [])]
+        words = [building.decoder_of(building.go_of(root), folder), *decoder_words(given, status)]
+        words += beside.words if beside else []
+        words += [program_of(given.program) or given.program, f"/dev/fd/{file.fileno()}"]
+        out = subprocess.PIPE if beside else None
+        with subprocess.Popen(
+            words, stdout=out, stderr=subprocess.PIPE, pass_fds=numbers, preexec_fn=running.be_deaf
+        ) as decoder, concurrent.futures.ThreadPoolExecutor(1) as pool:
+            # A file might find the disk full.
+            errors = pool.submit(decoder.stderr.read) if decoder.stderr else None
+            for line in decoder.stdout or ():
+                if beside:
+                    beside.kept.write(line)
+            facts = facts_of(errors.result().decode(errors="replace") if errors else "")
+        if decoder.returncode:
+            why = f": signal {-decoder.returncode}" if decoder.returncode < 0 else ""
+            say(f"the trace was not written whole{why}")
+            return None
+        if beside and facts.counts.get("no_clock"):
+            say(f"{given.clock}: no clock is written, since the program has more than {MOST_NUMBERS} goroutines")
+        elif beside:
+            sys.stdout.flush()
+            beside.write(root, head_of(file)[BASE])
     return facts
+
+
+class Beside:
+    """What is written beside the trace, for its clock."""
+
+    def __init__(self, given: argparse.Namespace, folder: str) -> None:
+        self.given, self.kept = given, clocks.Kept(sys.stdout.buffer)
+        self.records, self.events = (tempfile.TemporaryFile(dir=folder) for _ in range(2))
+        self.numbers = [self.records.fileno(), self.events.fileno()]
+        self.words = [f"-records={self.numbers[0]}", f"-events={self.numbers[1]}"]
+
+    def write(self, root: str, base: int) -> None:
+        """Writes the clock, in the form of one of a C program: a head with the program, and the records."""
+        program = os.path.realpath(program_of(self.given.program) or self.given.program)
+        size = os.fstat(self.numbers[0]).st_size // raw_file.WORD
+        head = raw_file.packed_head(size, 1)
+        module = raw_file.MODULE.pack(base, base + 1, os.fsencode(program))
+        with open(self.given.clock, "wb") as out:
+            clocks.write_words(out, self.given, self.kept, program, root)
+            for file in (self.events, self.records):
+                if file is self.records:
+                    self.kept.lines.tofile(out)
+                    out.write((head + module).ljust(raw_file.HEAD_SIZE, b"\0"))
+                file.seek(0)
+                shutil.copyfileobj(file, out)
+                file.close()
 
 
 def counted(facts: dict[str, int], name: str, text: str) -> list[str]:
@@ -195,6 +242,8 @@ def tell(given: argparse.Namespace, facts: Facts) -> None:
         options = counts.get("before") or counts.get("left_out") or counts.get("not_chosen")
         none = "no event was recorded: the program starts no goroutine, or its goroutines share nothing"
         say("no event was written: the options leave out all of them" if options else none)
+    elif facts.losses and not given.partial:
+        say(f"the recording is not whole ({', '.join(facts.losses)}): status {NOT_WHOLE}; --partial accepts it")
     forced = counts.get("forced", 0)
     say(f"recorded {counts['written']} events, {counts.get('switches', 0)} turns, {forced} taken by force")
 
@@ -214,14 +263,26 @@ def log_of(given: argparse.Namespace, file: IO[bytes], path: str) -> int:
     return status
 
 
+def refused(given: argparse.Namespace) -> str:
+    """Why options can't be used for a Go program; empty if they can."""
+    if given.clock and given.first:
+        return "--clock: the trace of a clock begins with the first event, so --from can't be used"
+    if given.ordered:
+        return "--ordered: the trace of a Go program leaves out no access that forks alone order"
+    if given.names != "source":
+        return "--names: the variables of a Go program have the names of the source"
+    return ""
+
+
 def record(given: argparse.Namespace, root: str) -> int:
     """Records a Go program by the options of record/run; the status of the command."""
-    if given.clock:
-        say("--clock: a Go program can't be followed, so it has no clock")
+    if why := refused(given):
+        say(why)
         return 2
     try:
-        if given.raw:
-            running.look_before_writing(given.raw)
+        for written in (given.raw, given.clock):
+            if written:
+                running.look_before_writing(written)
         file, path = running.nameless_file()
         with file:
             status = log_of(given, file, path)

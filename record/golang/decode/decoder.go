@@ -6,6 +6,7 @@ type options struct {
 	slots, lossy, killed  bool
 	cause                 string // of records that the log lacks
 	only                  []string
+	records, events       int // descriptors of the files for a clock, or 0
 }
 
 // A decoder goes over the log several times, so its memory grows with blocks and locks, and not with the log.
@@ -23,6 +24,7 @@ type decoder struct {
 	facts     facts
 	missing   []loss
 	beyond    int // parts of accesses that have many
+	clock     *clock
 }
 
 // A place in memory, wherever the block is.
@@ -58,7 +60,7 @@ func (d *decoder) pass(work func(r *record, id int32, offset uint64)) {
 			return
 		}
 		thread := r.thread
-		r.thread = d.threadOf(r)
+		r.context, r.thread = thread, d.threadOf(r)
 		if r.kind == fork || r.kind == finalizer {
 			work(r, 0, 0)
 		} else {
@@ -81,6 +83,9 @@ func (d *decoder) isOfProgram(r *record) bool {
 		switch r.small {
 		case byTimer:
 			d.timers[child] = child
+			if d.clock != nil {
+				d.clock.timer(child)
+			}
 			return false
 		case byRuntime:
 			d.out[child] = child != 1 // the main goroutine

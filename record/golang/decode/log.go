@@ -28,6 +28,9 @@ const (
 	more   // the size of the record before, or its place
 )
 
+// Set in the kind of an access inside of race.Disable.
+const quietKind = 64
+
 // Kinds of events of the changed sources of Go, in the order of overlay.py.
 const (
 	lock = iota + 32
@@ -75,7 +78,9 @@ const (
 // A record of the log. What `high` is depends on the kind: a place of code, a size, a number.
 type record struct {
 	thread  uint32
+	context uint32 // the thread; of a timer that of all times that it fires
 	kind    uint8
+	quiet   bool // an access inside of race.Disable, which is no tick of the clock
 	small   uint8
 	stack   uint32
 	high    uint32
@@ -186,7 +191,8 @@ func (r *record) isPlace() bool {
 }
 
 func (r *record) take(what, with uint64) {
-	r.kind, r.small, r.address = uint8(what>>48), uint8(what>>56), what&addressMask
+	r.kind, r.small, r.address = uint8(what>>48)&^quietKind, uint8(what>>56), what&addressMask
+	r.quiet = uint8(what>>48)&quietKind != 0
 	r.stack, r.high = uint32(with), uint32(with>>32)
 	r.size, r.pc = uint64(r.small), 0
 	if r.kind == malloc {

@@ -22,6 +22,8 @@ func given() (o options) {
 	flag.BoolVar(&o.killed, "killed", false, "a signal ended the program")
 	flag.StringVar(&o.cause, "cause", "ROOM", "why the log lacks records")
 	flag.BoolVar(&o.slots, "slots", false, "order the messages of a channel by Go's memory model alone")
+	flag.IntVar(&o.records, "records", 0, "a descriptor: the records for a clock are written there")
+	flag.IntVar(&o.events, "events", 0, "a descriptor: the number of each event's record is written there")
 	flag.Var((*texts)(&o.only), "only", "a file whose variables are written")
 	flag.Parse()
 	if flag.NArg() != 2 {
@@ -50,6 +52,13 @@ func decode(o options) (*decoder, error) {
 }
 
 func main() {
+	if len(os.Args) == 4 && os.Args[1] == "places" {
+		if err := answerPlaces(os.Args[2], os.Args[3]); err != nil {
+			fmt.Fprintln(os.Stderr, "record:", err)
+			os.Exit(1)
+		}
+		return
+	}
 	d, err := decode(given())
 	if err != nil {
 		fmt.Fprintln(os.Stderr, "record:", err)

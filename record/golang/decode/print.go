@@ -4,6 +4,7 @@ import (
 	"bufio"
 	"fmt"
 	"io"
+	"os"
 	"sort"
 	"strconv"
 	"strings"
@@ -47,14 +48,32 @@ func (d *decoder) print(to io.Writer, n *needed) error {
 	d.begin()
 	p.translation = d.translating(p.line1, func(int32) {})
 	fmt.Fprintln(p.out, "recording|begin(RECORDED)|")
-	d.pass(p.translation.one)
+	d.pass(p.printing(l))
 	d.facts["written"], d.facts["bytes"] = p.written, p.bytes
 	d.facts["lent_free"], d.facts["lent"] = l.free, l.by
 	if l.short {
 		d.facts["short"] = 1
 	}
 	p.mark()
-	return p.out.Flush()
+	if err := p.out.Flush(); err != nil || d.clock == nil {
+		return err
+	}
+	if d.clock.next > mostNumbers {
+		d.facts["no_clock"] = 1
+	}
+	return d.clock.end(os.NewFile(uintptr(d.events), "events"))
+}
+
+// printing returns what is done with each record: it is written to the clock, if there is one, and its lines are.
+func (p *printer) printing(l *lender) func(*record, int32, uint64) {
+	if p.records == 0 {
+		return p.translation.one
+	}
+	p.clock = newClock(os.NewFile(uintptr(p.records), "records"), l.number)
+	return func(r *record, id int32, offset uint64) {
+		p.clock.tick(r)
+		p.translation.one(r, id, offset)
+	}
 }
 
 func (p *printer) threadName(one uint32) string { return "T" + strconv.Itoa(int(p.lender.number[one])) }
@@ -108,6 +127,9 @@ func (p *printer) put(text string) {
 		return
 	}
 	p.written++
+	if p.clock != nil {
+		p.clock.event()
+	}
 	p.bytes += len(text)
 	p.out.WriteString(text)
 }
@@ -149,6 +171,12 @@ func (p *printer) losses() (found []loss) {
 			found = append(found, loss{cause, int(count), p.written})
 		}
 	}
+	for cause, name := range map[string]string{"FROM": "before", "ONLY": "not_chosen"} {
+		if count := p.facts[name]; count > 0 {
+			found = append(found, loss{cause, count, 0})
+		}
+	}
+	sort.Slice(found, func(i, j int) bool { return found[i].cause < found[j].cause })
 	log := p.log
 	add(p.facts["left_out"] > 0, "MAX", uint64(p.facts["left_out"]))
 	add(p.facts["lent"] > 0, "THREADS", 0)
@@ -169,12 +197,15 @@ func (p *printer) mark() {
 		fmt.Fprintln(p.out, "recording|end(WHOLE)|")
 		return
 	}
-	count, causes := 0, []string(nil)
+	count, from, causes := 0, p.written, []string(nil)
 	for _, one := range p.missing {
 		count += one.count
+		if one.from < from {
+			from = one.from
+		}
 		causes = append(causes, one.cause)
 	}
-	fmt.Fprintf(p.out, "recording|end(LEFT OUT %d FROM %d: %s)|\n", count, p.written, strings.Join(causes, ", "))
+	fmt.Fprintf(p.out, "recording|end(LEFT OUT %d FROM %d: %s)|\n", count, from, strings.Join(causes, ", "))
 }
 
 func (p *printer) label(o int32) string {

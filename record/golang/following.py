@@ -1,0 +1,36 @@
+"""Following a Go program: the environment of its runs, and what answers where places of its code are."""
+from __future__ import annotations
+
+# mypy: disallow-untyped-calls=False
+import argparse
+import os
+import sys
+import tempfile
+from typing import Any
+
+import clocks
+from golang import building, recording
+
+
+def surroundings(words: dict[str, Any], seed: int, paths: list[str]) -> dict[str, str]:
+    """The environment of a followed run, whose log and plan are at these paths. No garbage is collected in it."""
+    given = argparse.Namespace(room=words["room"], seed=seed)
+    setattr(given, "yield", words["yield"])
+    # What a goroutine draws is that of the recording; the seed after the race is another one.
+    found = recording.surroundings(given, paths[0])
+    found["RACEBENCH_GO_SEED"], found["RACEBENCH_GO_AFTER"] = str(words["seed"]), str(seed)
+    return {**found, "RACEBENCH_GO_FOLLOW": paths[1], "GOGC": "off", "GOMEMLIMIT": "off"}
+
+
+def places_words(clock: clocks.Clock) -> list[str]:
+    """The words that run what answers for the program of a recording."""
+    program = clocks.program_of(clock.words["argv"][0]) or clock.words["argv"][0]
+    try:
+        folder = tempfile.mkdtemp(prefix="record")
+        decoder = building.decoder_of(building.go_of(clock.words["go"]), folder)
+        os.rmdir(folder)
+    except building.NoGo as why:
+        sys.exit(f"record: {why}")
+    except OSError:
+        pass
+    return [decoder, "places", program, f"{clock.head.modules[0][0]:x}"]
