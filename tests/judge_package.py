@@ -1,13 +1,16 @@
 #!/usr/bin/env python3
-"""Judges the man pages and completions of package/, and the pages that tools/man_pages.py makes.
+"""Judges the man pages and completions of package/, the pages that tools/man_pages.py makes, and the packages of the
+languages that tools/package makes.
 
-Each command and flag that `--help` names, each word of a script and each fault has to be there. What is missing is
+Each command and flag that `--help` names, each word of a script and each fault must be there. What is missing is
 named.
 
 Takes the program's path. The last line is `N passed, M failed`. Where bash is not here its completions are not run;
 where man is not here the page is not read by it, and a line says so.
 """
 
+import importlib.machinery
+import importlib.util
 import os
 import re
 import shutil
@@ -170,6 +173,36 @@ def page_warnings(name):
     return told.stderr.splitlines()
 
 
+def packing():
+    """tools/package, as a module."""
+    loader = importlib.machinery.SourceFileLoader("packing", os.path.join(TOP, "tools", "package"))
+    spec = importlib.util.spec_from_loader("packing", loader)
+    module = importlib.util.module_from_spec(spec)
+    loader.exec_module(module)
+    return module
+
+
+def languages_lack():
+    """Each package that tools/needs names for a language, and no package of a language depends on; each package of a
+    language that is made otherwise; what lintian says of it, if lintian is here."""
+    module, lacks = packing(), []
+    needed = part(r'^languages="([^"]*)"', text_of("tools", "needs"), "list of languages in tools/needs").split()
+    facts = {"version": "0.1.0", "date": "Mon, 30 Nov 2026 06:00:00 +0000"}
+    there, paths = set(), []
+    with tempfile.TemporaryDirectory() as folder:
+        for word in module.LANGUAGES:
+            paths.append(module.language_package(word, facts, folder, 1_000_000_000))
+            depends = printed("dpkg-deb", "--field", paths[-1], "Depends").strip().split(", ")
+            there |= set(depends)
+            lacks += [] if depends[0] == "planecarmine (= 0.1.0)" else [f"planecarmine-{word} of {depends[0]}"]
+        if shutil.which("lintian"):
+            said = subprocess.run(["lintian", *paths], capture_output=True, text=True, check=False)
+            lacks += [line for line in said.stdout.splitlines() if line[:2] in ("E:", "W:")]
+    if not shutil.which("lintian"):
+        print("packages of the languages: not read by lintian, which is not here")
+    return lacks + [f"{name}, which tools/needs names" for name in needed if name not in there]
+
+
 def judged(run):
     words = Words(run.program)
     run.case("package/racebench.1 lacks", page_lacks(words))
@@ -178,6 +211,8 @@ def judged(run):
     run.case("package/racebench-screen.1 lacks", screen_lacks("racebench-screen.1"))
     run.case("package/_racebench-screen lacks", screen_lacks("_racebench-screen"))
     run.case("package/racebench-screen.1, read by man", page_warnings("racebench-screen.1"))
+    if shutil.which("dpkg-deb"):
+        run.case("packages of the languages lack", languages_lack())
     for name, wrong in recorder_pages():
         run.case(name, wrong)
     if shutil.which("bash"):
