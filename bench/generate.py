@@ -215,7 +215,7 @@ def scattered_widely(events, threads):
 
 
 def own_locks(events, threads):
-    """Each thread takes one of 16 locks of its own before each write of one variable, or lets it go: nearly each write
+    """Each thread takes one of its 16 locks before each write of one variable, or lets it go: nearly each write
     is under other locks."""
     chance = random.Random(11)
     held = [set() for _ in range(threads)]
@@ -238,7 +238,7 @@ def nested_locks(events):
 
 
 def compared_locks(held, written):
-    """Two threads hold so many locks each, and write one variable at so many places each; half of the pairs are
+    """Two threads hold this many locks each, and write one variable at this many places each; half of the pairs are
     ordered."""
     locks = [[f"{side}{lock}" for lock in range(held)] for side in "ab"]
     lines = [f"T2|{word}({lock})|p" for lock in locks[0] + locks[1] for word in ("acq", "rel")]
@@ -311,7 +311,7 @@ def write_pairs(folder):
 
 
 def interleaved(clients, rounds):
-    """Each client makes a schedule of its own, and the clients in turn add to it and take the event off again."""
+    """Each client makes its own schedule, and the clients in turn add to it and take the event off again."""
     calls = [f"{c} new S{c}" for c in range(1, clients + 1)]
     for i in range(rounds):
         word = "add S{0} 0" if i % 2 == 0 else "back S{0}"
@@ -413,7 +413,7 @@ def seat_calls(client, row, calls):
 
 
 def write_seats(folder):
-    """Scripts for threads: of each client on a schedule of its own, and of all clients on one; and the same calls by
+    """Scripts for threads: of each client on its own schedule, and of all clients on one; and the same calls by
     one client alone, in turn."""
     os.makedirs(folder, exist_ok=True)
     write_trace(folder, "trace", ["T1|w(x)|1"])
