@@ -15,7 +15,7 @@ from .session import Session
 from .sheet import Sheet
 from .trace import Trace
 
-# So many sheets are kept. Each holds four bytes for each event of the trace, and more for each of its own.
+# How many sheets are kept. Each holds four bytes for each event of the trace, and more for each of its own.
 SHEETS = 8
 # The answer to a call that was accepted begins with its entry.
 ACCEPTED = re.compile(r"(\d+): ")

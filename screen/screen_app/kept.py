@@ -8,20 +8,20 @@ from typing import Any
 
 from .text import Told, clean
 
-# A file of names is read up to so many bytes, and a name up to so many characters.
+# A file of names is read up to this many bytes, and a name up to this many characters.
 BYTES, LONGEST = 16_384, 40
 CLIENTS = 32
-# The number of a client is read up to so many digits; Python reads no number of thousands.
+# The number of a client is read up to this many digits; Python reads no number of thousands.
 DIGITS = 9
-# So many bytes at each end of a trace are kept, to tell it from another one.
+# How many bytes at each end of a trace are kept, to tell it from another one.
 ENDS = 1 << 16
-# A file of endings is read up to so many bytes.
+# A file of endings is read up to this many bytes.
 MOST = 16 << 20
 MATTERS: dict[object, str] = {True: "the order matters", False: "the order makes no difference"}
 
 
 def bytes_of(path: str, most: int, flags: int = 0) -> bytes:
-    """So many bytes of a file at most. What is no plain file is not read: a pipe would wait for its writer."""
+    """This many bytes of a file at most. What is no plain file is not read: a pipe would wait for its writer."""
     number = os.open(path, os.O_RDONLY | os.O_NONBLOCK | os.O_CLOEXEC | flags)
     if not stat.S_ISREG(os.fstat(number).st_mode):
         os.close(number)

@@ -14,11 +14,11 @@ from .messages import Lock, Row, View
 from .sheet import SHORT, Sheet
 from .trace import NONE, OPERATIONS, READ, WRITE
 
-# So many events at the end always stand single.
+# How many events at the end always stand single.
 TAIL = 6
 # More threads than this have no lane each: the last lane is that of all others.
 LANES = 9
-# So many reads of a write are named.
+# How many reads of a write are named.
 READERS = 24
 
 
@@ -42,7 +42,7 @@ class Layout:
         self.sheet = sheet
         self.runs = self._special()
         self.parts: list[list[Part]] = []  # of each special run
-        self.shifts: list[int] = []  # behind each special run, how much lower rows stand than the sheet counts
+        self.shifts: list[int] = []  # after each special run, how much lower rows stand than the sheet counts
         shift = 0
         for run in self.runs:
             parts = list(self._cut(run, sheet.run_row[run] + shift))
@@ -115,7 +115,7 @@ class Layout:
                     yield part
 
     def overview(self, count: int = 180) -> list[int]:
-        """The threads of so many rows, spread over all."""
+        """The threads of this many rows, spread over all."""
         sheet = self.sheet
         return [sheet.run_thread[self._run_at(step * self.total // count)] for step in range(count)]
 
@@ -129,7 +129,7 @@ class Layout:
         return used
 
     def window(self, first: int, count: int) -> View:
-        """So many rows from the first on, with the locks beside them."""
+        """This many rows from the first on, with the locks beside them."""
         first = max(0, min(first, self.total))
         last = min(self.total, first + count)
         told: list[Row] = []

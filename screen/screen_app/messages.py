@@ -62,7 +62,7 @@ class Cause(TypedDict):
     joined: NotRequired[str]  # its name
     help: NotRequired[int]  # a run to this event would help
     helper: NotRequired[int]  # of this thread
-    steps: NotRequired[int]  # by so many events
+    steps: NotRequired[int]  # by this many events
 
 
 class Next(Event):
@@ -124,7 +124,7 @@ class Frontier(TypedDict):
     name: str
     length: int
     next: list[Next]
-    pairs: list[list[int]]  # pairs that stand side by side
+    pairs: list[list[int]]  # pairs that are side by side
     ended: int  # threads without an event to come
     witnessed: bool  # whether the aim's witness is known
     source: NotRequired[dict[str, str]]

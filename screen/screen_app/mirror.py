@@ -14,11 +14,11 @@ from .entries import Entry
 from .row import Row
 from .trace import Trace
 
-# The first line, which names the trace by a digest; behind it a byte is the gate of the next entry.
+# The first line, which names the trace by a digest; after it a byte is the gate of the next entry.
 HEAD = 81
-# So many bytes before the known end are looked at again: they tell the file from another one.
+# How many bytes before the known end are looked at again: they tell the file from another one.
 TAIL = 80
-# So many of the latest proposals are told at once.
+# How many of the latest proposals are told at once.
 PROPOSALS = 6
 
 
@@ -33,7 +33,7 @@ class Mirror:
         self.pops: dict[str, tuple[object, ...]] = {}  # the step that takes back an event of a schedule, made once
         self.version = 0
         self.digest = ""  # of the trace, as the log's first line has it
-        self.tail = b""  # what stands before the known end
+        self.tail = b""  # what is before the known end
         self.number = 0  # of the file that was read, as the system counts files
         self.is_followed = False  # whether changes of schedules are kept: pages show some, and others change them
         self.fault: str | None = None  # why the file is followed no longer
@@ -47,7 +47,7 @@ class Mirror:
         return (found.st_size, found.st_ino) != (self.offset + 1, self.number)
 
     def sync(self) -> int:
-        """Reads what stands behind the known end; the number of new entries.
+        """Reads what is after the known end; the number of new entries.
 
         There may be nothing, not even a gate: a session that takes away what a killed one left cuts the file at the
         gate, and then closes it.

@@ -6,7 +6,7 @@ from collections import Counter
 from .entries import Entry, schedule_of
 from .messages import NewsLine
 
-# So many entries are counted before others get a turn, and so many counts are kept: one for each tab that looks.
+# How many entries are counted before others get a turn, and this many counts are kept: one for each tab that looks.
 PORTION, KEPT = 200, 8
 
 

@@ -18,9 +18,9 @@ from .messages import Races as ToldRaces
 from .session import Gone, Session, output, triage
 from .text import Told, clean
 
-# So many lines of an explanation are shown.
+# How many lines of an explanation are shown.
 LINES = 400
-# So many witnesses are kept; each has four bytes an event.
+# How many witnesses are kept; each has four bytes an event.
 WITNESSES = 16
 # How far the look for races is, is told so often, in seconds.
 OFTEN = 0.5

@@ -1,7 +1,7 @@
 """Whether a schedule can still grow to one that shows an aim, a pair of events.
 
 Each schedule that shows the pair has the events that must-before puts before it. So a schedule cannot get there any
-more if such a read has lost its write, or if a lock that one of the pair's threads keeps has to be taken by another
+more if such a read has lost its write, or if a lock that one of the pair's threads keeps must be taken by another
 thread first. Beside that, a search goes on with the events of a known witness. If it comes to the pair, the aim can be
 reached. It does not find each way there.
 """
@@ -15,7 +15,7 @@ from typing import NamedTuple
 
 from .trace import ACQUIRE, JOIN, NONE, READ, RELEASE, WRITE, Trace
 
-# A search may take so many steps: events that are left, times threads.
+# A search may take this many steps: events that are left, times threads.
 MOST = 1_000_000
 
 

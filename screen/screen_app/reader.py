@@ -13,7 +13,7 @@ if TYPE_CHECKING:
 
 WORDS = (b"r", b"w", b"acq", b"rel", b"fork", b"join")
 BLANKS = b" \t\r\n"
-# So many bytes are read before others get a turn.
+# How many bytes are read before others get a turn.
 PORTION = 1 << 17
 # The kind of an operation stands in the lowest bits of its number, and the number of its name above them.
 KINDS, KINDS_AT = 7, 3
@@ -86,7 +86,7 @@ class Reader:
         self.lines = Lines(trace)
 
     def read(self, file: BinaryIO, length: int | None = None) -> Iterator[None]:
-        """Reads so many bytes, or all."""
+        """Reads this many bytes, or all."""
         rest, end = b"", sys.maxsize if length is None else file.tell() + length
         while text := file.read(max(0, min(PORTION, end - file.tell()))):
             kept, feed, rest = (rest + text).rpartition(b"\n")
@@ -147,7 +147,7 @@ def number_of(trace: Trace, operation: bytes) -> int:
 
 
 class Lines:
-    """Reads lines one by one. What stands before the location is parsed once and looked up from then on."""
+    """Reads lines one by one. What is before the location is parsed once and looked up from then on."""
 
     def __init__(self, trace: Trace) -> None:
         self.trace = trace

@@ -17,7 +17,7 @@ LONG, MOST = 4 << 20, 3
 
 
 def sections(path: str, number: int) -> list[tuple[int, int]]:
-    """Where so many sections of whole lines begin and end, all about as long."""
+    """Where this many sections of whole lines begin and end, all about as long."""
     with open(path, "rb") as file:
         size = file.seek(0, os.SEEK_END)
         ends = [0]

@@ -46,7 +46,7 @@ class Requests:
         request["asker"] = asker
         return await do(request)
 
-    # What stands where.
+    # What is where.
 
     async def do_hello(self, request: Told) -> messages.Hello:
         self.is_greeted.set()

@@ -6,7 +6,7 @@ from array import array
 from bisect import bisect_left
 from collections import deque
 
-# So many of the latest changes of a schedule are kept; a batch that adds events is one of them.
+# How many of the latest changes of a schedule are kept; a batch that adds events is one of them.
 CHANGES = 4096
 
 
@@ -68,7 +68,7 @@ class Row:
         self.changes.append(Change(entry, 0, old[:], self.events[:]))
 
     def events_at(self, number: int) -> list[int] | None:
-        """Its events when the log had so many entries; None if it changed too much since then."""
+        """Its events when the log had this many entries; None if it changed too much since then."""
         events = list(self.events)
         for change in reversed(self.changes):
             if change.entry < number:

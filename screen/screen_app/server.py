@@ -32,7 +32,7 @@ TYPES = {".html": "text/html", ".js": "text/javascript", ".css": "text/css", ".s
 FIRST_PAGE = 0.5
 # So long after a request the page is in use, and so long portions of other work are apart then, in seconds.
 USED, BREATH = 0.5, 0.02
-# How often the log is looked at, in seconds. The trace is looked at once for so many looks at the log.
+# How often the log is looked at, in seconds. The trace is looked at once for this many looks at the log.
 POLL, SELDOM = 0.05, 20
 # The longest message, the most sockets, the most that have not named their key, and how long they have for it.
 MESSAGE, SOCKETS, WAITING, PATIENCE = 1 << 16, 16, 16, 5

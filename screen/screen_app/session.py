@@ -10,12 +10,12 @@ from typing import Any
 
 # The longest line that is read from the program: `show` of a million events.
 LINE_LIMIT = 1 << 28
-# A list of races is kept up to so many blocks.
+# A list of races is kept up to this many blocks.
 MOST_BLOCKS = 200_000
-# How far the program is, as it says it; and so many of its last lines are told if it fails.
+# How far the program is, as it says it; and this many of its last lines are told if it fails.
 PROGRESS = re.compile(r"events \d+|pairs of places \d+ of \d+")
 LAST_LINES = 20
-# So many bytes of what a session said last are told. How long it has to end after its input did, or after a kill, and
+# How many bytes of what a session said last are told. How long it has to end after its input did, or after a kill, and
 # how long its pipes may be open after its output ended, in seconds.
 LAST_WORDS, ENDS, LAST = 4096, 3, 60
 # Steps come before what is looked for beside them. It is a command: no code is safe between a fork and the start.

@@ -11,7 +11,7 @@ from bisect import bisect_right
 from .sections import Sections
 from .trace import ACQUIRE, NONE, RELEASE, Trace
 
-# A run of so many events is drawn event by event.
+# A run of this many events is drawn event by event.
 SHORT = 4
 
 

@@ -60,7 +60,7 @@ class Shown:
         return clean(answer)
 
     def _is_other(self, number: int, low: int, high: int | None) -> bool:
-        """Whether the schedule had other events there, when the log had so many entries."""
+        """Whether the schedule had other events there, when the log had this many entries."""
         row, entries = self.bench.mirror.rows.get(self.name), self.bench.mirror.entries
         if row is None:
             return False  # the program says so

@@ -8,9 +8,9 @@ from .messages import SourceLines
 from .text import clean
 
 PLACE = re.compile(r"\s*(.+?):(\d+)")
-# At most so many files are known, so many bytes of each are read, and so many files are kept.
+# At most this many files are known, this many bytes of each are read, and this many files are kept.
 FILES, BYTES, KEPT = 50_000, 4 << 20, 64
-# A line is cut at so many bytes.
+# A line is cut at this many bytes.
 WIDTH = 400
 # Lines on either side that a look round a place may have.
 AROUND = 40

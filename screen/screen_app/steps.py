@@ -14,7 +14,7 @@ from .reach import Bar, Loss, loss_of, reach_of
 from .shown import Shown
 from .text import clean
 
-# The most commands of a batch; so many batches are written together.
+# The most commands of a batch; this many batches are written together.
 BATCH = 64
 CHUNK = 64
 # The longest line that is sent as a proposal; a line of a script has at most 65,536 bytes.

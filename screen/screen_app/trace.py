@@ -17,14 +17,14 @@ from .messages import Event
 READ, WRITE, ACQUIRE, RELEASE, FORK, JOIN = range(6)
 OPERATIONS = ("r", "w", "acq", "rel", "fork", "join")
 NONE = -1
-# A trace of so many events is connected before the first page; so many are taken before others get a turn.
+# A trace of this many events is connected before the first page; this many are taken before others get a turn.
 CONNECTED, PORTION = 20_000, 5_000
 
 
 class Part(NamedTuple):
     """What a section of the trace's file has: names in the order of their first use there, and columns of numbers."""
 
-    before: int  # so many events stand before it, if each line is one
+    before: int  # this many events stand before it, if each line is one
     threads: list[bytes]
     variables: list[bytes]
     locks: list[bytes]

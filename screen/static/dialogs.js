@@ -33,28 +33,6 @@ export function answer(key) {
   else if (key.length === 1) field.setRangeText(key, from, to, "end");
 }
 
-const KEYS = [
-  ["Next events", [
-    ["↑ ↓  j k", "choose a thread"], ["↵  1–9", "add its next event"], ["⌫", "take the last event back"],
-    ["r", "run the thread until it must stop"], ["t", "run it as far as the aim needs"],
-    ["f", "run what it waits for"], ["→ ←", "list what comes, fold the list; a click runs to there"],
-  ]],
-  ["Schedule", [
-    ["↑ ↓  j k", "move the cursor"], ["Alt ↑ ↓", "swap with the neighbour"],
-    ["↵", "open or close a block, go to the write that is read"], ["b", "branch after the cursor"],
-    ["v", "show the source around the event"],
-  ]],
-  ["Work", [
-    ["w", "witness of the aim; work on it"], ["e", "start empty towards the aim"], ["x", "why: the explanation"],
-    ["p", "propose the pair that is shown"], ["n", "new schedule"], ["[ ]", "previous, next schedule"],
-    ["u  Ctrl z", "undo your latest step"], ["s", "mark the log as seen"],
-  ]],
-  ["Screen", [
-    ["F6", "next pane"], ["Shift F6", "previous pane"], ["Home End", "first, last line of a list"],
-    ["↵", "open a race, work on its witness"], ["/", "filter the races"], ["?", "keys"], ["Esc", "close"],
-  ]],
-];
-
 function group([title, lines]) {
   return el("div", "", el("h3", "", title),
     lines.map(([key, does]) => el("div", "key", el("kbd", "", key), el("span", "", does))));
@@ -69,7 +47,8 @@ function show(title, ...inner) {
   box.scrollTop = 0; // the button that has the focus may be below what is in sight
 }
 
-export const showKeys = () => show("Keys", el("div", "keys", KEYS.map(group)));
+// `keys` is the table of keys.js.
+export const showKeys = (keys) => show("Keys", el("div", "keys", keys.map(group)));
 
 // Each link opens once, so another browser gets one of its own.
 export async function showLink() {

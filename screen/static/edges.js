@@ -15,7 +15,7 @@ export function clear() {
   for (const old of space.querySelectorAll(".reads")) old.remove();
 }
 
-// One end of a line; a row outside the window stands at its edge.
+// One end of a line; a row outside the window is drawn at its edge.
 function end(win, position, row, outside) {
   const at = rowAt(win, position);
   return at < 0 ? [axis(row.thread), outside] : [axis(win.rows[at].thread), (at + 0.5) * HEIGHT];

@@ -12,11 +12,11 @@ const SHOWN = 120;
 const MORE = 200;
 const MOST = 520;
 const KEPT = 8_000;
-// So many threads of a group are named.
+// How many threads of a group are named.
 const NAMED = 4;
-// So many entries are looked at for later steps than a long one.
+// How many entries are looked at for later steps than a long one.
 const FAR = 1_000;
-// So many entries behind one that is jumped to are shown, and so many before it.
+// How many entries after one that is jumped to are shown, and this many before it.
 const BEHIND = 40;
 const BEFORE = 20;
 // How long a look lasts before it counts, and how long news are gathered.
@@ -29,7 +29,7 @@ export const events = { open: null, act: null, adopt: null, say: null, seen: nul
 let hasBegun = false;
 let flashed = null;
 let shown = SHOWN;
-let end = null; // behind the last entry that is shown, where that is not the latest
+let end = null; // after the last entry that is shown, where that is not the latest
 let keeping = null;
 let looking = null;
 

@@ -11,7 +11,7 @@ import { showPair } from "./pair.js";
 
 // With more threads than this there is a filter, and those that the aim needs come first.
 const FEW = 12;
-// So many events to come are shown.
+// How many events to come are shown.
 const AHEAD = 40;
 const list = $("next-list");
 const filter = $("next-filter");

@@ -54,26 +54,6 @@ const inTurn = (keys) => Object.fromEntries(Object.entries(keys).map(([key, does
 const ofShown = (step) => (before = sheet.shown()) => inOrder(ofSchedule(() => step(sheet.meant(before))));
 const down = (move) => ({ ArrowDown: () => move(1), j: () => move(1), ArrowUp: () => move(-1), k: () => move(-1) });
 
-// By pane.
-const IN = {
-  stage: {
-    ...inTurn({
-      ...down(sheet.step), Enter: sheet.enter, Home: () => sheet.jump(0), End: () => sheet.jump(last()),
-    }),
-    "Alt+ArrowUp": ofShown((shown) => swap(shown, -1)), "Alt+ArrowDown": ofShown((shown) => swap(shown, 1)),
-  },
-  "race-list": {
-    ...down(races.step), Home: () => races.jump(0), End: () => races.jump(Infinity), Enter: () => inOrder(openRace),
-  },
-  "row-list": {
-    ...inTurn({ ...down(neighbour), Home: () => edge(0), End: () => edge(-1) }), Enter: goToNext,
-  },
-  "next-list": inTurn({
-    ...down(frontier.move), Home: () => frontier.move(-Infinity), End: () => frontier.move(Infinity),
-    Enter: ofSchedule(() => frontier.add()), ArrowRight: ofSchedule(frontier.unfold), ArrowLeft: frontier.fold,
-  }),
-};
-
 // The keys that follow are for what may come next, though the schedule may be opened later.
 function goToNext() {
   $("next-list").focus();
@@ -129,18 +109,78 @@ function filterRaces() {
   $("race-filter").focus();
 }
 
-// Everywhere.
-const ANYWHERE = {
-  "?": showKeys, "/": filterRaces, F6: () => nextPane(1), "Shift+F6": () => nextPane(-1), n: views.fresh,
-  s: markSeen, b: branch, Backspace: () => takeBack(),
-  ...inTurn({
-    u: undoLatest, "Ctrl+z": undoLatest, p: ofSchedule(propose),
-    r: ofSchedule(() => frontier.run()), t: ofSchedule(() => frontier.toAim()),
-    f: ofSchedule(() => frontier.follow()), x: ofAim(views.why), e: ofAim(views.startEmpty), v: viewSource,
-    w: () => (state.view?.witness ? views.take() : ofAim(views.witness)()),
-    "[": () => neighbour(-1), "]": () => neighbour(1),
-  }),
-};
+const ends = (first, last) => ({ Home: first, End: last });
+const ALL = "all"; // of panes: the key does this if the pane has no key of this name
+
+// Each key: how it is written, what it does, and what the page calls for it, by pane. `?` lists this table, and
+// tools/keys makes the table of docs/SCREEN.md.
+const KEYS = [
+  ["Next events", [
+    ["↑ ↓  j k", "choose a thread", { "next-list": inTurn(down(frontier.move)) }],
+    ["↵", "add its next event", { "next-list": inTurn({ Enter: ofSchedule(() => frontier.add()) }) }],
+    ["1–9", "add the next event of this thread", {}],
+    ["⌫", "take the last event back", { [ALL]: { Backspace: () => takeBack() } }],
+    ["r", "run the thread until it must stop", { [ALL]: inTurn({ r: ofSchedule(() => frontier.run()) }) }],
+    ["t", "run it as far as the aim needs", { [ALL]: inTurn({ t: ofSchedule(() => frontier.toAim()) }) }],
+    ["f", "run what it waits for", { [ALL]: inTurn({ f: ofSchedule(() => frontier.follow()) }) }],
+    ["→ ←", "list what comes, fold the list; a click runs to there", {
+      "next-list": inTurn({ ArrowRight: ofSchedule(frontier.unfold), ArrowLeft: frontier.fold }),
+    }],
+  ]],
+  ["Schedule", [
+    ["↑ ↓  j k", "move the cursor", { stage: inTurn(down(sheet.step)) }],
+    ["Alt ↑ ↓", "swap with the neighbour; you can also drag the event", {
+      stage: {
+        "Alt+ArrowUp": ofShown((shown) => swap(shown, -1)), "Alt+ArrowDown": ofShown((shown) => swap(shown, 1)),
+      },
+    }],
+    ["↵", "open or close a block, go to the write that is read", { stage: inTurn({ Enter: sheet.enter }) }],
+    ["b", "branch after the cursor", { [ALL]: { b: branch } }],
+    ["v", "show the source around the event", { [ALL]: inTurn({ v: viewSource }) }],
+  ]],
+  ["Work", [
+    ["w", "witness of the aim; work on it", {
+      [ALL]: inTurn({ w: () => (state.view?.witness ? views.take() : ofAim(views.witness)()) }),
+    }],
+    ["e", "start empty towards the aim", { [ALL]: inTurn({ e: ofAim(views.startEmpty) }) }],
+    ["x", "why: the explanation", { [ALL]: inTurn({ x: ofAim(views.why) }) }],
+    ["p", "propose the pair that is shown", { [ALL]: inTurn({ p: ofSchedule(propose) }) }],
+    ["n", "new schedule", { [ALL]: { n: views.fresh } }],
+    ["[ ]", "previous, next schedule", { [ALL]: inTurn({ "[": () => neighbour(-1), "]": () => neighbour(1) }) }],
+    ["u  Ctrl z", "undo your latest step", { [ALL]: inTurn({ u: undoLatest, "Ctrl+z": undoLatest }) }],
+    ["s", "mark the log as seen", { [ALL]: { s: markSeen } }],
+  ]],
+  ["Lists of races and schedules", [
+    ["↑ ↓  j k", "choose a race, a schedule", {
+      "race-list": down(races.step), "row-list": inTurn(down(neighbour)),
+    }],
+    ["↵", "open a race, work on its witness; go to the next events of a schedule", {
+      "race-list": { Enter: () => inOrder(openRace) }, "row-list": { Enter: goToNext },
+    }],
+    ["Home End", "first, last line of each list", {
+      stage: inTurn(ends(() => sheet.jump(0), () => sheet.jump(last()))),
+      "race-list": ends(() => races.jump(0), () => races.jump(Infinity)),
+      "row-list": inTurn(ends(() => edge(0), () => edge(-1))),
+      "next-list": inTurn(ends(() => frontier.move(-Infinity), () => frontier.move(Infinity))),
+    }],
+    ["/", "filter the races", { [ALL]: { "/": filterRaces } }],
+  ]],
+  ["Screen", [
+    ["F6", "next pane, also from a field", { [ALL]: { F6: () => nextPane(1) } }],
+    ["Shift F6", "previous pane", { [ALL]: { "Shift+F6": () => nextPane(-1) } }],
+    ["?", "keys", { [ALL]: { "?": listKeys } }],
+    ["Esc", "close what is open", {}],
+  ]],
+];
+
+// What the keys of a pane do.
+const keysOf = (pane) => Object.assign({}, ...KEYS.flatMap(([, lines]) => lines.map(([, , does]) => does[pane] ?? {})));
+const IN = Object.fromEntries(["stage", "race-list", "row-list", "next-list", ALL].map((pane) => [pane, keysOf(pane)]));
+
+// A function, since the table names it before it is whole.
+export function listKeys() {
+  showKeys(KEYS);
+}
 
 // Signs that some keyboards have with Alt alone.
 const SIGNS = "[]/?";
@@ -158,7 +198,7 @@ function meant(event) {
   const isButton = event.target.closest("button, a") && (event.key === "Enter" || event.key === " ");
   if (isButton) return null;
   if (/^[1-9]$/.test(name)) return () => inOrder(ofSchedule(() => frontier.digit(Number(name) - 1)));
-  return IN[paneOf(document.activeElement) ?? "next-list"]?.[name] ?? ANYWHERE[name];
+  return IN[paneOf(document.activeElement) ?? "next-list"]?.[name] ?? IN[ALL][name];
 }
 
 // Those that lead from a field to the panes.

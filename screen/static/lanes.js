@@ -108,7 +108,7 @@ function bar(held, slot) {
   return made;
 }
 
-// The bars of locks: those that a thread holds at once stand side by side.
+// The bars of locks: those that a thread holds at once are side by side.
 export function bars(locks) {
   const slots = new Map();
   return locks.map((held) => {

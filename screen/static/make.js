@@ -46,7 +46,7 @@ export function button(text, key, act, classes = "") {
   return does(made, act);
 }
 
-// A link inside a text. It leads to a part of the page, so it has no address, and the keyboard has to be let to it.
+// A link inside a text. It leads to a part of the page, so it has no address, and the keyboard must be let to it.
 export function linked(text, act, classes) {
   const made = el("a", classes, text);
   made.tabIndex = 0;

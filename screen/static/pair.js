@@ -1,4 +1,4 @@
-// The pair that stands side by side: both accesses are next in their threads.
+// The pair that is side by side: both accesses are next in their threads.
 import { $, el, fill, button, many } from "./make.js";
 import { later } from "./queue.js";
 import { state, viewed, tag, operation, place, reason, short } from "./words.js";

@@ -2,7 +2,7 @@
 // goes down: then the node, and what it does, are noted, and the click does that, whatever was drawn until the button
 // went up.
 
-// A hand that presses stays within so many pixels.
+// A hand that presses stays within this many pixels.
 const NEAR = 6;
 // A click comes so soon after the button went up, and the second tap of a double tap so soon after the first, in
 // milliseconds. The browser itself counts the presses of a mouse.

@@ -7,7 +7,7 @@ import { ask } from "./net.js";
 import { nameOf, place } from "./words.js";
 
 const HEIGHT = 58;
-// So many races are fetched at once; a new window begins so many before what is to be seen.
+// How many races are fetched at once; a new window begins this many before what is to be seen.
 const WINDOW = 80;
 const BEFORE = 30;
 // Who walks down the list by keys looks at the race on which he rests.

@@ -6,7 +6,7 @@ import * as sight from "./sight.js";
 import { state, who, clientName } from "./words.js";
 
 const HEIGHT = 24;
-// So many of the latest proposals are shown.
+// How many of the latest proposals are shown.
 const PROPOSALS = 6;
 const list = $("row-list");
 const space = sight.space("row-space");

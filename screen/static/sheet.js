@@ -8,9 +8,9 @@ import * as edges from "./edges.js";
 import * as map from "./map.js";
 import { later } from "./queue.js";
 
-// So many rows beyond the sight are drawn on both sides.
+// How many rows beyond the sight are drawn on both sides.
 const AHEAD = 24;
-// The words that stand where there is no event, and their height.
+// The text of a row without an event, and its height.
 const NONE_YET = "No events yet. Choose one below.";
 const NONE_NEEDED = "No events are needed before these two.";
 const NOTHING = 36;

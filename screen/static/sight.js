@@ -1,7 +1,7 @@
 // Lists of which only what is in sight is drawn, and some on both sides. All lines of such a list have one height.
 import { el } from "./make.js";
 
-// So many lines beyond the sight are drawn on both sides.
+// How many lines beyond the sight are drawn on both sides.
 const SIDES = 6;
 
 // What the lines stand in; it is as high as all of them.
@@ -12,7 +12,7 @@ export function space(id) {
   return made;
 }
 
-// The first line that is drawn, and that behind the last.
+// The first line that is drawn, and that after the last.
 export function inSight(list, height) {
   const top = Math.floor(list.scrollTop / height) - SIDES;
   return [Math.max(0, top), top + Math.ceil(list.clientHeight / height) + 2 * SIDES + 1];

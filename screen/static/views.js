@@ -39,7 +39,7 @@ function remember(look) {
     if (kept === null || isSame) history.replaceState(look, "");
     else history.pushState(look, "");
   } catch {
-    // a browser may refuse more looks than so many in a second
+    // a browser may refuse more looks than this many in a second
   }
 }
 
@@ -109,7 +109,7 @@ export function close() {
   bar();
 }
 
-// The program shows the schedule once, and that has to be what is drawn.
+// The program shows the schedule once, and that must be what is drawn.
 async function check(name) {
   const told = await ask("check", { name });
   if (told.same !== false || state.view?.schedule !== name) return;

@@ -10,11 +10,16 @@ export const state = {
 // The schedule or the witness of a view, for a request.
 export const viewed = ({ schedule, witness }) => (witness ? { witness } : { schedule });
 
-// So many signs at the end of a name are the last to be cut.
+// How many signs at the end of a name are the last to be cut.
 const END = 9;
 
 // Letters that are read from right to left. Parts stand from left to right, so a name with such letters is one part.
 const LEFTWARD = /[\u0590-\u08ff\ufb1d-\ufdff\ufe70-\ufefc\u{10800}-\u{10fff}\u{1e800}-\u{1efff}]/u;
+
+// The last member of a variable, with the indices around it: there the names of a trace differ. It is in so many letters
+// at the end.
+const MEMBER_ROOM = 64;
+const MEMBER = /(?:\[\d+\])*[.:][^.:[\]]+(?:\[\d+\])*(?:\+\d+)?$/u;
 
 // A name that is written as its first letter is: if there is no room, its end is cut and not its beginning.
 function named(kind, text) {
@@ -23,20 +28,24 @@ function named(kind, text) {
   return made;
 }
 
-// A text in parts: where there is no room for all of it, the folder is cut first, then the front, and the end last.
+// A text in parts: where there is no room for all of it, the folder is cut first, then the front, then a member, and the
+// end last.
 function inParts(kind, text, folder = 0, calls = null) {
   const signs = [...text.slice(folder)];
   const isCut = signs.length > END + 7 && !LEFTWARD.test(text.slice(folder));
   const front = isCut ? signs.slice(0, -END).join("").length : 0;
   if (!folder && !front && !calls) return named(`${kind} whole`, text);
-  const cut = [[text.slice(0, folder), "folder"], [text.slice(folder, folder + front), "front"],
-    [text.slice(folder + front), "end"]];
+  const [end, rest] = [folder + front, Math.max(folder, text.length - MEMBER_ROOM)];
+  const found = text.slice(rest).search(MEMBER);
+  const member = found > 0 && rest + found < end ? rest + found : end;
+  const cut = [[text.slice(0, folder), "folder"], [text.slice(folder, member), "front"],
+    [text.slice(member, end), "member"], [text.slice(end), "end"]];
   return el("bdi", kind, cut.map(([part, which]) => (part ? el("span", which, part) : null)), calls);
 }
 
 export const nameOf = (text, kind = "name") => inParts(kind, text);
 
-// Where a name stands among others in a line, so many of its signs are shown; a title has all of them.
+// Where a name stands among others in a line, this many of its signs are shown; a title has all of them.
 const [THREAD, NAME] = [20, 60];
 function cut(text, most) {
   const signs = [...text];

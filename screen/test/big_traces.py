@@ -16,7 +16,7 @@ SEEN = "[...document.querySelectorAll('.row')].some((r) => r.offsetTop <= 20000 
 
 
 async def batches(program, count):
-    """Adds so many events in the order of the trace, as another client."""
+    """Adds this many events in the order of the trace, as another client."""
     process = await asyncio.create_subprocess_exec(
         program,
         "session",

@@ -57,7 +57,7 @@ async def deaf(browser, screen, events, threads=8, script=DEAF):
 
 
 async def shows(page, length):
-    """Waits until a schedule of so many events is drawn, and nothing more has to come."""
+    """Waits until a schedule of this many events is drawn, and nothing more has to come."""
     await settled(page)
     await page.until(
         f"{ROWS} === {length} && {LENGTH} === '{length} event{'' if length == 1 else 's'}' && "
@@ -281,7 +281,7 @@ async def asked(page):
 
 
 async def test_a_branch_is_for_the_events_that_are_shown(program):
-    """Also if they change while the name is asked for. What comes behind them does not matter."""
+    """Also if they change while the name is asked for. What comes after them does not matter."""
     traces.write("trace", FREE)
     async with Screen(program, "trace", "log") as screen, Browser() as browser:
         page = await deaf(browser, screen, 4)

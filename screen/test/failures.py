@@ -26,7 +26,7 @@ from screen_app.trace import Trace  # noqa: E402
 SCREEN = os.path.join(os.path.dirname(os.path.dirname(os.path.abspath(__file__))), "screen")
 # How long what has to come may take on a busy machine, in seconds.
 PATIENCE = 600
-# A program whose output ends while it goes on, and a process of its own that has its error.
+# A program whose output ends while it goes on, and another process that has its error.
 DEAF = """#!/bin/sh
 echo $$ > deaf.pid
 cat hold > /dev/null &

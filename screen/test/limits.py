@@ -105,7 +105,7 @@ async def test_a_request_that_cannot_be_read(program):
             for part in ("frame-ancestors 'none'", "nosniff", "Cross-Origin-Resource-Policy: same-origin"):
                 assert part in head, (part, head)
             assert "aiohttp" not in head and "xxx" not in answer.decode(), answer
-        screen.has_page = True  # then its terminal has to be clean
+        screen.has_page = True  # then its terminal must be clean
 
 
 async def test_a_socket_that_asks_without_end(program):

@@ -43,7 +43,7 @@ async def test_a_witness_that_fits_no_line(program):
 
 
 async def test_a_run_that_goes_on(program):
-    """So many events are added at once, and the page is told how many are left."""
+    """Many events are added at once, and the page is told how many are left."""
     bench = await bench_of(program, "".join(f"T1|w(a{at % 9})|a:{at}\n" for at in range(300)))
     most, steps.MOST = steps.MOST, 130
     try:

@@ -540,3 +540,24 @@ async def test_colours_of_the_system(program):
         pressed = "[...document.querySelectorAll('.chip')].map((c) => getComputedStyle(c).backgroundColor)"
         same(await page.run(f"new Set({pressed}).size"), 2)
         is_clean(page, screen)
+
+
+# The names of a trace with two blocks of one type, and of each card what is cut of the last member.
+ALIKE = "".join(
+    f"{thread}|w(heap:connection_cache.cpp:32 connections.second.{member}_connections)|a.c:{line}\n"
+    for line, member in enumerate(("open", "shut"), 1)
+    for thread in ("T0", "T1")
+)
+MEMBERS = """[...document.querySelectorAll('.race .variable')].map((name) => {
+    const [member, end] = [name.querySelector('.member'), name.querySelector('.end')];
+    const isCut = (part) => part.scrollWidth > part.clientWidth + 1;
+    return isCut(member) || isCut(end) ? 'cut' : member.textContent + end.textContent;
+  }).sort().join()"""
+
+
+async def test_cards_show_the_last_member(program):
+    traces.write("trace", ALIKE)
+    async with Screen(program, "trace", "log") as screen, Browser() as browser:
+        page = await browser.page(screen.link, 1280, 900)
+        await page.until(f"{MEMBERS} === '.open_connections,.shut_connections'")
+        is_clean(page, screen)

@@ -156,7 +156,7 @@ async def test_keys_typed_ahead(program):
 
 
 async def test_keys_typed_ahead_of_a_question(program):
-    """Those behind the key for a branch are for its name, and those behind the name for the branch."""
+    """Those after the key for a branch are for its name, and those after the name for the branch."""
     traces.write("trace", traces.COUNT)
     async with Screen(program, "trace", "log") as screen, Browser() as browser:
         page = await browser.page(screen.link)

@@ -12,7 +12,7 @@ from comparing import same
 from two_analysts import session
 from stage import TITLE, Screen, is_clean, settled
 
-# How long the page may take until it shows what the program says, in seconds, and how often it has to be settled.
+# How long the page may take until it shows what the program says, in seconds, and how often it must be settled.
 PATIENCE, REST = 240, 3
 STEPS = 30
 SHOWN = r"""(() => {

@@ -123,7 +123,7 @@ def mirrored(program, draw, trace):
 
 
 def grown(path, lines):
-    """The file as it grows, a line at a time: the gate behind its last line is closed."""
+    """The file as it grows, a line at a time: the gate after its last line is closed."""
     with open(path, "wb") as file:
         for number in range(len(lines)):
             file.seek(0)
@@ -303,7 +303,7 @@ def test_windows_are_parts_of_the_whole(program):
 
 
 def test_the_reads_of_a_write_that_are_named(program):
-    """So many as a line has room for; the page is told whether there are others."""
+    """As many as a line has room for; the page is told whether there are others."""
     traces.write("reads", "T0|w(x)|a:0\n" + "".join(f"T{at}|r(x)|b:{at}\n" for at in range(1, 27)))
     for reads, others in ((0, False), (1, False), (24, False), (25, True), (26, True)):
         sheet = Sheet(Trace("reads").read_at_once())

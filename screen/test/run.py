@@ -1,7 +1,7 @@
 #!/usr/bin/python3
 """Tests the screen: run.py PROGRAM [NAME..] by all tests, or those whose names have one of the words.
 
-Each test runs in a folder of its own. One that fails is tried once more, when all others have ended; a test that
+Each test runs in its own folder. One that fails is tried once more, when all others have ended; a test that
 passes then is a defect to be mended, and the last line names it. The last line is `N passed, M failed` otherwise.
 """
 

@@ -104,7 +104,7 @@ async def test_scrolling_up_while_rows_are_under_way(program):
     """What was asked for while the end was in sight puts nobody back to it."""
     async with reading_of(program) as reading:
         page = reading.page
-        for by in (10 * ROW, 150 * ROW):  # to rows that are there, and to rows that have to be fetched
+        for by in (10 * ROW, 150 * ROW):  # to rows that are there, and to rows that must be fetched
             for pause in ("", f"await {FRAMES};"):  # the event of it comes after the answer, or before
                 await page.run("hold()")
                 await reading.add()

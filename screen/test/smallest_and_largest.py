@@ -234,7 +234,7 @@ async def test_a_session_killed_in_a_run(program):
 
 
 async def test_what_a_killed_session_left(program):
-    """Lines behind a closed gate do not count: not for the page, and the next session writes over them."""
+    """Lines after a closed gate do not count: not for the page, and the next session writes over them."""
     traces.write("trace", traces.COUNT)
     async with Screen(program, "trace", "log") as screen, Browser() as browser:
         page = await browser.page(screen.link)
@@ -256,7 +256,7 @@ async def test_what_a_killed_session_left(program):
 
 async def test_a_log_without_its_last_gate(program):
     """A session that takes away what a killed one left cuts the file, and then closes the gate. A disk may take long
-    in between, and the page goes on behind that."""
+    in between, and the page goes on after that."""
     traces.write("trace", traces.COUNT)
     async with Screen(program, "trace", "log") as screen, Browser() as browser:
         page = await browser.page(screen.link)
@@ -527,7 +527,7 @@ async def test_proposals_while_another_does_much(program):
         is_clean(page, screen)
 
 
-# What the server tells of a log that grows to so many entries while it is looked at.
+# What the server tells of a log that grows to this many entries while it is looked at.
 GROWS = """import("/feed.js").then((feed) => {
   for (let n = 300; n <= 9000; n += 300) {
     const entry = (at) => ({ number: n - 300 + at, client: 2, kind: "new", name: "B", text: "new B" });

@@ -24,7 +24,7 @@ SAYINGS = "(document.getElementById('said').dataset.n ?? '')"
 LENGTH = "document.querySelector('#bar .line > .dim')?.textContent"
 TITLE = "!!document.getElementById('title').textContent"
 FRAMES = "new Promise((done) => requestAnimationFrame(() => requestAnimationFrame(() => setTimeout(done))))"
-# Whether a page has so many entries, does no step and waits for no answer, and whether that is so two frames later.
+# Whether a page has this many entries, does no step and waits for no answer, and whether that is so two frames later.
 SETTLED = (
     "(async () => {{ const [net, queue, words] = await Promise.all(['net', 'queue', 'words']"
     ".map((name) => import(`/${{name}}.js`))); const is = () => words.state.title && "
@@ -173,7 +173,7 @@ async def press_at_once(page, key, modifiers=0):
 
 
 async def new(page, threads, name=None):
-    """Makes a schedule by the key, and waits until it is open and so many threads have a next event."""
+    """Makes a schedule by the key, and waits until it is open and this many threads have a next event."""
     await settled(page)
     await page.key("n")
     await page.until("document.getElementById('ask').open")

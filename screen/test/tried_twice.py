@@ -11,7 +11,7 @@ from second_tries import LAST, last_line
 
 
 class Case:
-    """A test that fails so many times, and then passes."""
+    """A test that fails this many times, and then passes."""
 
     def __init__(self, failures):
         self.failures, self.tries = failures, 0

@@ -166,7 +166,7 @@ BARS = "[...document.querySelectorAll('.lock')].map((l) => [l.title, l.classList
 
 
 async def test_locks_that_are_held_at_once(program):
-    """They stand side by side, and one that is held still ends with the last row."""
+    """They are side by side, and one that is held still ends with the last row."""
     lines = ["acq(l)", "acq(m)", "w(x)", "rel(m)", "acq(n)", "w(x)", "rel(n)", "w(x)"]
     traces.write("trace", "".join(f"T1|{line}|a:{at}\n" for at, line in enumerate(lines)))
     await session(program, 1, "new A\n" + "".join(f"add A {event}\n" for event in range(8)))
@@ -288,7 +288,7 @@ drop C
 
 
 async def test_what_each_entry_says(program):
-    """Each kind of entry has a sentence of its own, and each name in it is a link."""
+    """Each kind of entry has its own sentence, and each name in it is a link."""
     traces.write("trace", "T0|w(a)|a:1\nT1|w(b)|b:1\nT0|w(c)|a:2\nT1|w(c)|b:2\nT1|w(d)|b:3\n")
     await session(program, 2, CALLS)
     async with Screen(program, "trace", "log") as screen, Browser() as browser:
