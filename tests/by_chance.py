@@ -5,7 +5,7 @@ from collections import namedtuple
 import plain
 
 THREADS = ["main", "T1", "T2", "worker.b", "5"]
-# A thread that is only forked and joined: its fork and its join may stand side by side.
+# A thread that is only forked and joined: its fork and its join may be side by side.
 IDLE = "idle"
 VARIABLES = ["x", "y", "a[0](1)"]
 LOCKS = ["l", "m"]
@@ -125,7 +125,7 @@ def locked_trace(chance, most):
 
 
 def probed(drawn):
-    """The trace with a write before and a write behind each pair of events, of a variable of their own: the two writes
+    """The trace with a write before and a write after each pair of events, of a variable of their own: the two writes
     are a candidate exactly where no chain of edges leads from the first event to the second."""
     events = []
     numbers = range(len(drawn.events))
@@ -149,7 +149,7 @@ def event(chance, trace_, listed):
 
 
 def neighbours(chance, trace_, listed):
-    """A place in the list, most often one whose event may change places with the next; also one behind its end."""
+    """A place in the list, most often one whose event may change places with the next; also one after its end."""
     apart = [at for at in range(len(listed) - 1) if trace_.independent(listed[at], listed[at + 1])]
     if apart and chance.random() < 0.7:
         return chance.choice(apart)
@@ -250,7 +250,7 @@ def call_of_client(chance, log, names, mood, client):
 
 
 def script(chance, trace_, length, clients=None):
-    """So many calls of several clients, each with its client, the line that it is answered by and the log before it;
+    """This many calls of several clients, each with its client, the line that it is answered by and the log before it;
     and the log after all."""
     clients = clients or chance.sample(range(1, 33), chance.randint(2, 5))
     names = chance.sample(SCHEDULES, chance.randint(2, 4))

@@ -45,7 +45,7 @@ def written(old, place, data):
 
 
 def parts_of(size):
-    """Where a write of so many bytes may be cut short."""
+    """Where a write of this many bytes may be cut short."""
     return range(size + 1) if size <= 40 else sorted({0, 1, 2, size // 2, size - 2, size - 1, size})
 
 

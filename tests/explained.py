@@ -1,7 +1,7 @@
 """Judges what `explain` printed of a pair, by tests/plain.py, which answers from the definitions.
 
 A schedule is told by its runs, a pair that is apart by a chain of reasons or by a lock, and one that is undecided by a
-chain of SHB. Each link of a chain has to be one of the definition, and what no definition fixes may be any of what is
+chain of SHB. Each link of a chain must be one of the definition, and what no definition fixes may be any of what is
 true.
 """
 
@@ -69,7 +69,7 @@ def blanks_of(line):
 
 
 def event_of(trace, line, blanks):
-    """The number of the event whose line this is, behind so many blanks."""
+    """The number of the event whose line this is, after this many blanks."""
     number = line[blanks:].split(" ")[0]
     event = int(number) if number.isdecimal() else None
     if event is None or not trace.is_event(event) or line != " " * blanks + numbered(trace, event):

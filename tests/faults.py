@@ -14,7 +14,7 @@ nothing else. Standard error may have several messages: those before the fault a
   a thread         what is wanted, since another thread makes the calls of such a script; or `no thread`, if workers are
                    asked for
   a write at a place, a cut, a sync, a lock, a new name of a session's log: `write failed`, or `read failed` if the lock
-                   is not had; never what is wanted, but for a write of one byte that cannot be cut
+                   is not had; never what is wanted, except for a write of one byte that cannot be cut
 A call that is interrupted and one that moves a single byte change nothing.
 
 The log that a session leaves has the lines from before and those of the calls that were answered, and no others. Only
@@ -61,7 +61,7 @@ DISK_WAYS = [
     ("flock", "error"),
     ("link", "error"),
 ]
-# How a message of the program begins; it may be a write of its own.
+# How a message of the program begins; it may be its own write.
 NAME = b"racebench: "
 # How long the runs of one sweep may take, in seconds.
 LONGEST = 3600
@@ -125,7 +125,7 @@ def says_less(line, known):
 
 
 def are_but_for_notes(lines, known):
-    """Whether the lines are the known ones, in their order, but for notes that are missing or say less."""
+    """Whether the lines are the known ones, in their order, except for notes that are missing or say less."""
     at = 0
     for line in known:
         if lines[at : at + 1] == [line] or any(says_less(told, line) for told in lines[at : at + 1]):
@@ -168,7 +168,7 @@ def differs_in_notes(run, wanted):
 
 
 def lacks_a_reason(run, wanted):
-    """Whether the run ended with status 4 as the case wants, but for the line that says why nothing is green."""
+    """Whether the run ended with status 4 as the case wants, except for the line that says why nothing is green."""
     lines, known = run.err.splitlines(), wanted.err.splitlines()
     return (
         run.status == wanted.status == 4
@@ -178,13 +178,13 @@ def lacks_a_reason(run, wanted):
 
 
 def lacks_notes(run, wanted):
-    """Whether the run ended as the case wants, but for notes that are missing."""
+    """Whether the run ended as the case wants, except for notes that are missing."""
     lines, known = run.err.splitlines(), wanted.err.splitlines()
     return (run.status, run.out) == (wanted.status, wanted.out) and are_but_for_notes(lines, known)
 
 
 def lacks_a_write(err, known):
-    """Whether a standard error is the known one, but for one write to it that failed: from some byte up to a line's
+    """Whether a standard error is the known one, except for one write to it that failed: from some byte up to a line's
     start, to the end of a word there that begins a message, or up to the end."""
     starts = [0, *(at + 1 for at, byte in enumerate(known) if byte == ord("\n"))]
     begun = [start + len(word) for start in starts for word in (NAME, b"note: ") if known.startswith(word, start)]
@@ -213,7 +213,7 @@ def is_told_in_threads(run, wanted):
 
 
 def is_told_in_session(run, wanted):
-    """Whether one line is answered by want of memory, those before it as the case wants, and each behind it by
+    """Whether one line is answered by want of memory, those before it as the case wants, and each after it by
     something."""
     lines, known = run.out.splitlines(), wanted.out.splitlines()
     at = next((at for at, line in enumerate(lines) if line == b"refused 56 out of memory"), 0)
@@ -329,7 +329,7 @@ def lines_behind_turns(log, out):
 
 
 def judge_left(run, wanted, kind, log):
-    """The log that a run left has to be the one from before, and all that was answered, and no part of a turn."""
+    """The log that a run left must be the one from before, and all that was answered, and no part of a turn."""
     if wanted.status != 0:
         if run.left != log.before:
             raise Wrong(f"a session that is refused leaves the log {run.left!r}")
@@ -356,7 +356,7 @@ def judge_left(run, wanted, kind, log):
 
 
 def judge(runs, wanted, way, tally, log=None):
-    """Counts the runs, each of which has to be right."""
+    """Counts the runs, each of which must be right."""
     kind, how = way
     run = None
     for number, run in enumerate(runs, start=1):

@@ -2,12 +2,12 @@
 """Compares the windows that `cut` prints of traces drawn by chance with those of tests/plain.py, and each window with
 its trace.
 
-Takes the program's path, how many traces to draw, and the first seed. A window is a text of its own: it must keep the
+Takes the program's path, how many traces to draw, and the first seed. A window is its own text: it must keep the
 rules, and its events must be those of the trace under its prologue. The verdict of `explain` on each conflicting pair
 of the window is compared with all correct reorderings of the trace that begin as recorded up to the window: a race is
 shown by one of the whole trace, and what is apart by none that begins so and ends before the window's end. No pair
 with an event of the prologue is a race. Says what is wrong, if something is, and ends with status 1 then, also if
-something that has to be seen was never met.
+something that must be seen was never met.
 """
 
 import random

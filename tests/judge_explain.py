@@ -3,13 +3,13 @@
 definitions.
 
 Of each conflicting pair of traces drawn by chance, and of some that were made for what chance draws seldom: the
-verdict, with all that stands behind it (explained.py); that the schedule is a correct reordering which shows the pair,
+verdict, with all that stands after it (explained.py); that the schedule is a correct reordering which shows the pair,
 and has exactly the events of the least list in the order of the trace where there is one, and else of what the search
 finds; that `replay` of its script tells the pair, and `info` of its trace has it as a candidate; and its picture
 (pictured.py). On small traces all correct reorderings are gone over: none shows a pair that is forced or guarded, and
 each list in the order of the trace that shows a pair has all events of the least one.
 
-    judge_explain.py PROGRAM [TRACES [SEED]]      so many drawn traces, the first of this seed
+    judge_explain.py PROGRAM [TRACES [SEED]]      this many drawn traces, the first of this seed
 
 Says what is wrong, if something is, and ends with status 1 then.
 """
@@ -34,7 +34,7 @@ DRAWS = [by_chance.locked_trace, by_chance.locked_trace, by_chance.trace]
 NO_PAIRS = 3
 FORMS = [[], ["--script"], ["--std"], ["--svg"]]
 
-# What has to be reached: each verdict, what a small trace has, folded runs, each kind of link, and a chain on which a
+# What must be reached: each verdict, what a small trace has, folded runs, each kind of link, and a chain on which a
 # chain rests on which one rests.
 REACHED = [
     *"none candidate beyond turned forced guarded undecided small folded links|section".split(),
@@ -207,7 +207,7 @@ def in_turns(times):
 
 
 def under(locks):
-    """A write under so many locks, and one under none."""
+    """A write under this many locks, and one under none."""
     return made(*[f"A acq l{lock}" for lock in range(locks)], "A w x", "B w x")
 
 

@@ -189,7 +189,7 @@ def gate_told_again(folder: pathlib.Path) -> list[str]:
 
 
 def fails(path: pathlib.Path, times: int) -> None:
-    """A case that fails so many times, and then passes. The file has a byte for each try."""
+    """A case that fails this many times, and then passes. The file has a byte for each try."""
     with path.open("ab") as tries:
         tries.write(b".")
     if path.stat().st_size <= times:

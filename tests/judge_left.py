@@ -6,7 +6,7 @@ finds those stay that this file says; then the text, the JSON, the page and the 
 error must name the entries that are about no race, and `--fail` must end with 3 only if a race is printed. The JSON is
 merged again, and must have all parts whole. `triage --windows` must print what `merge` prints of its windows.
 
-    judge_left.py PROGRAM [LISTS [SEED]]      so many lists of parts, the first of this seed
+    judge_left.py PROGRAM [LISTS [SEED]]      this many lists of parts, the first of this seed
 
 Says what is wrong, if something is, and ends with status 1 then, also if a kind was never met.
 """
@@ -289,7 +289,7 @@ class Judge(judge_merge.Judge):
         self.seen["page without a race"] += bool(known) and all(pair.rank for pair in stay)
 
     def printed(self, words):
-        """As in judge_merge, but for the notes."""
+        """As in judge_merge, except for the notes."""
         status, out, err = running.ended(self.program, ["merge", *words])
         if status != 0 or any(not line.startswith(b"racebench: ") for line in err.splitlines()):
             raise Wrong(f"merge {words} ends with {status}: {err.decode()}")

@@ -69,25 +69,37 @@ SAID = (
 )
 # Lists of names beside a set, and how many complaints there are.
 LISTS = ((["a", "b"], 0), (["a"], 1), (["a", "b", "b"], 1), (["a", "b", "c"], 1), (["c"], 3))
+# Heads of files of the recorder, and how many complaints there are.
+HEADS = (
+    ("/* Locks. Interposes lock. Must\n * not wait. */\nint x; /* more */\n", 0),
+    ("/* Locks. Interposes lock. */\n/* It must not wait. */\n", 1),
+    ("int x; /* Interposes nothing. Must not wait. */\n", 2),
+)
 MAP = "## Files of the upper crates\n\n- `racebench`: `doing.rt`, `windows/`\n"
-
-
 # Labels of keys, and how a browser names these keys.
-LABELS = ((["Alt ↑ ↓"], {"Alt+ArrowUp", "Alt+ArrowDown"}), (["u  Ctrl Z", "1–9"], {"u", "Ctrl+z", "1", "9"}))
-CODE = """const down = (move) => ({ ArrowDown: () => move(1), j: () => move(1) });
-const IN = {
-  stage: {
-    ...inTurn({ Enter: sheet.enter }), "Alt+ArrowUp": ofShown(up),
-  },
-};
-// The keys that follow
-const ANYWHERE = {
-  "?": showKeys, n: views.fresh,
-  w: () => (state.view ? views.take() : ofAim(views.witness)()),
-};
-// Signs that some
+LABELS = (("Alt ↑ ↓", {"Alt+ArrowUp", "Alt+ArrowDown"}), ("u  Ctrl z", {"u", "Ctrl+z"}), ("1–9", {"1–9"}))
+# A table of keys: the second line of the last group binds another key than its label names.
+KEYS = """const KEYS = [
+  ["Next", [
+    ["↑ ↓  j k", "choose", { "next-list": inTurn(down(frontier.move)) }],
+    ["1–9", "add", {}],
+  ]],
+  ["Work", [
+    ["w  ↵", "work on it", {
+      [ALL]: { w: () => (state.view ? views.take() : ofAim(views.witness)()) },
+      stage: inTurn({ Enter: sheet.enter }),
+    }],
+    ["[ ]", "other schedules", { [ALL]: { "[": () => go(-1) } }],
+  ]],
+];
 """
-BOUND = {"ArrowDown", "j", "Enter", "Alt+ArrowUp", "?", "n", "w"}
+TABLE = """| Pane | Key | Does |
+|---|---|---|
+| Next | `↑ ↓`, `j k` | choose |
+|  | `1–9` | add |
+| Work | `w`, `↵` | work on it |
+|  | `[ ]` | other schedules |
+"""
 
 
 def tool(name: str) -> ModuleType:
@@ -118,6 +130,18 @@ def judge_promises(run: judging.Run) -> None:
     run.case("promises", [] if said == SAID else [f"{said}, and not {SAID}"])
 
 
+def judge_keys(run: judging.Run) -> None:
+    keys = tool("keys")
+    for label, wanted in LABELS:
+        found = keys.named_keys(label)
+        run.case("labels of keys", [] if found == wanted else [f"{label}: {found}, and not {wanted}"])
+    found = keys.table_of(KEYS)
+    run.case("table of keys", [] if found == TABLE else [f"{found}, and not {TABLE}"])
+    found = keys.wrong_labels(KEYS)
+    is_right = len(found) == 1 and "`[ ]` names ['[', ']'], and its line binds ['[']" in found[0]
+    run.case("label of another key", [] if is_right else [f"{found}, and not one complaint of `[ ]`"])
+
+
 def judged(run: judging.Run) -> None:
     rules = tool("lint")
     for text, wanted in FENCES:
@@ -130,11 +154,7 @@ def judged(run: judging.Run) -> None:
     for names, count in LISTS:
         found = rules.unlike("the list", names, {"a", "b"})
         run.case("lists", [] if len(found) == count else [f"{names}: {found}, and not {count} complaints"])
-    for labels, keys in LABELS:
-        found = rules.key_names(labels)
-        run.case("labels of keys", [] if found == keys else [f"{labels}: {found}, and not {keys}"])
-    found = rules.keys_of_code(CODE)
-    run.case("keys of code", [] if found == BOUND else [f"{found}, and not {BOUND}"])
+    judge_keys(run)
     found = rules.wrong_files(MAP)
     lacks = [line for line in found if line.startswith("the map of racebench lacks ")]
     is_right = len(lacks) == len(found) > 10 and not {line.split(" ")[-1] for line in lacks} & {
@@ -143,6 +163,9 @@ def judged(run: judging.Run) -> None:
     }
     run.case("map", [] if is_right else [f"a map of two files: {found}"])
     run.case("map of today", rules.wrong_map())
+    for text, count in HEADS:
+        found = rules.lacks_of_head(text)
+        run.case("heads", [] if len(found) == count else [f"{text!r}: {found}, and not {count} complaints"])
     found, _ = complaints_without(rules, ["black"], set())
     run.case("missing tool", [] if list(found) == ["black"] else [f"black is missing, and the complaints are {found}"])
     found, printed = complaints_without(rules, ["black"], {"black"})

@@ -6,7 +6,7 @@ order, with some of them twice; and in groups whose merged reports are merged. E
 same JSON. The page is read as a browser's parser would read it, and has a row for each pair of locations. A part that
 is cut anywhere is refused, and so are lines that are no line of a report, another version, and two parts of one name.
 Some parts are what `triage --json` prints of drawn traces. Says what is wrong, if something is, and ends with status 1
-then, also if something that has to be seen was never met.
+then, also if something that must be seen was never met.
 """
 
 import collections

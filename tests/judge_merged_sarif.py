@@ -7,7 +7,7 @@ pair of locations, in the order of the text, with the accesses and their calls o
 many parts say what. No result has a code flow. A race of one trace must have the fingerprint that `triage --sarif` of
 that trace gives it, with the folder of the code and without it.
 
-    judge_merged_sarif.py PROGRAM [LISTS [SEED]]      so many lists of parts, the first of this seed
+    judge_merged_sarif.py PROGRAM [LISTS [SEED]]      this many lists of parts, the first of this seed
 
 Says what is wrong, if something is, and ends with status 1 then.
 """

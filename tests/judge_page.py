@@ -9,7 +9,7 @@ that `triage` and `explain` print, neither more nor fewer. Each picture is judge
 that `witness` prints, which by plain.py is a correct reordering that shows the row's pair. With a file of followed
 races, each race has beside it what the file's first line on its two locations says, and no other race's. The traces
 are those of examples/, traces whose names look like markup, and such that are drawn by chance. Says what is wrong, if
-something is, and ends with status 1 then, also where something that has to be seen was never met.
+something is, and ends with status 1 then, also where something that must be seen was never met.
 """
 
 import collections
@@ -76,7 +76,7 @@ REACHED = [
     "turned round",
     "told twice",
 ]
-# A trace with so many events at most is small enough for a plain program to go over its schedules.
+# A trace with this many events at most is small enough for a plain program to go over its schedules.
 SMALL = 60
 POLICY = "default-src 'none'; style-src 'unsafe-inline'; base-uri 'none'; form-action 'none'"
 VOID = {"meta", "path", "rect"}
@@ -252,7 +252,7 @@ def shown(line):
     return re.sub("[\x00-\x1f\ufffe\uffff]", "\ufffd", line.decode("utf-8", "replace"))
 
 
-# The blocks of a text: of each its sort, its events, the numbers behind them, and the accesses with their locks.
+# The blocks of a text: of each its sort, its events, the numbers after them, and the accesses with their locks.
 Block = collections.namedtuple("Block", "sort first second facts accesses")
 
 
@@ -274,7 +274,7 @@ def counted(number, word):
 
 
 def left_out(lines):
-    """What the first line of the page says of rows that the text counts behind its blocks."""
+    """What the first line of the page says of rows that the text counts after its blocks."""
     counts = dict(line.decode("ascii").split() for line in lines if re.fullmatch(rb"(known|hidden) \d+", line))
     said = f"; {counted(counts['known'], 'known race')} left out" if "known" in counts else ""
     return said + (
@@ -298,7 +298,7 @@ def facts_of(block):
 
 
 def access_title(line, tally):
-    """What the title says of an access: what it does, in which function, and where. Behind ` < ` stands the function,
+    """What the title says of an access: what it does, in which function, and where. After ` < ` stands the function,
     or the place of a call."""
     _, what, location = line.split("|", 2)
     place, _, callers = location.partition(" < ")
@@ -402,7 +402,7 @@ def commands_of(block, name):
 
 
 def more_of(sort, kept, name):
-    """What stands under so many rows of a sort, of which not all are there, or not all have a picture."""
+    """What is under this many rows of a sort, of which not all are there, or not all have a picture."""
     told, word = [], shell_word(name)
     if sort == "race" and kept > MOST_PICTURES:
         left = counted(str(kept - MOST_PICTURES), "race")
@@ -423,7 +423,7 @@ def texts_in(element, *tags):
 
 
 def heads_of(table):
-    """What stands over the columns of the table."""
+    """What is over the columns of the table."""
     return [head.text() for head in table.one("thead").all("th")]
 
 
@@ -474,20 +474,20 @@ DRAWN = (
 )
 ALL_TOLD = "All runs are listed in words below."
 LAST_TOLD = "The last runs are listed in words below, and the command under them prints all."
-# So many rows of each sort and pictures a page has at most.
+# How many rows of each sort and pictures a page has at most.
 MOST_ROWS = 2000
 MOST_PICTURES = 200
 # Of so few runs all are in words; else of so many runs and events, if the words have so many bytes; else the last runs
-# that have so many bytes.
+# that have this many bytes.
 FEW_RUNS = 11
 MOST_RUNS = 100
 MOST_LISTED = 2000
 MOST_BYTES = 16384
 LAST_BYTES = 4096
-# So many rectangles a picture has at most. A row of a long schedule has so many bytes, if its names are short.
+# How many rectangles a picture has at most. A row of a long schedule has this many bytes, if its names are short.
 MOST_BOXES = 200
 MOST_ROW = 65536
-# What is said of words at the end of a page, behind how it begins.
+# What is said of words at the end of a page, after how it begins.
 # What each count means, word by word.
 COUNTED = {
     "events": "lines of the trace",
@@ -527,7 +527,7 @@ def bytes_of(lines):
 
 
 def beside(entry):
-    """What stands beside a race with this entry."""
+    """What is beside a race with this entry."""
     if entry is None:
         return "not followed"
     if entry["ended"] == "departed":
@@ -642,7 +642,7 @@ class Judge:
         return [*lines[: starts[0]], note.encode(), *lines[first:]], False
 
     def judge_schedule(self, row, runs, block, name):
-        """Judges the picture of the row of a race, what stands over it, and the runs of the schedule in words."""
+        """Judges the picture of the row of a race, what is over it, and the runs of the schedule in words."""
         listed = self.judge_picture(name, block)
         told, is_told = self.told(name, block, listed)
         wanted = f"After {counted(str(len(listed)), 'event')} both are next: {block.first} and {block.second}. "
@@ -734,7 +734,7 @@ class Judge:
             raise Wrong(f"the counts are {told}, and plainly {wanted}")
 
     def judge_words(self, main, meanings, left, is_apart):
-        """Judges what stands between the rows and the counts, and what the words mean."""
+        """Judges what is between the rows and the counts, and what the words mean."""
         told = [UNLISTED] * (not is_apart)
         for line in left:
             if re.fullmatch(rb"(known|hidden) [1-9]\d*", line):
@@ -799,14 +799,14 @@ NAMES = [
 
 
 def many(races):
-    """A trace with so many races, each at places of its own."""
+    """A trace with this many races, each at its own places."""
     return b"".join(
         b"%s|w(x%d)|%s%d\n" % (thread, number, thread, number) for thread in (b"A", b"B") for number in range(races)
     )
 
 
 def guarded(pairs):
-    """A trace with so many pairs of places that one lock keeps apart."""
+    """A trace with this many pairs of places that one lock keeps apart."""
     lines = []
     for thread in ("A", "B"):
         accesses = [f"{thread}|w(x{number})|{thread}{number}" for number in range(pairs)]
@@ -824,13 +824,13 @@ def in_turns(runs):
 
 
 def in_long_turns(runs, events):
-    """The same, and the schedule has so many events: the first run has most of them."""
+    """The same, and the schedule has this many events: the first run has most of them."""
     lines = in_turns(runs).splitlines()
     return b"".join(line + b"\n" for line in [b"A|w(own)|1"] * (events - 2 * runs + 2) + lines)
 
 
 def with_locks(shades):
-    """A trace in which the schedule of the last two accesses has 25 runs, with so many parts under a lock."""
+    """A trace in which the schedule of the last two accesses has 25 runs, with this many parts under a lock."""
     lines = []
     for number in range(25):
         thread = "AB"[number % 2]
@@ -842,7 +842,7 @@ def with_locks(shades):
 
 
 def long_schedules(races, events, run):
-    """A trace with so many races at the end, whose schedules have so many events of four threads, in runs of some
+    """A trace with this many races at the end, whose schedules have this many events of four threads, in runs of some
     events each. Parts of each run are under locks, and each location has two calls."""
     chance = random.Random(run)
     files = ["common/threadpool.c", "encoder/encoder.c", "common/frame.c"]
@@ -932,7 +932,7 @@ def followed_lines(chance, judge, name):
 
 
 def judge_padded(judge, lines, at, size):
-    """A page of this trace, after the location of one event was made so long that words have so many bytes."""
+    """A page of this trace, after the location of one event was made so long that words have this many bytes."""
     text = b"".join(line + b"\n" for line in lines)
     write("padded", text)
     words = ["--all"] if size > LAST_BYTES + 1 else []

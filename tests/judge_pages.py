@@ -27,13 +27,13 @@ import recorded_rust
 
 TOP = pathlib.Path(__file__).resolve().parent.parent
 LINKED = ("examples", "record", "screen")
-# A command may take so many seconds.
+# A command may take this many seconds.
 LONGEST = 900
 # A recording is made again so often if the machine was so busy that a thread lost its turn by force.
 AGAIN = 3
 # Programs that sleep: each recording has other turns, and `record/confirm` prints its races in another order. What
 # comes after a race is a matter of time too: where threads wait long for a processor, about one `record/confirm` in
-# six has another ending. So their commands are typed again if they print something else, up to so many times in all.
+# six has another ending. So their commands are typed again if they print something else, up to this many times in all.
 SLEEPS = r"\b(?:watchdog|mended)\b"
 TRIES = 12
 # The version of Rust whose library the page about Rust has been recorded with.

@@ -6,7 +6,7 @@ Draws traces with locations that resemble one another, and pairs of words: locat
 them and numbers of events. Where the words name a pair, both commands must print what they print of its two events;
 else they must say that there is no such pair.
 
-    judge_places.py PROGRAM [TRACES [SEED]]      so many drawn traces, the first of this seed
+    judge_places.py PROGRAM [TRACES [SEED]]      this many drawn traces, the first of this seed
 
 Says what is wrong, if something is, and ends with status 1 then, also if a kind of question was never met.
 """

@@ -3,7 +3,7 @@
 works, and wiped out before anything else is written.
 
 The trace is one whose work takes long enough, which is measured, since no size would do on every machine. What comes
-on standard output and the status have to be those of a run whose standard error is a pipe, and nothing may come
+on standard output and the status must be those of a run whose standard error is a pipe, and nothing may come
 through that pipe, or lines with `--progress`. What is quick shows nothing. Takes the program's path. Says what is
 wrong, if something is, and ends with status 1 then.
 """
@@ -38,7 +38,7 @@ WIPED = re.compile(r"\r *\r")
 
 
 def trace(pairs):
-    """So many pairs of places, each shown by critical sections in another order alone, which is searched for."""
+    """This many pairs of places, each shown by critical sections in another order alone, which is searched for."""
     lines = [f"T{i % 2}|r(y)|others" for i in range(OTHERS)]
     for i in range(pairs):
         lines += [
@@ -163,7 +163,7 @@ def judge_asked(program, events, pairs, wanted):
 
 
 def long_run(program, pairs):
-    """A run that takes long on so many pairs of places or more, and how many events and pairs its trace has."""
+    """A run that takes long on this many pairs of places or more, and how many events and pairs its trace has."""
     while True:
         text, events = trace(pairs)
         running.write("trace", text)

@@ -38,7 +38,7 @@ FAULTY = [
     "? witness 0",
     "?  ",
 ]
-# What has to be reached.
+# What must be reached.
 REACHED = [
     "next",
     "23",

@@ -19,6 +19,7 @@ import tempfile
 
 sys.dont_write_bytecode = True
 import judging
+import names_of_runs
 import recorded_chance
 import recorded_ci
 import recorded_counts
@@ -33,6 +34,7 @@ import recorded_names
 import recorded_options
 import recorded_places
 import recorded_planted
+import recorded_raw
 import recorded_reports
 import recorded_runs
 import recorded_rust
@@ -69,6 +71,8 @@ PROGRAMS = [
     ("tests/recorded/read_often.c", [], {"TRIAGED"}),
     ("tests/recorded/freed.c", ["--no-free"], set()),
     ("tests/recorded/freed.c", [], {("freed.c:11", "freed.c:6")}),
+    ("tests/recorded/returned.c", [], {"RACE"}),
+    ("tests/recorded/returned.c", ["--no-free"], set()),
     ("tests/recorded/signals.c", [], {"RACE"}),
     ("tests/recorded/sockets.c", [], {"RACE"}),
     ("tests/recorded/openmp.c", [], {"RACE"}),
@@ -85,7 +89,7 @@ FORKS = "each_kind.c"
 
 def done(words, wanted=0, **more):
     """What a command wrote on standard output and on standard error."""
-    ran = subprocess.run(words, capture_output=True, timeout=PATIENCE, check=False, **more)
+    ran = names_of_runs.run(words, capture_output=True, timeout=PATIENCE, check=False, **more)
     if ran.returncode != wanted:
         raise Wrong(f"{' '.join(words)}: status {ran.returncode}: {ran.stderr.decode(errors='replace')[:600]}")
     return ran.stdout.decode(), ran.stderr.decode(errors="replace")
@@ -108,7 +112,7 @@ def has_hooks(compiler, language):
 
 
 def lines_at_race(source):
-    """The pair of lines of a source that say RACE behind their code; one line is a pair with itself."""
+    """The pair of lines of a source that say RACE after their code; one line is a pair with itself."""
     with open(os.path.join(TOP, source), encoding="utf-8") as text:
         found = [
             f"{os.path.basename(source)}:{number}"
@@ -229,7 +233,7 @@ def cases_of(racebench, pairs):
             cases += recorded_chance.cases(racebench) + recorded_ci.cases(racebench) + recorded_counts.cases(c)
             cases += recorded_drawn.cases() + recorded_whole.cases(racebench, c) + recorded_labelled.cases(racebench)
             cases += recorded_deadlocks.cases(racebench, c, cxx)
-            cases += recorded_leaving.cases(racebench, c)
+            cases += recorded_leaving.cases(racebench, c) + recorded_raw.cases(c)
             cases += recorded_strangers.cases(racebench, c, cxx) + recorded_go.cases(racebench)
             cases += recorded_rust.cases(racebench)
         else:
@@ -250,7 +254,7 @@ def cases_of(racebench, pairs):
 
 
 def wrong_of(judge, about):
-    """What is wrong with a case, which is judged in a folder of its own."""
+    """What is wrong with a case, which is judged in its own folder."""
     with tempfile.TemporaryDirectory() as folder:
         os.chdir(folder)
         try:
@@ -295,7 +299,7 @@ def judge_cases(run):
     """Judges all cases side by side, and then those that failed once more, one after another: threads and real
     programs depend on what else the machine does. A case that passes at its second try is a defect to be mended, of
     the recorder or of the case."""
-    # A shell starts a job behind `&` with control-C ignored, and what a case starts would ignore it too.
+    # A job that a shell starts by `&` ignores control-C, and what a case starts would ignore it too.
     signal.signal(signal.SIGINT, signal.default_int_handler)
     context, failed = multiprocessing.get_context("fork"), []
     with context.Pool(workers()) as pool:

@@ -1,8 +1,8 @@
 #!/usr/bin/env python3
 """Judges what `replay` and `info` print, by tests/plain.py, which answers from the definitions.
 
-The traces and scripts are drawn by chance, always the same ones. Whole outputs have to be alike. It also tries every
-order in which several clients can undo a few commands. Each kind of answer has to be reached, so that no draw can go
+The traces and scripts are drawn by chance, always the same ones. Whole outputs must be alike. It also tries every
+order in which several clients can undo a few commands. Each kind of answer must be reached, so that no draw can go
 stale unseen. Takes the program's path. Says what is wrong, if something is, and ends with status 1 then.
 """
 
@@ -38,7 +38,7 @@ UNDOS = 7
 ORDERS = 4
 PROBLEMS = 20
 
-# What has to be reached. A number after a word is that of a refusal.
+# What must be reached. A number after a word is that of a refusal.
 REACHED = """
     new|done add|done back|done swap|done branch|done drop|done adopt|done propose|proposed
     show|shown list|names races|none races|pairs

@@ -7,7 +7,7 @@ each object of JSON, in their order, with its accesses, their calls as stacks, a
 flow: every step once, in the order of the schedule, and at its end the two accesses. Moves lines of code: the
 fingerprints must stay; and changes a line: they must differ.
 
-    judge_sarif.py PROGRAM [TRACES [SEED]]      so many drawn traces, the first of this seed
+    judge_sarif.py PROGRAM [TRACES [SEED]]      this many drawn traces, the first of this seed
 
 Says what is wrong, if something is, and ends with status 1 then.
 """
@@ -276,7 +276,7 @@ def drawn(chance, number):
 
 
 def racy(gap, place, other):
-    """A race between a writer and a reader, with so many events of the writer before."""
+    """A race between a writer and a reader, with this many events of the writer before."""
     return [
         "main|fork(T1)|m.c:1",
         "main|fork(T2)|m.c:2",

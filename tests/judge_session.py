@@ -4,7 +4,7 @@ disks.
 
     judge_session.py PROGRAM [KILLS [CALLS]]     with so many kills, 20 where that is not said, and a last run at once
     in which each of four
-                                                 sessions has so many calls, none where that is not said
+                                                 sessions has this many calls, none where that is not said
 
 A script through sessions, cut anywhere into several, is answered as `replay` answers it. A session that is killed has
 lost no answered entry. A file that is cut anywhere stands for its whole lines; one of another trace, or one that was
@@ -45,7 +45,7 @@ TURNS_AT_ONCE = 6
 # How often two sessions are opened at once where there is no file.
 OPENED = 20
 HEAD = 81
-# What has to be reached.
+# What must be reached.
 REACHED = ["scripts", "kills", "answered", "cuts", "edits", "at once", "later", "opened", "full", "undo", "closed"]
 
 
@@ -252,7 +252,7 @@ def judge_cuts(sessions):
         if pathlib.Path("log").read_bytes() != whole[:HEAD] + b"\n".join([*lines[:count], b" 3 new Z", b"!"]):
             fail(f"cut to {size} bytes, the file is {pathlib.Path('log').read_bytes()}")
         sessions.tally["cuts"] += 1
-    # What stands behind a closed gate never counts, be it a block whose write was cut short or lines with open gates.
+    # What is after a closed gate never counts, be it a block whose write was cut short or lines with open gates.
     # Two lines in one block take its place.
     answers = f"{len(lines)}: done\n{len(lines) + 1}: done\n".encode("ascii")
     for torn in [b"1 new D\n 1 ad", b" 1 new D\n 1 new E\n"]:
@@ -332,7 +332,7 @@ def judge_shorter(sessions):
 
 
 def judge_at_once(sessions, seed, count=CALLS_AT_ONCE):
-    """Sessions of four clients at once, each with so many calls, in pieces of one or more lines."""
+    """Sessions of four clients at once, each with this many calls, in pieces of one or more lines."""
     chance = random.Random(seed)
     fresh()
     trace = by_chance.trace(chance, EVENTS)

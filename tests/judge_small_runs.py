@@ -26,7 +26,7 @@ CLIENTS = (2, 8)
 CALLS = (6, 10)
 # In how many runs with no door a client has to come again after another.
 LEAST_MIXED = 100
-# What has to be reached.
+# What must be reached.
 REACHED = ["add", "back", "swap", "branch", "drop", "adopt", "batch", "undo", "propose", "blocked", "later"]
 
 

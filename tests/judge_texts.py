@@ -29,7 +29,7 @@ LARGEST = WRITE * 1_048_576
 PAST_16_BITS = WRITE * 65_537
 READ_BEHIND = WRITE * 65_536 + "T2|r(x)|2\n"
 
-# What is printed of the texts behind it: all of it, or what tests/plain.py prints of these events.
+# What is printed of the texts after it: all of it, or what tests/plain.py prints of these events.
 ACCEPTED = [
     ([], "", "\n \t\r\n", "|begin|", "|end()|", "T1|begin|3", f"\t T|begin|{REST[1:]} \r\n"),
     (["T1 w x"], "T1|w(x)", "T1|w(x)|", "T1|w(x)|1"),
@@ -69,7 +69,7 @@ ACCEPTED = [
     ("events 1048576\nthreads 1\nvariables 1\nlocks 0\nthread 0 T1 1048576\ncandidates 0\n", LARGEST),
 ]
 
-# What the texts behind it are refused for.
+# What the texts after it are refused for.
 REFUSED = [
     ("line 1: 1 no bar", "T", "T1", "begin"),
     ("line 1: 2 bad parentheses", "T1|", "T1|w", "T1|w(", "T1|w(x", "T1|w x|2", "T1|w)(|1", "T1|w(x)y|"),

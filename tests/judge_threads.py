@@ -18,7 +18,7 @@ from judging import Wrong
 
 CLIENTS = 31
 CALLS = 40
-# So many of each kind, and with no door more, until the clients took turns often enough, but so many at most.
+# This many of each kind, and with no door more, until the clients took turns often enough, but this many at most.
 RUNS = 3
 MOST_RUNS = 300
 # How often the client has to change in the logs of the runs with no door beside the changes that there are where each
@@ -26,7 +26,7 @@ MOST_RUNS = 300
 LEAST_CHANGES = 60
 EVENTS = 40
 SHARED = ["left", "right", "middle"]
-# What has to be reached.
+# What must be reached.
 REACHED = [
     "new",
     "add",

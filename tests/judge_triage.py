@@ -6,7 +6,7 @@ Takes the program's path, how many traces to draw, and the first seed. Each trac
 drawn number of tries; again with its own output as what is known, which leaves no race; with texts that blocks need or
 must not have; with a status that tells of races; as a recording with marks; and by workers, as JSON and as lines for
 editors (tests/compiled.py), which have to tell the same. Says what is wrong, if something is, and ends with status 1
-then, also where something that has to be seen was never met.
+then, also where something that must be seen was never met.
 """
 
 import collections
@@ -174,7 +174,7 @@ class Judge:
         self.tally = collections.Counter()
 
     def turned_size(self, trace, first, second):
-        """The size of the schedule that `witness` prints of the pair, which has to be a correct reordering that shows
+        """The size of the schedule that `witness` prints of the pair, which must be a correct reordering that shows
         it. The events are counted here."""
         lines = (
             running.printed(self.program, ["witness", "trace", str(first), str(second)]).decode("ascii").splitlines()
@@ -324,7 +324,7 @@ def made(*lines):
 
 
 def undecided(variables):
-    """A trace and the places of its events: two places that have so many open pairs, of as many variables, none of
+    """A trace and the places of its events: two places that have this many open pairs, of as many variables, none of
     which is shown."""
     names = range(variables)
     reads = [line for name in names for line in (f"A r {name}", f"A w {name}")]
@@ -344,7 +344,7 @@ MADE = [
 
 
 def judge_some(program, first, numbers):
-    """Judges the traces of these numbers in a folder of its own, and returns what was seen."""
+    """Judges the traces of these numbers in its own folder, and returns what was seen."""
     judge = Judge(program)
     with tempfile.TemporaryDirectory() as folder:
         os.chdir(folder)

@@ -8,7 +8,7 @@ these rules name. With workers the text is the same. A file that `--init-triage`
 that is changed by chance must be refused exactly if tomllib or the table of keys refuses it, at the same line if the
 mistake is a key's.
 
-    judge_triage_file.py PROGRAM [TRACES [SEED]]      so many drawn traces, the first of this seed
+    judge_triage_file.py PROGRAM [TRACES [SEED]]      this many drawn traces, the first of this seed
 
 Says what is wrong, if something is, and ends with status 1 then, also if a kind of entry was never met.
 """
@@ -437,7 +437,7 @@ def judge_trace(program, folder, seed, reached):
 
 
 def judge_columns(program, folder, chance, reached):
-    """A text that stops to be TOML behind a key and its value is refused at that character."""
+    """A text that stops to be TOML after a key and its value is refused at that character."""
     begin = text_of([{"paths": ["u.c", "u.c"], "verdict": "known"}] * chance.randint(0, 3))
     value = "".join(chance.choices("aä€\U0001f600", k=chance.randint(0, 9)))
     write(folder, "f.toml", f'{begin}other = "{value}" ?\n')
@@ -478,7 +478,7 @@ def at_clock(program, folder, clock, *words):
 
 
 def judge_day(program, folder, day, seconds, reached):
-    """At so many seconds of a day, an entry that expires on it is in force, and one of the day before is not."""
+    """At this many seconds of a day, an entry that expires on it is in force, and one of the day before is not."""
     clock = (day - datetime.date(1970, 1, 1)).days * 86400 + seconds
     for last in (day, day - DAY):
         write(folder, "f.toml", text_of([{"paths": ["no.c", "no.c"], "verdict": "known", "expires": last}]))

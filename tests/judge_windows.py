@@ -11,7 +11,7 @@ before the window's end, is there as a race or undecided. A window of more threa
 shorter, which is counted. A trace with a line that is refused, an event that breaks a rule, or an event that needs a
 thread too many beside those that hold a lock, is judged up to there. The windows of a recording with marks have them,
 and the report says what is missing. Says what is wrong, if something is, and ends with status 1 then, also if something
-that has to be seen was never met.
+that must be seen was never met.
 """
 
 import json
@@ -148,7 +148,7 @@ def coming_trace(chance, count):
 
 
 def with_skipped(chance, lines):
-    """The lines with some before, between and behind them that are no events."""
+    """The lines with some before, between and after them that are no events."""
     made = []
     for line in [*lines, ""]:
         while chance.random() < 0.2:
@@ -216,7 +216,7 @@ class Judge:
         return {start: self.window(located, start, end, f"{folder}/window-{start:09}.std") for start, end in wanted}
 
     def window(self, located, start, end, path):
-        """The place of the window in this file, which has to be right."""
+        """The place of the window in this file, which must be right."""
         with open(path, encoding="utf-8") as text:
             head, *lines = text.read().splitlines()
         place = place_in(head)

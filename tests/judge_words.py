@@ -1,5 +1,5 @@
 #!/usr/bin/env python3
-"""Judges which words the program takes behind its name: flags that exclude one another, the least and the most of each
+"""Judges which words the program takes after its name: flags that exclude one another, the least and the most of each
 number, dates, standard input that is named twice, and what goes with what; and what is meant if a number is not given.
 
     judge_words.py PROGRAM

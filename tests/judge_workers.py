@@ -1,10 +1,10 @@
 #!/usr/bin/env python3
 """Runs scripts beside workers, and judges what `threads --workers` printed, by tests/plain.py and tests/legal.py.
 
-The log has to be one that calls build one after another, and each script has to be told what it is told there. The
-client behind those of the scripts has to have proposed each of the first 64 candidates once, with the pair's slice,
+The log must be one that calls build one after another, and each script must be told what it is told there. The
+client after those of the scripts has to have proposed each of the first 64 candidates once, with the pair's slice,
 and no client has to come after it. Half of the runs are with no door before the lock, so that proposals come among the
-scripts' calls, which has to be reached. Takes the program's path. Says what is wrong, if something is, and ends with
+scripts' calls, which must be reached. Takes the program's path. Says what is wrong, if something is, and ends with
 status 1 then.
 """
 
@@ -30,13 +30,13 @@ SLICED = 64
 # How many calls each script has, of the runs with few scripts and with many.
 CALLS = 40
 CALLS_OF_MANY = 8
-# What has to be reached: a proposal that a script adopts, and one that is not on the board yet; a script's entry
+# What must be reached: a proposal that a script adopts, and one that is not on the board yet; a script's entry
 # between two proposals; a trace with more candidates than are sliced, and one with none; a slice that has events.
 REACHED = ["adopted", "too early", "among", "more", "none", "events"]
 
 
 def crossing(writes):
-    """Two threads that write one variable in turn, so many times each, with nothing that orders them."""
+    """Two threads that write one variable in turn, this many times each, with nothing that orders them."""
     return plain.Trace(plain.Event(f"T{number % 2}", "w", "x") for number in range(2 * writes))
 
 

@@ -1,6 +1,6 @@
 """Judges one run of scripts at once, by tests/plain.py, which answers from the definitions.
 
-The log has to be one that calls build one after another, and each client has to be told what it is told there: the
+The log must be one that calls build one after another, and each client must be told what it is told there: the
 calls that made an entry are answered as at that entry, in the client's order, and each other call as after some number
 of entries that lies between its neighbours'.
 """

@@ -1,6 +1,6 @@
 """Judges the picture of a schedule that `witness --svg` prints, by tests/plain.py and explained.py.
 
-The file has to be well formed, with no tag, no attribute and no address but those of a drawing. It is then read as a
+The file must be well formed, with no tag, no attribute and no address but those of a drawing. It is then read as a
 reader sees it: which lines of text lie in which box, in which order the boxes stand, whether each line fits into its
 box, and where the arrows lead.
 """
@@ -11,7 +11,7 @@ import xml.etree.ElementTree
 from explained import Wrong, WAITS, count, runs_of, waiters_of
 
 SVG = "{http://www.w3.org/2000/svg}"
-# A line of text has at most so many bytes, and takes so many pixels for each character.
+# A line of text has at most this many bytes, and takes this many pixels for each character.
 MOST_BYTES = 46
 CHARACTER = 6
 # So many runs are drawn one by one; of more so many of the last, and of those that they waited for as many as are left.
@@ -23,17 +23,17 @@ WIDEST = 1600
 # How far a column is from the next, and where their names stand.
 COLUMN = 320
 NAMES = 48
-# So many locks of an access are named.
+# How many locks of an access are named.
 MOST_LOCKS = 8
 # How wide the bar at the left edge of a box is.
 BAR = 6
-# So many shades of a picture are drawn one by one; if there are more, a bar with more than so many is shaded by its
+# How many shades of a picture are drawn one by one; if there are more, a bar with more than this many is shaded by its
 # quarters.
 MOST_SHADES = 100
 FEW_SHADES = 2
-# So many events are listed in the description.
+# How many events are listed in the description.
 MOST_LISTED = 2000
-# A picture is shown a fifth larger than it is drawn; so many pixels are seen of it where the page is 400 wide.
+# A picture is shown a fifth larger than it is drawn; this many pixels are seen of it where the page is 400 wide.
 SHOWN = 1.2
 NARROW = 376
 # The tags of a picture with what each may have.

@@ -543,7 +543,7 @@ def prologue(events: Sequence[Event], start: int, end: int, name: str) -> list[E
 
 
 def windows(length: int, most: int) -> list[tuple[int, int]]:
-    """The first event of each window of a trace with so many events, and the first one after it: they overlap by
+    """The first event of each window of a trace with this many events, and the first one after it: they overlap by
     half."""
     found: list[tuple[int, int]] = []
     for start in range(0, length, (most + 1) // 2):
@@ -767,7 +767,7 @@ class Log:
         return " ".join(["pairs"] + [f"{first}-{second}" for first, second in self.trace.shown_pairs(events)])
 
     def entered(self, client: int, call: Call) -> tuple[str, Entry]:
-        """What a call that is logged is answered, behind its number, and its entry."""
+        """What a call that is logged is answered, after its number, and its entry."""
         if call[0] == "undo":
             undone = self.live_of_number(client, call[1]) if call[1:] else self.latest_live(client)
             self.ask_blocked(undone)
@@ -872,7 +872,7 @@ def merged(parts: Mapping[str, Sequence[Told]], with_apart: bool) -> str:
 
 
 def merged_of(pairs: Sequence[Shown], parts: int, with_apart: bool) -> str:
-    """What `merge` prints of these pairs of so many parts."""
+    """What `merge` prints of these pairs of this many parts."""
     lines = [f"parts {parts}"]
     lines += [
         f"{word} {sum(pair.rank == rank for pair in pairs)}"

@@ -304,7 +304,7 @@ def cases(racebench):
 
 
 def soak(racebench, first, programs):
-    """So many programs; how many differ from their recordings."""
+    """This many programs; how many differ from their recordings."""
     tally, wrong = Counter(), 0
     top = os.getcwd()
     for seed in range(first, first + programs):

@@ -13,7 +13,7 @@ from recorded_places import PATIENCE, RECORD, SOURCES, ran
 # The word for counts.c, the options, and the line that says what was counted.
 COUNTED = [
     ("sections", [], r"1 locks were let go by another thread than took them; they are written as semaphores"),
-    ("order", [], r"6 atomic accesses are written with more order than they have"),
+    ("order", [], r"6 atomic accesses are written with more order than they have, at counts\.c:32, counts\.c:41"),
     ("parts", [], r"some accesses have more than 64 parts, and the rest of these was left out"),
     ("strangers", [], r"[1-9]\d* threads were not made by pthread_create, so they have no fork"),
     (

@@ -87,7 +87,7 @@ PROGRAMS = {
         ],
     ),
 }
-# So many races stand at least in all programs together: ring.c waits by the time, so it has one or more.
+# How many races stand at least in all programs together: ring.c waits by the time, so it has one or more.
 ALL_RACES = 23
 DIFFER = "the order matters: the outputs differ: 1 with A first, 0 with B first"
 NO_DIFFERENCE = "it makes no difference"
@@ -189,7 +189,7 @@ def judge_races(racebench):
 
 
 def why_wrong(source, one):
-    """Why a race is not what it has to be; nothing if it is."""
+    """Why a race is not what it must be; nothing if it is."""
     if one["ended"] != "stands" or not one["same_memory"]:
         return f"does not stand: {one['text']}"
     lines = [int(place.rsplit(":", 1)[1]) for place in one["places"]]
@@ -286,7 +286,7 @@ def judge_rule(_):
 
 
 def judge_known_verdicts():
-    """Verdicts on runs of two orders: how often each came, the endings and outputs, and what has to be said."""
+    """Verdicts on runs of two orders: how often each came, the endings and outputs, and what must be said."""
     good, bad, endless = (verdicts.Outcome(text, b"") for text in (OKAY, FAULT, "hangs"))
     gone = verdicts.Outcome("departed", b"")
     said = [verdicts.Outcome(OKAY, b"seen %d of %d" % (seen, of)) for seen in (0, 1) for of in range(9)]

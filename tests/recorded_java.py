@@ -5,7 +5,7 @@ how a run ends, and about options.
 A line that says `RACE` races with the other lines that say so; a word after it tells several races of a program apart.
 
     recorded_java.py RACEBENCH [TEXT ..]                  only the cases whose names have one of the texts
-    recorded_java.py RACEBENCH --planted FIRST COUNT      so many programs with planted races, from a seed on
+    recorded_java.py RACEBENCH --planted FIRST COUNT      this many programs with planted races, from a seed on
 """
 from __future__ import annotations
 

@@ -130,6 +130,10 @@ def judge_refused() -> None:
     for words, text in (
         (["--clock", "x", "-cp", ".", "Main"], "nothing follows a schedule of a Java program yet"),
         (["--no-free", "-cp", ".", "Main"], "a Java program frees nothing"),
+        (["--all", "Main"], "--all is not there for Java: the trace leaves out no access"),
+        (["--ordered", "to", "Main"], "--ordered is not there for Java: the trace leaves out no access"),
+        (["--names", "raw", "Main"], "variables have the names of the source"),
+        (["--slots", "Main"], "it is for Go programs"),
         (["--frames", "9", "Main"], "--frames is from 0 to 8"),
         ([], "say what java runs"),
         (["--read", "kept.raw", "Main"], "--jar and --read run nothing"),

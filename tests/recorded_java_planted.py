@@ -1,6 +1,6 @@
 """Makes Java programs by chance whose races are known: some are planted, and some orders too.
 
-A scenario has threads of its own. Its first thread writes a datum, and the last one reads it. What passes from each
+A scenario has its own threads. Its first thread writes a datum, and the last one reads it. What passes from each
 thread to the next orders the two, or the datum is also accessed before or after that. That is a race, and a label names
 it. So each race of a recording must have a label, and some seed must show each label.
 

@@ -1,9 +1,9 @@
 #!/usr/bin/env python3
 """Judges what the recorder leaves out, since it can't change a verdict: by traces of records that are drawn by chance.
-Each is decoded whole and without what is left out. The second has to be the first without what the definitions of
+Each is decoded whole and without what is left out. The second must be the first without what the definitions of
 leaving.py leave out, and triage has to say the same of both.
 
-    recorded_leaving.py PROGRAM [COUNT [FIRST]]      draws so many traces (3000), from this seed on (1)
+    recorded_leaving.py PROGRAM [COUNT [FIRST]]      draws this many traces (3000), from this seed on (1)
 
 What no other judge sees: a verdict that hangs on an access that was left out.
 """
@@ -52,7 +52,7 @@ class Drawn:
         self.clock += 1
         place = (KINDS[kind] << 20 | (at & 0x1FFF) << 4 | site << 1) + MODULE_AT
         row = raw_file.RECORD.pack(at, place, self.clock << 16, 0, size, 0, thread, KINDS[kind], 1, order, 0, 0)
-        self.records.append(row)
+        self.records.append(raw_file.LONG.to_bytes(raw_file.WORD, "little") + row)
 
     def step(self):
         alive = [thread for thread in self.threads if thread not in self.joined]
@@ -121,8 +121,9 @@ class Drawn:
     def write(self, path, count):
         for _ in range(count):
             self.step()
-        words, size = [0] * 18, len(self.records)
-        words[:7] = raw_file.MAGIC, size, size, 1, 1, raw_file.HEAD_SIZE, raw_file.HEAD_SIZE + raw_file.NODE.size
+        words, size = [0] * (raw_file.WORDS.size // 8), len(self.records)
+        used = raw_file.LONG_WORDS * size
+        words[:7] = raw_file.MAGIC, size, used, 1, 1, raw_file.HEAD_SIZE, raw_file.HEAD_SIZE + raw_file.NODE.size
         words[10] = 1
         head = raw_file.WORDS.pack(*words) + raw_file.MODULE.pack(MODULE_AT, 0x8000000, b"/nowhere/drawn")
         with open(path, "wb") as out:

@@ -7,8 +7,10 @@ What no other judge sees: a race on a variable that nobody finds in the source, 
 import os
 import random
 import re
+import shutil
 import subprocess
 
+import names_of_runs
 import recorded_options
 from judging import Wrong
 from recorded_places import PATIENCE, RECORD, SOURCES, events_in, ran
@@ -170,11 +172,14 @@ def judge_damaged(source, compilers):
 
 
 def judge_types(source, compilers, level):
-    """A block has the type that was allocated, if that can be known, and no other one."""
+    """A block has the type that was allocated, if that can be known, and no other one. The source has a path in the
+    folder of the compiler, and the program runs in another one."""
     language = "c++" if source.endswith(".cpp") else "cc"
     environment = dict(os.environ, RECORD_CC=compilers[0], RECORD_CXX=compilers[1] or "")
-    path = os.path.join(SOURCES, source)
-    ran([os.path.join(RECORD, language), level, path, "-o", "program"], env=environment)
+    os.mkdir("compiled")
+    shutil.copy(os.path.join(SOURCES, source), "compiled")
+    command = [os.path.join(RECORD, language), level, source, "-o", os.path.abspath("program")]
+    ran(command, env=environment, cwd="compiled")
     variables, locks = names_of(["./program"])
     blocks = [re.sub(r"heap:[\w.]+:\d+ ?", "", name) for name in variables if name.startswith("heap:")]
     blocks = [name for name in blocks if not name.startswith("_State_impl")]
@@ -195,9 +200,38 @@ def judge_stripped(c):
         raise Wrong(f"without debug information: {sorted(variables)}")
 
 
+# What a decoder that is wrong in the same way all the time would make of the names of frames.c: two activations are one
+# object, two variables are one, and two blocks are one.
+WRONG_NAMES = (
+    ("round_of#2:", "round_of:"),
+    (":job.sum)", ":job.own)"),
+    ("round_of#2:job.pairs[1].b", "round_of:job.own"),
+)
+
+
+def judge_wrong_names(c):
+    """raw_objects.py sees names that are wrong in the same way all the time, and one that changes."""
+    path = os.path.join(SOURCES, "frames.c")
+    ran([os.path.join(RECORD, "cc"), "-O0", path, "-o", "program"], env=dict(os.environ, RECORD_CC=c))
+    ran([names_of_runs.RUN, "--raw", "kept.raw", "./program"])
+    if not names_of_runs.judge("kept.raw", "."):
+        raise Wrong("no name of frames.c is judged")
+    with open("names.std", encoding="utf-8") as file:
+        lines = file.readlines()
+    half = len(lines) // 2
+    changed = lines[:half] + [line.replace("(main:top)", "(main:low)") for line in lines[half:]]
+    for names in [[line.replace(*wrong) for line in lines] for wrong in WRONG_NAMES] + [changed]:
+        with open("wrong.std", "w", encoding="utf-8") as file:
+            file.writelines(names)
+        words = [names_of_runs.python(), names_of_runs.JUDGE, "kept.raw", "wrong.std", "names.numbers"]
+        if names == lines or subprocess.run(words, capture_output=True, check=False).returncode != 1:
+            raise Wrong("names that are wrong are not seen")
+
+
 def cases(c, cxx):
     found = [(f"names without debug information, {c}", judge_stripped, (c,))]
     found.append((f"names by forms of debug information, {c}", judge_forms, (c,)))
+    found.append((f"names that are wrong, {c}", judge_wrong_names, (c,)))
     for source in ("frames.c", "blocks.cpp") if cxx else ("frames.c",):
         found.append((f"names by damaged debug information, {c} {source}", judge_damaged, (source, (c, cxx))))
     for level in ("-O0", "-O1"):

@@ -8,14 +8,12 @@ which a part of the accesses is missing, a limit that nothing is said of.
 import os
 import re
 import subprocess
-import sys
 
 from judging import Wrong
+from names_of_runs import decoder, python
 from recorded_places import PATIENCE, RECORD, SOURCES, TOP, events_in, ran
 
 MOST_EVENTS = 1_048_576
-# The decoder is compiled once, which takes minutes on a machine that does much else.
-COMPILING = 1800
 # How many threads many_threads.c makes.
 THREADS = 600
 
@@ -30,21 +28,11 @@ def run(*words):
     return events_in(done.stdout.decode()), done.stderr.decode(errors="replace")
 
 
-# A Python that has Debian's python3-pyelftools: the one that runs this, or Debian's own.
-PYTHONS = (sys.executable, "/usr/bin/python3")
 # Programs of tests/recorded whose traces the judge computes. They are small, in C, and have no relaxed atomics.
 INTERPRETED = (
-    "count each_kind barrier rounds semaphore_lock read_lock between_writers freed signals sockets frames named"
+    "count each_kind barrier rounds semaphore_lock read_lock between_writers freed signals sockets frames named "
+    "returned"
 ).split()
-
-
-def decoder():
-    """The path of the decoder, which is compiled if it is not there yet."""
-    text = "import sys; sys.path.insert(0, sys.argv[1]); import decoders; print(decoders.path())"
-    done = subprocess.run([sys.executable, "-c", text, RECORD], capture_output=True, timeout=COMPILING, check=False)
-    if done.returncode:
-        raise Wrong(f"there is no decoder: {done.stderr.decode(errors='replace')[-600:]}")
-    return done.stdout.decode().strip()
 
 
 def decoded(*options):
@@ -57,10 +45,7 @@ def decoded(*options):
 
 def interpreted(*options):
     """The trace of `kept.raw` as its judge computes it."""
-    for python in PYTHONS:
-        if subprocess.run([python, "-c", "import elftools"], capture_output=True, check=False).returncode == 0:
-            return ran([python, os.path.join(TOP, "tests", "raw_trace.py"), *options, "kept.raw"]).splitlines()
-    raise Wrong("the judge of the decoder needs Debian's package python3-pyelftools")
+    return ran([python(), os.path.join(TOP, "tests", "raw_trace.py"), *options, "kept.raw"]).splitlines()
 
 
 def judge_decoder(source, options, c):

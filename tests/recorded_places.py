@@ -8,8 +8,8 @@ and two places of one name.
 import functools
 import os
 import re
-import subprocess
 
+import names_of_runs
 from judging import Wrong
 
 TOP = os.path.dirname(os.path.dirname(os.path.abspath(__file__)))
@@ -31,14 +31,14 @@ def events_in(trace):
 
 
 def ran(words, wanted=0, **more):
-    done = subprocess.run(words, capture_output=True, timeout=PATIENCE, check=False, **more)
+    done = names_of_runs.run(words, capture_output=True, timeout=PATIENCE, check=False, **more)
     if done.returncode != wanted:
         raise Wrong(f"{' '.join(words)}: status {done.returncode}: {done.stderr.decode(errors='replace')[:600]}")
     return done.stdout.decode()
 
 
 def locations(*words):
-    """The locations of a recording of `program`: operation, first place, and what stands behind it."""
+    """The locations of a recording of `program`: operation, first place, and what is after it."""
     found = []
     for line in events_in(ran([os.path.join(RECORD, "run"), "--all", *words, "./program"])):
         _, operation, location = line.split("|", 2)
@@ -50,7 +50,7 @@ def locations(*words):
 
 
 def judge_names():
-    """Two files of one name are two places; the calls stand behind them, those in their place too; recursion is
+    """Two files of one name are two places; the calls stand after them, those in their place too; recursion is
     written once."""
     found = locations()
     places = {place for operation, place, _ in found if operation.startswith(("r(p_", "w(p_", "r(q_", "w(q_"))}
@@ -110,7 +110,7 @@ def lines_of(name):
 
 
 def is_within(calls):
-    """Whether the calls behind the function of the access are those of each_kind.cpp."""
+    """Whether the calls after the function of the access are those of each_kind.cpp."""
     return all(call.split(" ")[-1].startswith("each_kind.cpp:") for call in calls[1:])
 
 

@@ -1,10 +1,10 @@
 """Judges record/ on programs of C++20 made by chance, whose races are known: some are planted, and some orders too.
 
-A scenario has threads of its own. Its first thread writes a datum, and the last one reads it. What passes from each
-thread to the next orders the two, or the datum is also accessed before or behind that: that is a race, and a label
+A scenario has its own threads. Its first thread writes a datum, and the last one reads it. What passes from each
+thread to the next orders the two, or the datum is also accessed before or after that: that is a race, and a label
 names it. So each race of the recording has to have its label, and each label a race, within some seeds.
 
-    recorded_planted.py PROGRAM FIRST COUNT [CC CXX]     so many programs from a seed on, in a process of its own
+    recorded_planted.py PROGRAM FIRST COUNT [CC CXX]     this many programs from a seed on, in its own process
 """
 
 import os
@@ -272,7 +272,7 @@ class Scenario:
         return self.named(self.write if write else self.read) + (f" // RACE r{self.number}" if races else "")
 
     def declare(self, code, link=0):
-        """Each object has a line of its own."""
+        """Each object has its own line."""
         self.lines += ["static " + self.named(code, link)] if code else []
 
     def aside(self):
@@ -351,7 +351,7 @@ class Scenario:
             self.bodies.append([self.aside(), *lines, self.aside()])
 
     def once(self):
-        """Threads that come to what is done once, and read what it wrote; one may read before, or write behind."""
+        """Threads that come to what is done once, and read what it wrote; one may read before, or write after."""
         chance = self.chance
         declared, comes = chance.choice(ONCE)
         for one in re.findall(r"[^;]+;", declared):
@@ -414,7 +414,7 @@ def cases(racebench, c, cxx):
 
 
 def soak(racebench, first, programs, c="gcc", cxx="g++"):
-    """So many programs; how many have other races than those that were planted."""
+    """This many programs; how many have other races than those that were planted."""
     wrong, races, top = 0, 0, os.getcwd()
     for seed in range(first, first + programs):
         with tempfile.TemporaryDirectory() as folder:

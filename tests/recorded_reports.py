@@ -8,10 +8,31 @@ import os
 import re
 import shutil
 import subprocess
+import sys
 
 from judging import Wrong
 from recorded_places import PATIENCE, RECORD, SOURCES, TOP, ran
 
+sys.path.append(RECORD)
+import matching
+
+# What a report calls the variable that has a name in a trace; nothing if the trace names none.
+VARIABLES = {
+    "hosts[12].state": "hosts",
+    "shop::pool.stopping_": "pool",
+    "atomic:held:shop::pool.mutex_": "pool",
+    "main:job.pairs[1].b": "job",
+    "shop::Table::find#T12.5:row[4]+2": "row",
+    "round_of#2:sum": "sum",
+    "counter:count": "count",
+    "mine#T1": "mine",
+    "flags.0+4": "flags",
+    "libshop.so.1:shelf+8": "shelf",
+    "text@40~1": "text",
+    "heap:shop.cpp:40 Item#T3[3].price": "",
+    "stack:worker#2-40": "",
+    "memory:7ffff7d00000+16": "",
+}
 SOURCE = os.path.join(TOP, "examples", "count.c")
 # How often a program runs until its race is reported.
 RUNS = 200
@@ -253,9 +274,19 @@ def judge_valgrind(racebench):
     judge_cuts(racebench, valgrind_report("helgrind", ["--xml=yes", "--xml-file=report.xml"]))
 
 
+def judge_variables():
+    for name, wanted in VARIABLES.items():
+        if matching.variable_of(name) != wanted:
+            raise Wrong(f"the variable of {name} is {matching.variable_of(name)!r}, and not {wanted!r}")
+    for variable in ("shop::pool", "pool"):
+        if not matching.Recording.is_of({"variable": "shop::pool.stopping_"}, variable):
+            raise Wrong(f"a report of {variable} is not one of shop::pool.stopping_")
+
+
 def cases(racebench, c):
     """The cases of a compiler; those of valgrind stand beside gcc's."""
     found = [(f"reports of ThreadSanitizer, {c}", judge_reports, (racebench, c))]
+    found += [("variables of reports", judge_variables, ())] if c == "gcc" else []
     if c == "gcc" and shutil.which("valgrind"):
         found.append(("reports of Helgrind and DRD", judge_valgrind, (racebench,)))
     elif c == "gcc":

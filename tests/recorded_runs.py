@@ -8,13 +8,14 @@ files that are left.
 import functools
 import os
 import re
+import shutil
 import signal
-import struct
 import subprocess
 import sys
 import tempfile
 import time
 
+import raw_words
 from judging import Wrong
 from recorded_places import AGAIN, PATIENCE
 
@@ -23,12 +24,10 @@ RECORD = os.path.join(TOP, "record")
 SOURCES = os.path.join(TOP, "tests", "recorded")
 # Recordings of each kind of synchronization.
 RUNS = 10
-# The head of a raw file, the size of its records, and the kinds whose answers are the world's: runtime/format.h.
-HEAD, RECORD_SIZE = struct.Struct("<18Q"), 48
+# The kind whose answers are the world's: runtime/format.h.
 ANSWER = 16
-# The place in the head of how many turns were taken by force.
-FORCED = 8
 
+COMPILED_ONCE = "record: the recorder is compiled, once\n"
 ONE_THREAD = "recording|begin(RECORDED)|\nrecording|end(LEFT OUT 0 FROM 0: ONE THREAD)|\n"
 TWO_THREADS = """#include <pthread.h>
 #include <stdlib.h>
@@ -83,11 +82,11 @@ def raw_run(words, seed):
             RACEBENCH_RECORD_ROOM="65536",
         )
         ran(["setarch", "-R", *words], env=surroundings)
-        head = HEAD.unpack(file.read(HEAD.size))
-        file.seek(head[6])
-        whole = file.read(min(head[2], head[1]) * RECORD_SIZE)
-    records = [whole[at : at + RECORD_SIZE] for at in range(0, len(whole), RECORD_SIZE)]
-    return [record if record[42] != ANSWER else record[8:24] + record[40:] for record in records], head[FORCED]
+        head = raw_words.WORDS.unpack(file.read(raw_words.WORDS.size))
+        file.seek(head[raw_words.WORDS_AT])
+        rows = list(raw_words.rows(file.read(8 * head[raw_words.USED_AT]), head[raw_words.USED_AT]))
+    records = [row if row[7] != ANSWER else row[1:3] + row[6:] for row in rows]
+    return records, head[raw_words.FORCED_AT]
 
 
 def judge_same_runs(c):
@@ -367,16 +366,22 @@ def is_ours(pid):
 
 
 def judge_once(c):
-    """The recorder is compiled once: a second program is linked with the same one."""
+    """The recorder is compiled once, and a line says so, also if two clones are called at once."""
     surroundings = dict(os.environ, XDG_CACHE_HOME=os.path.abspath("cache"))
     with open("source.c", "w", encoding="ascii") as source:
         source.write(TWO_THREADS)
-    kept = []
-    for name in ("first", "second"):
-        ran([os.path.join(RECORD, "cc"), "source.c", "-o", name], env=surroundings)
-        folder = os.path.join("cache", "racebench")
-        kept.append([(name, os.stat(os.path.join(folder, name)).st_mtime_ns) for name in sorted(os.listdir(folder))])
-    if kept[0] != kept[1] or len(kept[0]) != 1 or not re.match(r"recorder-[0-9a-f]+\.o$", kept[0][0][0]):
+    shutil.copytree(RECORD, "clone", ignore=shutil.ignore_patterns("__pycache__"))
+    calls = [
+        subprocess.Popen(
+            [os.path.join(record, "cc"), "source.c", "-o", name], env=surroundings, stderr=subprocess.PIPE, text=True
+        )
+        for name, record in (("first", RECORD), ("second", "clone"))
+    ]
+    said = sorted(call.communicate(timeout=PATIENCE)[1] for call in calls)
+    if said != ["", COMPILED_ONCE] or any(call.returncode for call in calls):
+        raise Wrong(f"two calls of record/cc say {said}")
+    kept = os.listdir(os.path.join("cache", "racebench"))
+    if len(kept) != 1 or not re.match(r"recorder-[0-9a-f]+\.o$", kept[0]):
         raise Wrong(f"the recorder was not kept: {kept}")
 
 

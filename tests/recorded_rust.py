@@ -4,7 +4,7 @@ a Rust that is unknown, and programs made by chance whose races are known (recor
 What no other judge sees: a race of a Rust program that is not listed or a false one, a lock of Rust's library that is
 not written as a lock, and a race that the real program can't be led to.
 
-    recorded_rust.py PROGRAM SEEDS [TEXT]..     the cases whose names contain a text, with so many seeds
+    recorded_rust.py PROGRAM SEEDS [TEXT]..     the cases whose names contain a text, with this many seeds
 """
 from __future__ import annotations
 
@@ -115,7 +115,7 @@ def judge_program(racebench: str, name: str, label: str, seeds: int) -> None:
 
 
 def judge_some_seed(racebench: str, name: str, most: int) -> None:
-    """One of so many seeds meets the race, and none another one."""
+    """One of this many seeds meets the race, and none another one."""
     wanted = labels()[name]
     for seed in range(1, most + 1):
         judge_whole(name, seed)

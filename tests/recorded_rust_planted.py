@@ -1,10 +1,10 @@
 """Judges record/ on Rust programs made by chance, whose races are known: some are planted, and some orders too.
 
-A scenario has threads of its own. The first one writes a datum, and the last one reads it. What passes from one to the
+A scenario has its own threads. The first one writes a datum, and the last one reads it. What passes from one to the
 next orders the two, or the datum is also accessed after the first pass or before the last one: that is a race, and a
 label names it. So each race of the recording has its label, and each label has a race, within some seeds.
 
-    recorded_rust_planted.py PROGRAM FIRST COUNT     so many programs from a seed on, in a process of its own
+    recorded_rust_planted.py PROGRAM FIRST COUNT     this many programs from a seed on, in its own process
 """
 from __future__ import annotations
 
@@ -23,7 +23,7 @@ RECORD = os.path.join(TOP, "record")
 PATIENCE = 900
 # The seeds of the programs that are always tried, how many scenarios each has, and the fewest races of all.
 FEW, SCENARIOS, LEAST_RACES = (8,), 8, 3
-# A program has so many runs at least, and so many at most: the counter of a scope may order two threads in a run.
+# A program has this many runs at least, and this many at most: the counter of a scope may order two threads in a run.
 RUNS, MOST_RUNS = 2, 10
 
 HEAD = """use std::cell::UnsafeCell;

@@ -13,6 +13,7 @@ import re
 import subprocess
 import sys
 
+import names_of_runs
 from judging import Wrong
 from recorded_places import PATIENCE, RECORD, SOURCES
 
@@ -98,7 +99,7 @@ def labels_of(paths):
 def ran(words, **more):
     """How a command ended, and what it wrote."""
     try:
-        done = subprocess.run(words, capture_output=True, timeout=PATIENCE, check=False, **more)
+        done = names_of_runs.run(words, capture_output=True, timeout=PATIENCE, check=False, **more)
     except subprocess.TimeoutExpired:
         raise Wrong(f"{' '.join(words)}: does not end") from None
     return done.returncode, done.stdout.decode(errors="replace"), done.stderr.decode(errors="replace")

@@ -5,8 +5,8 @@ What no other judge sees: a try that looks like a lock that waits, as which it c
 
 import os
 import re
-import subprocess
 
+import names_of_runs
 from judging import Wrong
 from recorded_places import PATIENCE, RECORD, SOURCES, ran
 
@@ -25,7 +25,8 @@ def compiled(source, c, cxx, *words):
 
 def run(*words):
     """The status of a recording, its trace, and what is said of it."""
-    done = subprocess.run([os.path.join(RECORD, "run"), *words], capture_output=True, timeout=PATIENCE, check=False)
+    command = [os.path.join(RECORD, "run"), *words]
+    done = names_of_runs.run(command, capture_output=True, timeout=PATIENCE, check=False)
     return done.returncode, done.stdout.decode(), done.stderr.decode(errors="replace")
 
 

@@ -44,12 +44,18 @@ int main(int count, char **words) {
     if (!strcmp(what, "vfork")) child(1);
     if (!strcmp(what, "failed")) execl("/no/such/program", "it", (char *)0);
     if (!strcmp(what, "becomes")) execlp("true", "true", (char *)0);
+    if (!strcmp(what, "again")) execl(words[0], words[0], (char *)0);
     if (!strcmp(what, "system")) return system("true");
     if (!strcmp(what, "popen")) return pclose(popen("true", "r"));
     if (!strcmp(what, "spawn")) {
         char *own[] = {"true", 0};
         pid_t p;
         posix_spawn(&p, "/bin/true", 0, 0, own, environ), waitpid(p, 0, 0);
+    }
+    if (!strcmp(what, "twin")) {
+        char *own[] = {words[0], 0};
+        pid_t p;
+        posix_spawn(&p, words[0], 0, 0, own, environ), waitpid(p, 0, 0);
     }
     if (!strcmp(what, "raw")) { pid_t p = syscall(SYS_fork); if (!p) syscall(SYS_exit, 0); waitpid(p, 0, 0); }
     if (!strcmp(what, "killed")) raise(SIGKILL);
@@ -68,6 +74,8 @@ CAUSES = [
     ([], "system", r"LEFT OUT 1 FROM 0: EXEC"),
     ([], "popen", r"LEFT OUT 1 FROM 0: EXEC"),
     ([], "spawn", r"LEFT OUT 1 FROM 0: EXEC"),
+    ([], "again", r"LEFT OUT 1 FROM 0: EXEC"),
+    ([], "twin", r"LEFT OUT 1 FROM 0: EXEC"),
     ([], "raw", r"LEFT OUT 1 FROM 0: FORK"),
     ([], "killed", r"LEFT OUT 0 FROM 84: KILLED"),
     ([], "crash", r"LEFT OUT 0 FROM 84: KILLED"),
@@ -109,6 +117,8 @@ def judge_causes(c):
         if word == "raw" and os.uname().machine != "x86_64":
             continue
         judge_run([*options, "./program", *([word] if word else [])], last, 0 if last == "WHOLE" else 4)
+    judge_run(["sh", "-c", "./program"], "WHOLE", 0)
+    judge_run(["sh", "-c", "./program; ./program; ./program"], r"LEFT OUT 2 FROM 0: EXEC", 4)
     command = [os.path.join(RECORD, "run"), "./program", "alone"]
     done = subprocess.run(command, capture_output=True, timeout=PATIENCE, check=False)
     if done.returncode != 1 or b"end(LEFT OUT 0 FROM 0: ONE THREAD)|" not in done.stdout:

@@ -50,7 +50,7 @@ BEST_ROOM = []
 
 
 def parts_of(lines, lengths):
-    """The lines of each client, who made so many calls, and the log as pairs of a client and a call."""
+    """The lines of each client, who made this many calls, and the log as pairs of a client and a call."""
     at = 0
     told = []
     for client, calls in enumerate(lengths, start=1):

@@ -12,7 +12,7 @@ KINDS = ("notApplicable", "pass", "fail", "review", "open", "informational")
 LEVELS = ("none", "note", "warning", "error")
 IMPORTANCE = ("important", "essential", "unimportant")
 
-# Each object: its properties, with what they are; an exclamation mark is behind those that are required.
+# Each object: its properties, with what they are; an exclamation mark is after those that are required.
 OBJECTS = {
     "log": {"$schema": "uri", "version!": ("2.1.0",), "runs!": ["run"]},
     "run": {"tool!": "tool", "results": ["result"], "originalUriBaseIds": {"": "artifact"}, "properties": "bag"},
@@ -51,12 +51,12 @@ OBJECTS = {
     "step": {"location": "location", "executionOrder": COUNT, "importance": IMPORTANCE},
 }
 NOT_EMPTY = {"threadFlows", "locations"}
-# RFC 3986: a URI, or a relative reference whose first segment has no colon; no character that has to be encoded.
+# RFC 3986: a URI, or a relative reference whose first segment has no colon; no character that must be encoded.
 URI = re.compile(r"(?:[A-Za-z][A-Za-z0-9+.-]*:)?(?:[A-Za-z0-9._~!$&'()*+,;=@/-]|%[0-9A-F]{2})*")
 
 
 def check_value(value, kind, where):
-    """Judges a value by what it has to be."""
+    """Judges a value by what it must be."""
     if isinstance(kind, list):
         if not isinstance(value, list):
             raise Wrong(f"{where} is no list")

@@ -12,7 +12,7 @@ import time
 
 from judging import Wrong
 
-# What has to be installed: Debian's packages slurmctld, slurmd and munge.
+# What must be installed: Debian's packages slurmctld, slurmd and munge.
 DAEMONS = ["munged", "slurmctld", "slurmd"]
 NODES = ["one", "two"]
 # Where Debian has daemons, which is not on each user's path.

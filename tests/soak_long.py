@@ -5,7 +5,7 @@ import subprocess
 import sys
 import time
 
-# A block of so many events comes again and again. One lock is held all the time.
+# A block of this many events comes again and again. One lock is held all the time.
 BLOCK = 1_000
 RACES = 10
 EVENTS = 20_000_000
@@ -54,7 +54,7 @@ def feed(out, blocks):
 
 
 def run(program, events, words):
-    """Judges a trace of about so many events; answers what is wrong, if anything is, and prints time and memory."""
+    """Judges a trace of about this many events; answers what is wrong, if anything is, and prints time and memory."""
     blocks, size = events // BLOCK, len(block())
     begun = time.monotonic()
     with subprocess.Popen([program, "triage", "-", *words], stdin=subprocess.PIPE, stdout=subprocess.PIPE) as running:

@@ -1,5 +1,5 @@
 #!/usr/bin/env python3
-"""soak_recorded.py PROGRAM [N]: what `tools/soak --recorded` tries, in a process of its own: record/ and tests/ each
+"""soak_recorded.py PROGRAM [N]: what `tools/soak --recorded` tries, in its own process: record/ and tests/ each
 have a `running`."""
 
 import secrets
