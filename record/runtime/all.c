@@ -13,6 +13,7 @@
 #include "watcher.c"
 #include "accesses.c"
 #include "atomics.c"
+#include "assembly.c"
 #include "heap.c"
 #include "texts.c"
 #include "searches.c"
