@@ -233,7 +233,15 @@ def judge_no_decoder():
             raise Wrong(f"the compiler {compiler}: status {done.returncode}: {lines}")
 
 
+def judge_versions(racebench):
+    """The commands of the recorder print the version of racebench."""
+    for command in ("run", "follow", "confirm", "check", "reported"):
+        if ran([os.path.join(RECORD, command), "--version"]) != ran([racebench, "--version"]):
+            raise Wrong(f"record/{command} --version prints another version than racebench")
+
+
 def cases(racebench, c):
+    versions = ("versions of the recorder", judge_versions, (racebench,))
     refusals = (f"refusals of options, {c}", judge_refusals, (c,))
     threads = (f"more threads than a trace has, {c}", judge_threads, (racebench, c))
-    return [refusals, (f"beginning, files and length of a trace, {c}", judge_options, (c,)), threads]
+    return [versions, refusals, (f"beginning, files and length of a trace, {c}", judge_options, (c,)), threads]
