@@ -11,6 +11,7 @@
 #include "gimple-iterator.h"
 #include "gimple-expr.h"
 #include "gimplify.h"
+#include "gimplify-me.h"
 #include "tree-cfg.h"
 #include "ssa.h"
 #include "stringpool.h"
@@ -18,6 +19,7 @@
 #include "asan.h"
 #include "plugin-version.h"
 #include <cstring>
+#include <initializer_list>
 #include <string>
 
 int plugin_is_GPL_compatible;
@@ -115,9 +117,9 @@ const bool is_known_processor = true;
 const bool is_known_processor = false;
 #endif
 
-/* The words of a template that say what its instructions do. */
+/* What the instructions of a template do. Moves are loads and stores; others, as prefetches, access nothing. */
 struct Instructions {
-    bool is_empty = true, is_atomic = false, only_move = true, is_no_access = false;
+    bool is_atomic = false, are_moves = true, access_nothing = true;
 
     explicit Instructions(const std::string &text) {
         for (size_t at = 0; at < text.size();) {
@@ -128,16 +130,26 @@ struct Instructions {
     }
 
 private:
-    static bool begins(const std::string &text, const char *with) { return !text.compare(0, strlen(with), with); }
+    static bool begins(const std::string &text, std::initializer_list<const char *> words) {
+        for (const char *word : words)
+            if (!text.compare(0, strlen(word), word)) return true;
+        return false;
+    }
+
+    static std::string without_blanks(const std::string &text) {
+        size_t first = text.find_first_not_of(" \t");
+        return first == std::string::npos ? "" : text.substr(first);
+    }
 
     void add(const std::string &line) {
-        size_t first = line.find_first_not_of(" \t");
-        if (first == std::string::npos || line[first] == '#' || line[first] == '.') return;
-        std::string text = line.substr(first);
-        is_empty = false;
-        is_atomic |= begins(text, "lock") || begins(text, "xchg");
-        only_move &= begins(text, "mov");
-        for (const char *none : {"prefetch", "clflush", "clwb", "lea", "nop", "invlpg"}) is_no_access |= begins(text, none);
+        std::string text = without_blanks(line);
+        size_t label = text.find(':');
+        if (label != std::string::npos && text.find_first_of(" \t") > label)
+            text = without_blanks(text.substr(label + 1));
+        if (text.empty() || begins(text, {"#", "."})) return;
+        is_atomic |= begins(text, {"lock", "xchg"});
+        are_moves &= begins(text, {"mov"});
+        access_nothing &= begins(text, {"prefetch", "clflush", "clwb", "lea", "nop", "pause", "invlpg"});
     }
 };
 
@@ -148,12 +160,8 @@ public:
 
     /* A call of the hook of this name for an operand. */
     void put(const char *name, tree operand) {
-        tree address = build_fold_addr_expr(unshare_expr(operand));
-        if (!is_gimple_min_invariant(address)) {
-            tree value = make_ssa_name(ptr_type_node);
-            put_before(line, gimple_build_assign(value, fold_convert(ptr_type_node, address)));
-            address = value;
-        }
+        tree address = fold_convert(ptr_type_node, build_fold_addr_expr(unshare_expr(operand)));
+        address = force_gimple_operand_gsi(line, address, true, NULL_TREE, true, GSI_SAME_STMT);
         tree type =
             build_function_type_list(void_type_node, ptr_type_node, size_type_node, integer_type_node, NULL_TREE);
         tree size = fold_convert(size_type_node, TYPE_SIZE_UNIT(TREE_TYPE(operand)));
@@ -176,15 +184,11 @@ bool is_accessed(tree operand) {
     return bytes && bytes <= 16 && !(bytes & (bytes - 1));
 }
 
-bool is_input(gasm *line, tree place) {
-    for (unsigned k = 0; k < gimple_asm_ninputs(line); k++)
-        if (operand_equal_p(TREE_VALUE(gimple_asm_input_op(line, k)), place, 0)) return true;
-    return false;
-}
-
 bool is_output(gasm *line, tree place) {
-    for (unsigned k = 0; k < gimple_asm_noutputs(line); k++)
-        if (operand_equal_p(TREE_VALUE(gimple_asm_output_op(line, k)), place, 0)) return true;
+    for (unsigned k = 0; k < gimple_asm_noutputs(line); k++) {
+        tree output = TREE_VALUE(gimple_asm_output_op(line, k));
+        if (operand_equal_p(output, place, OEP_ADDRESS_OF | OEP_MATCH_SIDE_EFFECTS)) return true;
+    }
     return false;
 }
 
@@ -198,30 +202,33 @@ bool clobbers_memory(gasm *line) {
  * which the compiler moves no other access is an atomic load or store. */
 void hook_assembly(gimple_stmt_iterator *at, gasm *line) {
     Instructions all(gimple_asm_string(line));
-    if (!is_known_processor || all.is_empty || all.is_no_access) return;
-    bool orders = all.only_move && clobbers_memory(line);
+    if (!is_known_processor || all.access_nothing) return;
+    bool orders = all.are_moves && clobbers_memory(line);
+    const char *update = all.is_atomic ? "__tsan_assembly_update" : NULL;
     Hooks hooks(at);
     for (unsigned k = 0; k < gimple_asm_ninputs(line); k++) {
         tree place = TREE_VALUE(gimple_asm_input_op(line, k));
-        if (!is_accessed(place) || (all.is_atomic && is_output(line, place))) continue;
-        hooks.put(orders ? "__tsan_assembly_load" : "__tsan_assembly_read", place);
+        if (!is_accessed(place) || (update && is_output(line, place))) continue;
+        hooks.put(update ? update : orders ? "__tsan_assembly_load" : "__tsan_assembly_read", place);
     }
     for (unsigned k = 0; k < gimple_asm_noutputs(line); k++) {
         tree place = TREE_VALUE(gimple_asm_output_op(line, k));
         if (!is_accessed(place)) continue;
-        bool is_update = all.is_atomic && is_input(line, place);
-        hooks.put(is_update ? "__tsan_assembly_update" : orders ? "__tsan_assembly_store" : "__tsan_assembly_write", place);
+        hooks.put(update ? update : orders ? "__tsan_assembly_store" : "__tsan_assembly_write", place);
+    }
+}
+
+void change_block(basic_block block) {
+    for (gimple_stmt_iterator at = gsi_start_bb(block); !gsi_end_p(at); gsi_next(&at)) {
+        gimple *statement = gsi_stmt(at);
+        if (gcall *call = dyn_cast<gcall *>(statement)) change_call(&at, call);
+        else if (gasm *line = dyn_cast<gasm *>(statement)) hook_assembly(&at, line);
     }
 }
 
 unsigned bring_into_sight(function *f) {
     basic_block block;
-    FOR_EACH_BB_FN(block, f)
-        for (gimple_stmt_iterator at = gsi_start_bb(block); !gsi_end_p(at); gsi_next(&at)) {
-            gimple *statement = gsi_stmt(at);
-            if (gcall *call = dyn_cast<gcall *>(statement)) change_call(&at, call);
-            else if (gasm *line = dyn_cast<gasm *>(statement)) hook_assembly(&at, line);
-        }
+    FOR_EACH_BB_FN(block, f) change_block(block);
     gsi_commit_edge_inserts();
     return TODO_update_ssa_only_virtuals;
 }

@@ -19,9 +19,7 @@ static void assembly(int kind, void *at, u64 size, int is_first, u64 pc) {
 }
 
 #define OPERANDS(name, kind) \
-    void __tsan_assembly_##name(void *at, unsigned long size, int is_first) { \
-        assembly(kind, at, size, is_first, PC); \
-    }
+    void __tsan_assembly_##name(void *at, unsigned long size, int is_first) { assembly(kind, at, size, is_first, PC); }
 OPERANDS(read, READ)
 OPERANDS(write, WRITE)
 OPERANDS(load, ATOMIC_READ)
