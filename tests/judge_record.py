@@ -32,6 +32,7 @@ import recorded_labelled
 import recorded_leaving
 import recorded_names
 import recorded_options
+import recorded_pass
 import recorded_places
 import recorded_planted
 import recorded_raw
@@ -225,7 +226,7 @@ def cases_of(racebench, pairs):
     for place, (c, cxx) in enumerate(pairs):
         seeds = SEEDS if place == 0 else SEEDS[:1]
         cases.append((f"count.std, {c}", judge_example, (c, cxx)))
-        cases += recorded_names.cases(c, cxx)
+        cases += recorded_names.cases(c, cxx) + recorded_pass.cases(racebench, c)
         cases += recorded_places.cases(c, cxx) + recorded_reports.cases(racebench, c)
         cases += recorded_planted.cases(racebench, c, cxx) + recorded_tries.cases(c, cxx)
         if place == 0:

@@ -10,6 +10,7 @@ from __future__ import annotations
 import os
 import subprocess
 
+import recorded_pass
 from judging import Wrong
 
 TOP = os.path.dirname(os.path.dirname(os.path.abspath(__file__)))
@@ -35,6 +36,8 @@ GROUPS = {
     "files and libraries": "file_lock.c opened_library.c",
     "short threads": "short_check.c hidden_by_lock.c",
 }
+# What only the pass of gcc sees.
+OF_PASS = {"structs that calls return, and assembly": "struct_returned.c assembly.c"}
 
 
 def rows_of(racebench: str, programs: str) -> list[str]:
@@ -56,10 +59,11 @@ def judge_group(racebench: str, programs: str) -> None:
 
 def judge_judge(racebench: str) -> None:
     """A program whose race no recorder sees is missed, so a group with it would be wrong."""
-    if rows_of(racebench, "assembly.c") != ["assembly.c ours: MISSED"]:
-        raise Wrong("a race by a line of assembly is not missed")
+    if rows_of(racebench, "assembly_by_address.c") != ["assembly_by_address.c ours: MISSED"]:
+        raise Wrong("a race by an address in a line of assembly is not missed")
 
 
 def cases(racebench: str) -> list[tuple[str, object, tuple[str, ...]]]:
-    groups = [(f"labelled: {name}", judge_group, (racebench, programs)) for name, programs in GROUPS.items()]
+    wanted = GROUPS | (OF_PASS if recorded_pass.has_headers() else {})
+    groups = [(f"labelled: {name}", judge_group, (racebench, programs)) for name, programs in wanted.items()]
     return [*groups, ("labelled: what is missed", judge_judge, (racebench,))]

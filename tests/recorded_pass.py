@@ -1,0 +1,58 @@
+"""Judges the pass of gcc, which adds hooks where ThreadSanitizer puts none.
+
+What no other judge sees: a write without a hook under a lock, by which triage turns sections of the lock round, and an
+access of a line of assembly that hides a race.
+"""
+
+from __future__ import annotations
+
+import os
+import re
+import subprocess
+
+from judging import Wrong
+from recorded_places import RECORD, TOP, ran
+
+SOURCE = os.path.join(TOP, "tests", "recorded", "handed_over.c")
+SEEDS = (1, 2)
+
+
+def has_headers() -> bool:
+    """Whether gcc's headers for plugins are here."""
+    folder = subprocess.run(["gcc", "-print-file-name=plugin"], capture_output=True, text=True, check=False).stdout
+    return os.path.isfile(os.path.join(folder.strip(), "include", "gcc-plugin.h"))
+
+
+def lines_of_hands() -> set[str]:
+    """The places of the program that hand something over."""
+    with open(SOURCE, encoding="utf-8") as text:
+        return {f"handed_over.c:{number}" for number, line in enumerate(text, start=1) if line.startswith("HAND(")}
+
+
+def races(racebench: str, seed: int) -> set[tuple[str, str]]:
+    """The pairs of places of the races of a recording."""
+    trace = ran([os.path.join(RECORD, "run"), "--seed", str(seed), "./program"])
+    with open("trace.std", "w", encoding="utf-8") as text:
+        text.write(trace)
+    places = re.findall(r"^  T\d+\|[^|]*\|(\S+)", ran([racebench, "triage", "trace.std"]), re.MULTILINE)
+    return set(zip(places[::2], places[1::2]))
+
+
+def judge_hands(racebench: str, option: str) -> None:
+    """What is handed over under a lock is no race. What is written after that is one."""
+    environment = dict(os.environ, RECORD_CC="gcc")
+    for twin, wanted in (([], set()), (["-DRACY"], {(place, place) for place in lines_of_hands()})):
+        ran([os.path.join(RECORD, "cc"), option, *twin, SOURCE, "-o", "program"], env=environment)
+        for seed in SEEDS:
+            found = races(racebench, seed)
+            if found != wanted:
+                raise Wrong(f"{option} {twin}, seed {seed}: the races are {sorted(found)}, and not {sorted(wanted)}")
+
+
+def cases(racebench: str, c: str) -> list[tuple[str, object, tuple[str, ...]]]:
+    if c != "gcc":
+        return []
+    if not has_headers():
+        print("record/: the pass of gcc is not tested, since gcc's headers for plugins are not here")
+        return []
+    return [(f"what the pass of gcc adds, {option}", judge_hands, (racebench, option)) for option in ("-O0", "-O1", "-O2")]
