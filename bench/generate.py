@@ -106,8 +106,8 @@ def readers(events, threads):
 
 
 def colliding_names(folder, count):
-    """Names whose SipHash-1-3 under zero keys agrees in its low 11 bits, so that a table which hashed names with no
-    key of its own would put them into few places."""
+    """Names whose SipHash-1-3 under zero keys agrees in its low 11 bits, so that a table which hashed names without a
+    separate key would put them into few places."""
     here = os.path.dirname(os.path.abspath(__file__))
     tool = os.path.join(folder, "collide")
     subprocess.run(["cc", "-O2", "-o", tool, os.path.join(here, "collide.c")], check=True)
@@ -137,8 +137,8 @@ def write_trace(folder, name, lines):
 
 
 def write_traces(folder):
-    """Traces alone, for `info`: how it grows with the events and the threads, where many pairs are candidates for
-    races, where none is, and where one event has many partners in other threads."""
+    """Traces alone, for `info`: how it grows with the events and the threads, with many candidates for races, with
+    none, and with one event that has many partners in other threads."""
     os.makedirs(folder, exist_ok=True)
     for threads in (4, 64):
         for events in (EVENTS // 8, EVENTS):

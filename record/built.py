@@ -25,7 +25,7 @@ def is_ours(folder: str) -> bool:
 
 
 def folder() -> str | None:
-    """The folder that keeps files, or None if there is none."""
+    """The folder that keeps files, or None if no folder can."""
     for path in folders():
         try:
             os.makedirs(path, mode=0o700, exist_ok=True)
@@ -37,7 +37,7 @@ def folder() -> str | None:
 
 
 def key_of(sources: Iterable[str], words: Iterable[str]) -> str:
-    """A number of the contents and of the words."""
+    """A number of the contents and of the arguments."""
     digest = hashlib.sha256()
     for source in sources:
         with open(source, "rb") as file:
@@ -50,7 +50,7 @@ def key_of(sources: Iterable[str], words: Iterable[str]) -> str:
 def built(
     name: str, sources: Iterable[str], words: Iterable[str], make: Callable[[str], int], otherwise: str
 ) -> str | None:
-    """The path of a file that `make(path)` makes of the sources by the words; it is made once. It is in the folder
+    """The path of a file that `make(path)` makes of the sources by the arguments; it is made once. It is in the folder
     `otherwise` if nothing can be kept. None if it can't be made."""
     kept = folder()
     if kept is None:

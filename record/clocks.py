@@ -2,8 +2,8 @@
 the clock of its thread. Following never looks at a name or an address: an event has a record, and that a thread and a
 tick.
 
-The file: `RBCLOCK2`, the size of the words (4 bytes) and the words as JSON; for each event the number of its record
-(8 bytes) and the CRC-32 of its line (4 bytes); then the raw records. All numbers are little-endian.
+The file: `RBCLOCK2`, the size of the settings (4 bytes) and the settings as JSON; for each event the number of its
+record (8 bytes) and the CRC-32 of its line (4 bytes); then the raw records. All numbers are little-endian.
 """
 from __future__ import annotations
 

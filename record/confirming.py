@@ -1,4 +1,4 @@
-"""Following each race of a trace: the schedules that are tried, and what came of them as an object for JSON."""
+"""Following each race of a trace: the schedules that are tried, and their outcome as an object for JSON."""
 import argparse
 import io
 import re

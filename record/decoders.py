@@ -16,7 +16,7 @@ import built
 import running
 
 HERE = os.path.dirname(os.path.realpath(__file__))
-# Where the package has the decoder, if this folder is the package's.
+# The folder of the decoder in the package, if this folder is the package's.
 PACKAGED = "share/planecarmine/record", "lib/planecarmine/decoder"
 SOURCE = os.path.join(HERE, "decoder", "all.cpp")
 OPTIONS = ["-std=c++17", "-O2"]
@@ -108,7 +108,7 @@ class Wait(NamedTuple):
 
 
 class Facts:
-    """What the decoder reports of a trace: counts and where some of them were counted, by cause how much was left out
+    """What the decoder reports of a trace: counts and some places that were counted, by cause how much was left out
     and what has a name, and the deadlock that the run ended in."""
 
     def __init__(self, text: str) -> None:
@@ -133,7 +133,7 @@ class Facts:
 
 
 def run_decoder(call: list[str], files: list[int], out: Lines | None) -> tuple[int, str]:
-    """Runs the decoder with open files of these numbers; its status, and what it says on standard error."""
+    """Runs the decoder with open files of these numbers. Returns its status, and its standard error."""
     with tempfile.TemporaryFile() as errors:
         started = subprocess.Popen(
             call,

@@ -30,7 +30,7 @@ Words = Tuple[int, int]
 
 
 class Standing(NamedTuple):
-    """A thread that stands before its access: what it accesses and where, with its stack."""
+    """A thread right before its access: what it accesses and where, with its stack."""
 
     thread: int
     at: int
@@ -62,7 +62,7 @@ class OutOfTime(Exception):
 
 
 class Interrupted(Exception):
-    """A signal asked this command to end. What its program came to meanwhile says nothing."""
+    """A signal ended this command. How its program ended then says nothing."""
 
     def __init__(self, number: int) -> None:
         super().__init__(f"ended by {signal.Signals(number).name}")
@@ -70,7 +70,7 @@ class Interrupted(Exception):
 
 
 def end_by(number: int) -> int:
-    """Ends this process by the signal that asked for it; a status, if that does not end it."""
+    """Ends this process by the signal that it got; returns a status, if that does not end it."""
     signal.signal(number, signal.SIG_DFL)
     os.kill(os.getpid(), number)
     return 128 + number
@@ -236,7 +236,7 @@ PLAIN = re.compile(r"[\w./=,:@%+-]+", re.ASCII)
 
 
 def gdb_of(words: List[str], surroundings: Dict[str, str]) -> Tuple[List[str], Dict[str, str]]:
-    """The words that run a program under gdb, and the environment for them."""
+    """The command that runs a program under gdb, and the environment for it."""
     if all(map(PLAIN.fullmatch, words)):
         first = "set startup-with-shell off"
     else:
@@ -274,8 +274,8 @@ def surroundings_of(
 def followed(
     runner: Runner, plan: plans.Plan, order: plans.Order, seed: int, settings: Settings, out: IO[bytes]
 ) -> Result:
-    """Runs the program by the plan, and prints on `out` what it prints. Nothing of its files is left, but for that of
-    the settings."""
+    """Runs the program by the plan, and prints on `out` what it prints. It leaves no files, except those of the
+    settings."""
     records = settings.records or running.nameless_file()[0]
     try:
         with tempfile.TemporaryFile(prefix="record") as planned:

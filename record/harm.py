@@ -1,4 +1,4 @@
-"""The races of a merged report, in the order of what they may do, and what came of those that were followed."""
+"""The races of a merged report, in the order of what they may do, and what following them showed."""
 import re
 from typing import Any, Dict, List, NamedTuple, Sequence
 

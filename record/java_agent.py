@@ -1,4 +1,4 @@
-"""The agent that records Java programs: what compiles it, where it is kept, and what is missing for it."""
+"""The agent that records Java programs: what compiles it, its folder, and what is missing for it."""
 from __future__ import annotations
 
 import functools
@@ -52,7 +52,7 @@ def run(words: list[str]) -> None:
 
 
 def make(jar: str, names: str) -> int:
-    """Compiles the agent, and puts it into a jar with ASM. The jar will have one of these names."""
+    """Compiles the agent, and puts it into a jar with ASM. The jar will have one of the names."""
     javac, java, both = tool("javac"), tool("java"), f"{ASM}:{ASM_COMMONS}"
     with tempfile.TemporaryDirectory(prefix="record") as folder:
         agent, shade = os.path.join(folder, "agent"), os.path.join(folder, "shade")

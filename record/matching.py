@@ -1,4 +1,4 @@
-"""Finds the pair of places of a trace that a report tells of."""
+"""Finds the pair of places of a trace that a report names."""
 from __future__ import annotations
 
 import re
@@ -125,7 +125,7 @@ class Recording:
         return max(sum(each) if all(each) else 0 for each in orders)
 
     def pair_of(self, report: Report) -> tuple[dict[str, Any] | None, str]:
-        """The pair that a report tells of, and what must be said of it; or none, and why."""
+        """The pair that a report names, and the note on it; or None, and why."""
         named = [
             pair
             for pair in self.pairs
@@ -159,7 +159,7 @@ class Recording:
 
     @staticmethod
     def why_not_named(alone: bool, count: int) -> str:
-        """Nothing is said of pairs that a report does not name both places of, if all are apart."""
+        """Pairs get no line of their own if the report does not name both of their places and all are apart."""
         if alone:
             return f"the report has the place of one access alone, and the pairs of it here are apart ({count})"
         return f"no pair here is at both lines of the report, and those of the same functions are apart ({count})"
@@ -170,7 +170,7 @@ class Recording:
 
     @staticmethod
     def rank(fit: int, pair: dict[str, Any], alone: bool) -> tuple[tuple[int, int], list[int]]:
-        """The best fit first; where the report has one access, a race first."""
+        """The best fit first; if the report has one access, a race first."""
         order, events = ORDER[pair["kind"]], [access["event"] for access in pair["accesses"]]
         return ((order, -fit) if alone else (-fit, order)), events
 

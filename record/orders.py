@@ -128,7 +128,7 @@ def sequence(orders: Sequence[str], round_number: int) -> List[str]:
 
 def tried_in(orders: Sequence[str], seed: int, tries: int, follow: Callable[[str, int], Run]) -> Found:
     """Follows a race in these orders, a round of all orders for each seed, until the verdict wants no more. It ends at
-    the first run that departs before the race stands."""
+    the first run that departs before both threads are at the race."""
     tried = {name: Tried() for name in orders}
     round_number = 0
     while True:

@@ -11,7 +11,7 @@ import decoders
 
 
 class Places:
-    """Answers for the program of one recording. `head` is the raw file up to its records. A decoder of its own answers
+    """Answers for the program of one recording. `head` is the raw file up to its records. A separate decoder answers
     for a Go program: `words` run it."""
 
     def __init__(self, head: bytes, words: Sequence[str] = ()) -> None:

@@ -54,7 +54,7 @@ Row = Tuple[int, int, int, int]
 
 
 class BadWitness(Exception):
-    """Why a witness is none of this recording."""
+    """Why a witness does not fit this recording."""
 
 
 def read_witness(file: Iterable[str], clock: clocks.Clock) -> Witness:
@@ -84,7 +84,7 @@ def check_pair(clock: clocks.Clock, events: List[int], pair: Pair) -> None:
 
 
 def places_of(clock: clocks.Clock, events: List[int], lines: Dict[int, str]) -> Dict[int, int]:
-    """For each record the place of the event where it is done: the last, and of a try that was refused the last
+    """For each record the place of the event at which it is done: the last, and for a try that was refused the last
     read."""
     last: Dict[int, int] = {}
     for place, event in enumerate(events):
@@ -203,7 +203,7 @@ class Plan:
         self.packed = Steps([(record.thread, EVENT, record.pos, event) for record, event in records], self.needs)
 
     def tail(self, accesses: str) -> List[Row]:
-        """After the steps both threads come to stand, and then their accesses are done in that order."""
+        """After the steps both threads come to the race, and then their accesses are done in that order."""
         last = [self.pair["ab".index(letter)] for letter in accesses]
         kinds = [(STAND, event) for event in self.pair] + [(EVENT, event) for event in last]
         records = [(self.clock.record(event), kind, event) for kind, event in kinds]

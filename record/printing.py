@@ -62,7 +62,7 @@ def decoder_options(options: argparse.Namespace, is_killed: bool) -> list[str]:
 
 
 def stop_recording_after(seconds: float, file: IO[bytes]) -> None:
-    """This many seconds after the first record no more are kept: the room ends where it is. The program goes on."""
+    """This many seconds after the first record no more are kept: the room ends there. The program goes on."""
 
     def kept() -> int:
         head = os.pread(file.fileno(), raw_file.HEAD_SIZE, 0)
@@ -181,7 +181,7 @@ def losses_of_program(facts: decoders.Facts) -> Iterator[str]:
 
 
 def report_order(head: raw_file.Words, facts: decoders.Facts, libraries: list[str]) -> None:
-    """Where the trace has another order than the program."""
+    """Lines about an order that the trace has and the program has not, or the other way round."""
     for library in libraries:
         if library.startswith(UNKNOWN_OPENMP):
             say(f"a race in a region of OpenMP may be false: the recorder does not know {library}; compile with gcc")

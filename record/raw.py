@@ -119,7 +119,7 @@ def packed_head(used: int, modules: int) -> bytes:
 
 
 class Head(Words):
-    """All that stands before the records."""
+    """All that comes before the records."""
 
     def __init__(self, raw: bytes) -> None:
         super().__init__(raw[:HEAD_SIZE])
@@ -139,7 +139,7 @@ def words_of(file: IO[bytes]) -> Words:
 
 
 def write_compact(file: IO[bytes], out: IO[bytes]) -> None:
-    """Writes the head, the nodes and the words of a raw file, one after another, in pieces."""
+    """Writes the head, the nodes and the records of a raw file, one after another, in pieces."""
     file.seek(0)
     first = file.read(HEAD_SIZE)
     head = Words(first)
@@ -165,7 +165,7 @@ class Damaged(ValueError):
 
 
 class Reader:
-    """Reads the words of a raw file. Records have the numbers of their first words."""
+    """Reads the records of a raw file. They have the numbers of their first machine words."""
 
     def __init__(self, raw: bytes, head: Words) -> None:
         there = memoryview(raw)[head.words_at : head.words_at + head.used * WORD]
@@ -174,7 +174,7 @@ class Reader:
         self.thread = self.tick = 0
 
     def long(self, place: int, slot: int) -> Record | None:
-        """The record in the words after a place, if it was written whole."""
+        """The record in the machine words after a place, if it was written whole."""
         there = self.words[place + 1 : place + LONG_WORDS]
         record = Record._make(RECORD.unpack(there)) if len(there) == LONG_WORDS - 1 else None
         if not record or not record.done:

@@ -165,7 +165,7 @@ def read_go(lines: list[str]) -> Reports:
 
 
 def read_valgrind(lines: list[str]) -> Reports:
-    """Helgrind's and DRD's text. A report ends with an empty line behind its last access; one that has none is cut."""
+    """Helgrind's and DRD's text. A report ends with an empty line after its last access; one that has none is cut."""
     found = Reports()
     report: Report | None = None
     access: Access | None = None
@@ -197,7 +197,7 @@ def xml_calls(stack: trees.Element) -> Iterator[Call]:
 
 
 def xml_report(error: trees.Element, line: int) -> Report:
-    """The report of an `error`: each text that tells of an access, with the stack behind it."""
+    """The report of an `error`: each text that names an access, with the stack after it."""
     report = Report("data race", line)
     access: Access | None = None
     report.ended = True

@@ -42,8 +42,8 @@ def nameless_file() -> tuple[IO[bytes], str]:
 
 
 def open_standard_files(command: str) -> None:
-    """Opens nothing in place of each standard file that is closed: else another file would get its number, and what is
-    said would go there. Without standard output the command ends."""
+    """Opens /dev/null for each standard file that is closed. Else another file would get its number, and messages
+    would go there. Without standard output the command ends."""
     for number in range(3):
         try:
             os.fstat(number)
@@ -58,7 +58,7 @@ def open_standard_files(command: str) -> None:
 
 def prepare(parent: int, blocked: Iterable[int]) -> None:
     """In the child: the same addresses at each run, if the system allows it; and the child ends with this process, also
-    if that has ended by now. A signal that came meanwhile is the child's from here on."""
+    if that has ended by now. A signal that came before is the child's from here on."""
     C_LIBRARY.personality(NO_RANDOM_ADDRESSES)
     C_LIBRARY.prctl(SIGNAL_AT_PARENTS_DEATH, signal.SIGKILL)
     if os.getppid() != parent:
@@ -84,7 +84,7 @@ def look_before_writing(path: str) -> None:
 
 
 def why_not_begun(program: str, error: OSError) -> str:
-    """Why a program could not be run; a source or a trace in its place is none."""
+    """Why a program could not be run; a source or a trace was named instead, for example."""
     is_file = os.path.isfile(program) and not os.access(program, os.X_OK)
     return "%s: %s%s" % (program, error.strerror, "; it is not a program: record/cc makes one" if is_file else "")
 
@@ -181,8 +181,8 @@ def look_at(file: IO[bytes], program: str) -> None:
 
 
 def racebench_of(given: str | None) -> str | None:
-    """The program racebench: the one that is given, the one of $RACEBENCH, the one that was built beside this folder,
-    or the one in PATH; None if there is none."""
+    """The program racebench: the chosen one, the one of $RACEBENCH, the one that was built beside this folder, or the
+    one in PATH; None if no such program is found."""
     return given or os.environ.get("RACEBENCH") or (BUILT if os.access(BUILT, os.X_OK) else shutil.which("racebench"))
 
 

@@ -1,4 +1,4 @@
-"""What a followed run is told by: where both threads stand, where the run departed, how the program ended."""
+"""The lines about a followed run: where both threads are, where the run departed, how the program ended."""
 from __future__ import annotations
 
 import signal
@@ -61,7 +61,7 @@ class Telling:
         return f"the race stands: {', '.join(places_now)}"
 
     def frames(self, standing: following.Standing) -> list[str]:
-        """The stack of a thread that stands, the innermost frame first."""
+        """The stack of a thread at its access, the innermost frame first."""
         addresses = [standing.pc, *(site for _, site in standing.frames)]
         found = [frame for address in addresses for frame in self.places.frames(address)]
         return [f"{function} {place}" for function, place in found]

@@ -53,7 +53,7 @@ class Difference(NamedTuple):
 
 
 def runs_needed(comparisons: int, features: int = 1) -> int:
-    """How many runs of each order keep the rate of wrong verdicts, if so many pairs of orders are compared by so many
+    """How many runs of each order keep the rate of wrong verdicts, for this many compared pairs of orders and
     features."""
     runs = 1
     while comparisons * features * 2.0 ** (1 - 2 * runs) > RATE:
@@ -78,7 +78,7 @@ def first_difference(orders: Dict[str, Set[object]]) -> Optional[Difference]:
 
 
 def words_of(outputs: Set[bytes]) -> Words:
-    """The set of words at each place of these outputs, and last the set of their numbers of words."""
+    """The set of words at each place of the outputs, and last the set of their numbers of words."""
     split = [re.split(rb"(\s+)", output + b"\n") for output in outputs]
     places: Words = [set(there) for there in zip(*split)]
     return places + [{len(words) // 2 for words in split}]
@@ -97,7 +97,7 @@ def is_word(difference: Difference) -> bool:
 
 
 def by_words(orders: Orders) -> Tuple[Optional[Difference], int]:
-    """A word that tells two orders apart, and how many features vary or differ."""
+    """A word that differs between two orders, and how many features vary or differ."""
     words = {name: words_of({one.output for one in outcomes}) for name, outcomes in orders.items()}
     features = [each for each in features_of(words) if len(set().union(*each.values())) > 1]
     differences = [found for found in map(first_difference, features) if found]

@@ -53,7 +53,7 @@ ARGUING = {
 # Schedules that come to have all events, whose ends are exchanged.
 ENDING = {"new": 1, "add": 40, "back": 1, "swap": 6, "undo": 1, "propose": 1, "adopt": 1, "races": 2}
 MOODS = [GROWING, ARGUING, ENDING]
-# The commands alone, and with batches of them.
+# The commands alone, and with batches.
 COMMANDS = {"new": 2, "add": 4, "back": 1, "swap": 2, "branch": 2, "drop": 2}
 BATCHES = {**COMMANDS, "batch": 5}
 # The commands of a batch.
@@ -100,7 +100,7 @@ def section(chance, depth):
 
 
 def locked_trace(chance, most):
-    """A trace of 2 or 3 threads with at most so many events, and most accesses in sections of locks. Some threads are
+    """A trace of 2 or 3 threads with at most this many events, most accesses in sections of locks. Some threads are
     forked and joined by the first. It ends where the rules leave no thread that may go on."""
     threads = chance.sample(THREADS, chance.randint(2, 3))
     to_do = {
@@ -125,8 +125,8 @@ def locked_trace(chance, most):
 
 
 def probed(drawn):
-    """The trace with a write before and a write after each pair of events, of a variable of their own: the two writes
-    are a candidate exactly where no chain of edges leads from the first event to the second."""
+    """The trace with a write before and a write after each pair of events, of a fresh variable: the two writes are a
+    candidate exactly if no chain of edges leads from the first event to the second."""
     events = []
     numbers = range(len(drawn.events))
     for number, event in enumerate(drawn.events):
@@ -138,7 +138,7 @@ def probed(drawn):
 
 def event(chance, trace_, listed):
     """An event, most often one that may come next, or the next one of a thread; also the number after the last one,
-    which is none."""
+    which has no event."""
     wanted = chance.random()
     if wanted < 0.9:
         causes = [trace_.cause(listed, event) for event in range(len(trace_.events))]
@@ -177,7 +177,7 @@ def proposal(chance, log):
 
 
 def name_among(chance, names, preferred):
-    """One of the names, most often one of those that are preferred."""
+    """One of the names, most often a preferred one."""
     among = [name for name in names if name in preferred]
     return chance.choice(among if among and chance.random() < 0.85 else names)
 
@@ -201,8 +201,8 @@ def command(chance, state, names, word):
 
 
 def batch(chance, log, names):
-    """A batch, each command of which is drawn after those before it. Most are accepted; of those that are not, the
-    first refused command is at any place, and of the others some have too many."""
+    """A batch, each command of which is drawn after those before it. Most are accepted. In others the first refused
+    command is at any place; some have too many commands."""
     length = chance.choice(LONGEST) if chance.random() < 0.03 else chance.randint(1, MOST_COMMANDS)
     is_good = chance.random() < 0.8
     rows = log.rows

@@ -46,7 +46,7 @@ def why(told):
 
 
 def lines_of(objects):
-    """The lines that stand for these objects."""
+    """The lines for these objects."""
     lines = []
     for told in objects:
         if told["kind"] not in HEADS:

@@ -2,9 +2,9 @@
 leave.
 
 Nothing is read or written without the lock. After each write and each cut a crash leaves the lines that the file had
-when the lock was taken, or these and those of the turn, whatever part of what is not yet synced came to the disk. A
-file gets its name once it is whole and synced. An answer is written once the lock is free and the file and its folder
-are synced, since the lock was taken and since the last write.
+when the lock was taken, or these and those of the turn. That holds for any part of what is not yet synced that came to
+the disk. A file gets its name once it is whole and synced. An answer is written once the lock is free and the file and
+its folder are synced, since the lock was taken and since the last write.
 """
 
 import itertools
@@ -29,7 +29,7 @@ def kept_lines(file):
 
 
 def notes_of(text):
-    """The notes: a call, the file's number, what is said of it, its result, and the bytes that were written."""
+    """The notes: a call, the file's number, its arguments, its result, and the bytes that were written."""
     for line in text.splitlines():
         call, *words = line.split()
         if call == "answer":

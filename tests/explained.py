@@ -1,6 +1,6 @@
 """Judges what `explain` printed of a pair, by tests/plain.py, which answers from the definitions.
 
-A schedule is told by its runs, a pair that is apart by a chain of reasons or by a lock, and one that is undecided by a
+A schedule is printed by its runs, a pair that is apart by a chain of reasons or by a lock, and an undecided one by a
 chain of SHB. Each link of a chain must be one of the definition, and what no definition fixes may be any of what is
 true.
 """
@@ -13,7 +13,7 @@ from judging import Wrong
 MOST_RUNS = 11
 LAST_RUNS = 10
 
-# A chain of a forced pair: the events that are printed, in order, and the words between each two.
+# A chain of a forced pair: the printed events, in order, and the reasons between each two.
 Chain = collections.namedtuple("Chain", "events words")
 
 
@@ -77,7 +77,7 @@ def event_of(trace, line, blanks):
     return event
 
 
-# What the words between two events say. A part of a chain along one thread is drawn together.
+# The reasons between two events. A part of a chain along one thread is drawn together.
 
 
 def is_later(trace, first, second):
@@ -118,8 +118,8 @@ READ = "is read by"
 
 
 def without_note(trace, tally, first, words, second):
-    """The words of a link without the note that a write and its read race, which has to stand there exactly where the
-    two are a candidate."""
+    """The reason of a link without the note that a write and its read race. The note must be there exactly if the two
+    are a candidate."""
     if not words.startswith(READ):
         return words
     is_race = trace.conflict(first, second) and trace.is_candidate(first, second)
@@ -157,8 +157,8 @@ def folded(trace, runs):
 
 
 def is_before_write(word):
-    """Whether the first event, which does `word`, has to stand before the second, a write of its variable, in the
-    list: no write of it is between."""
+    """Whether the first event, which does `word`, comes before the second, a write of its variable, in each list:
+    no write of it is between."""
 
     def is_before(trace, listed, first, second):
         variable = trace.events[first].name
@@ -221,7 +221,7 @@ def waiters_of(trace, listed):
 
 
 def judge_wait(trace, tally, listed, last, waiter, line):
-    """Judges a line that tells that this event waits for the last one of a run, and why."""
+    """Judges a line: this event waits for the last one of a run, for the printed reason."""
     words = line.removesuffix(f" {numbered(trace, waiter)}").removeprefix("  ")
     if line != f"  {words} {numbered(trace, waiter)}" or words not in WAITS:
         raise Wrong(f"no line that says for what {waiter} waits: {line!r}")
@@ -291,7 +291,7 @@ def judge_link(trace, tally, first, words, second):
 
 
 def cause_line(trace, begun, depth):
-    """The lines that may stand before the chain that tells why this section began first."""
+    """The lines that may come before the chain that shows why this section began first."""
     acquire, event = begun
     lock = trace.events[acquire].name
     words = []
@@ -306,8 +306,8 @@ def cause_line(trace, begun, depth):
 
 
 def judge_causes(needs):
-    """Judges that each chain that is needed was printed, and rests on no chain that rests on it. `needs` has for each
-    chain, by its ends, the ends of those that it needs."""
+    """Judges that each needed chain was printed, and rests on no chain that rests on it. `needs` has for each chain,
+    by its ends, the ends of the chains that it needs."""
     told = set()
     while True:
         next_told = {ends for ends, needed in needs.items() if told.issuperset(needed)}

@@ -11,14 +11,14 @@ nothing else. Standard error may have several messages: those before the fault a
                    `write failed`, of a file that is to be made); or only notes are missing or say less, for which a
                    file is read once more
   a write          `write failed`; or only standard error is cut, if one of its messages could not be written
-  a thread         what is wanted, since another thread makes the calls of such a script; or `no thread`, if workers are
-                   asked for
+  a thread         what is wanted, since another thread makes the calls of such a script; or `no thread` with
+                   `--workers`
   a write at a place, a cut, a sync, a lock, a new name of a session's log: `write failed`, or `read failed` if the lock
                    is not had; never what is wanted, except for a write of one byte that cannot be cut
 A call that is interrupted and one that moves a single byte change nothing.
 
 The log that a session leaves has the lines from before and those of the calls that were answered, and no others. Only
-if a write failed may it have those of the turn at work too, all or none. So it is with each of these calls failing.
+if a write failed may it have those of the turn at work too, all or none. So it is for each of the calls.
 """
 
 import os
@@ -67,12 +67,12 @@ NAME = b"racebench: "
 LONGEST = 3600
 
 # How a run ended: its status or, below 0, its signal; whether it met the call that fails; what it wrote; and the file
-# that it left, if that is told.
+# that it left, if it is known.
 Run = namedtuple("Run", "status met out err left")
 # What is wanted, and whether scripts run in threads, whether beside workers, and whether a session answers.
 Wanted = namedtuple("Wanted", "status out err in_threads has_workers in_session")
-# A session's log: its file, the bytes of that before and as the case leaves it, or None; the client of each line, if it
-# is told; and the input.
+# A session's log: its file, the bytes of that before and as the case leaves it, or None; the client of each line, if
+# it is known; and the input.
 Log = namedtuple("Log", "name before after client text")
 
 
@@ -158,12 +158,12 @@ def has_fault(run, text, wanted, behind=b""):
 
 
 def without_notes(err):
-    """The lines that are no notes, and no tips of the reader of arguments, for which a note may stand."""
+    """The lines that are no notes, and no tips of the reader of arguments, which a note may replace."""
     return [line for line in err.splitlines() if line and not line.startswith((b"note: ", b"  tip: "))]
 
 
 def differs_in_notes(run, wanted):
-    """Whether the run ended as the case wants, but for notes: the variable that turns them off could not be read."""
+    """Whether the run ended as the case wants, except for notes: the variable that turns them off was not read."""
     return (run.status, run.out) == (wanted.status, wanted.out) and without_notes(run.err) == without_notes(wanted.err)
 
 
@@ -201,7 +201,7 @@ def is_well(run, wanted):
 
 
 def is_told_in_threads(run, wanted):
-    """Whether one call's line tells want of memory, and as many scripts are told as there are."""
+    """Whether one call's line reports out of memory, and there are lines for as many scripts as there are."""
     lines, known = run.out.splitlines(), wanted.out.splitlines()
     clients = [line for line in lines if line.startswith(b"client ")]
     return (
@@ -213,7 +213,7 @@ def is_told_in_threads(run, wanted):
 
 
 def is_told_in_session(run, wanted):
-    """Whether one line is answered by want of memory, those before it as the case wants, and each after it by
+    """Whether one line is answered by out of memory, those before it as the case wants, and each after it by
     something."""
     lines, known = run.out.splitlines(), wanted.out.splitlines()
     at = next((at for at, line in enumerate(lines) if line == b"refused 56 out of memory"), 0)
@@ -244,7 +244,7 @@ def lacks_a_slice(run, wanted):
 
 
 def has_disk_fault(run, wanted, kind):
-    """Whether a call on the log's file that failed is told, after the answers of the turns before."""
+    """Whether a call on the log's file that failed leads to a message, after the answers of the turns before."""
     is_told = has_fault(run, b"write failed", wanted, b"note: ") or (
         kind == "flock" and has_fault(run, b"read failed", wanted, b"note: ")
     )
@@ -296,7 +296,7 @@ def turns_of(text):
 
 
 def kept_by(log, lines, answers):
-    """The lines that the log gains of these, the first of which are answered so; and how many answers those are."""
+    """The lines that the log gains, the first of which are answered so; and how many answers those are."""
     kept = []
     count = 0
     for line in lines:

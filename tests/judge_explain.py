@@ -3,9 +3,9 @@
 definitions.
 
 Of each conflicting pair of traces drawn by chance, and of some that were made for what chance draws seldom: the
-verdict, with all that stands after it (explained.py); that the schedule is a correct reordering which shows the pair,
-and has exactly the events of the least list in the order of the trace where there is one, and else of what the search
-finds; that `replay` of its script tells the pair, and `info` of its trace has it as a candidate; and its picture
+verdict, with all that follows it (explained.py); that the schedule is a correct reordering which shows the pair,
+and has exactly the events of the least list in the order of the trace, if there is one, and else of what the search
+finds; that `replay` of its script prints the pair, and `info` of its trace has it as a candidate; and its picture
 (pictured.py). On small traces all correct reorderings are gone over: none shows a pair that is forced or guarded, and
 each list in the order of the trace that shows a pair has all events of the least one.
 
@@ -30,7 +30,7 @@ TRACES = 120
 MOST_EVENTS = [8, 8, 14, 22]
 SMALL = 8
 DRAWS = [by_chance.locked_trace, by_chance.locked_trace, by_chance.trace]
-# How many pairs that do not conflict are asked of, of each trace.
+# How many pairs without a conflict are tried, of each trace.
 NO_PAIRS = 3
 FORMS = [[], ["--script"], ["--std"], ["--svg"]]
 
@@ -151,7 +151,7 @@ class Judge:
         )
 
     def judge_std(self, trace, words, events):
-        """Judges the trace of these events, the pair last, and what `info` says of it."""
+        """Judges the trace with these events, the pair last, and what `info` prints about it."""
         std = plain.Trace(trace.events[event] for event in events)
         self.expect(std.text(), "witness", "trace", *words, "--std")
         running.write("std", std.text())
@@ -193,7 +193,7 @@ def judge_reorderings(trace, pairs):
 
 
 def made(*lines):
-    """The trace of these events, each by its thread, operation and name."""
+    """A trace; each line is an event with its thread, operation and name."""
     return plain.Trace(plain.Event(*line.split(" ")) for line in lines)
 
 
@@ -220,7 +220,7 @@ def named(thread, variable):
 # before others; a pair that SHB orders and a list in the order of the trace shows, one that is shown by sections in
 # another order, and one of which no schedule is found; a chain that rests on one that rests on another; a section that
 # has to end before another thread, which holds its lock, takes another lock; two locks that both threads hold, one of
-# them twice; as many locks and threads as a picture tells, and more; names as long as it tells, and longer ones that
+# them twice; as many locks and threads as a picture names, and more; names as long as it shows, and longer ones that
 # can't be cut everywhere.
 MADE = [
     in_turns(14),

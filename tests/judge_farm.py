@@ -1,10 +1,10 @@
 #!/usr/bin/env python3
 """Judges examples/farm: what the jobs of an engine make of some traces is, byte by byte, what one machine makes.
 
-`parallel.sh` runs under GNU parallel, if that is here. `slurm.sh` runs twice. First an `sbatch` stands in for Slurm's:
+`parallel.sh` runs under GNU parallel, if that is here. `slurm.sh` runs twice. First a fake `sbatch` replaces Slurm's:
 it runs the tasks of an array one after another, the last one first, and then the job that waits for them if none
 failed. Then, if Slurm is here, it runs on two node daemons of the judge's own (slurmed.py), one of which is lost. The
-lines of `matrix.yml` run in a shell for each job, with a recorder that stands in for the real one. A job is killed and
+lines of `matrix.yml` run in a shell for each job, with a fake recorder. A job is killed and
 repeated, a trace is refused, and a trace comes twice. Says what could not be run.
 """
 
@@ -50,7 +50,7 @@ if [ "$1 $at" = "triage pdsh.std" ] && mkdir held 2> /dev/null; then
 fi
 exec "{program}" "$@"
 """
-# What stands in for Slurm: it has the words, the environment and the numbers of jobs, and no nodes.
+# The fake `sbatch`: it has Slurm's arguments, environment and numbers of jobs, and no nodes.
 SBATCH = """#!/bin/sh
 array= needs= script=
 for word; do
@@ -80,7 +80,7 @@ def executable(path, text):
 
 
 def ran(words, **more):
-    """The status of the words, with these variables in the environment besides."""
+    """The status of the command, with these variables in the environment besides."""
     environment = {**os.environ, **more}
     return subprocess.run(words, capture_output=True, check=False, env=environment, timeout=900).returncode
 

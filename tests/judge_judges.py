@@ -118,7 +118,7 @@ NOTHING = {
 }
 
 Parts = dict[str, tuple[int, str]]
-# The gate, and parts of it that stand in for the real ones; all others are missing. It finds no other commands.
+# The gate, and fake parts of it; all others are missing. It finds no other commands.
 GATE = HERE.parent / "tools/test"
 PARTS = {
     "lint": (0o755, "#!/bin/sh\necho 1 passed, 0 failed\n"),
@@ -159,7 +159,7 @@ COUNTED_AGAIN = "7 passed, 6 failed, 3 at the second try: four; one, two; three"
 
 
 def gate_ran(folder: pathlib.Path, parts: Parts) -> subprocess.CompletedProcess[str]:
-    """Runs the gate in a folder where each part has this mode and text, and where no other commands are found."""
+    """Runs the gate in a folder that has each part with this mode and text, and no other commands."""
     (folder / "tools").mkdir(parents=True)
     (folder / "tests").mkdir()
     for name, (mode, text) in parts.items():

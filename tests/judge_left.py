@@ -77,7 +77,7 @@ def named_in(text):
 
 
 def is_about(entry, pair, parts):
-    """Whether the entry is about the races of a pair: each of them is on one variable, which the entry names."""
+    """Whether the entry is about the races of a pair: each race is on one variable, which the entry names."""
     one, other = (access["location"] for access in pair.told["accesses"])
     fits = judge_triage_file.fits
     if not (fits(entry, 0, one) and fits(entry, 1, other) or fits(entry, 0, other) and fits(entry, 1, one)):

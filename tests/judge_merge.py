@@ -2,7 +2,7 @@
 """Compares what `merge` prints of parts drawn by chance with tests/plain.py.
 
 Takes the program's path, how many lists of parts to draw, and the first seed. The parts are merged at once; in another
-order, with some of them twice; and in groups whose merged reports are merged. Each must print the same text, and the
+order, with some parts twice; and in groups whose merged reports are merged. Each must print the same text, and the
 same JSON. The page is read as a browser's parser would read it, and has a row for each pair of locations. A part that
 is cut anywhere is refused, and so are lines that are no line of a report, another version, and two parts of one name.
 Some parts are what `triage --json` prints of drawn traces. Says what is wrong, if something is, and ends with status 1
@@ -168,7 +168,7 @@ class Judge:
         return running.printed(self.program, ["merge", *words])
 
     def refused(self, words, text):
-        """The fault that is told of the words, before which nothing is written."""
+        """The arguments lead to this fault, and nothing is written before it."""
         if running.ended(self.program, ["merge", *words]) != (1, b"", f"racebench: {text}\n".encode()):
             raise Wrong(
                 f"merge {words} does not end with `{text}`, but {running.ended(self.program, ['merge', *words])}"
@@ -202,7 +202,7 @@ class Judge:
         self.seen["unmet"] += any(count < len(parts) for count in met.values())
 
     def same(self, words, parts):
-        """Both texts of these words are those of the parts."""
+        """Both texts for these arguments are those of the parts."""
         for flags in [[], ["--apart"]]:
             wanted = plain.merged(parts, bool(flags)).encode()
             found = self.printed([*words, *flags])
@@ -210,7 +210,8 @@ class Judge:
                 raise Wrong(f"merge {words} {flags} prints\n{found.decode()}and not\n{wanted.decode()}")
 
     def page(self, words, parts, pairs=None, left=""):
-        """The page of these words has the rows of the parts, or of these pairs of them, and says what was left out."""
+        """The page for these arguments has the rows of all pairs of the parts, or of `pairs`, and names what was left
+        out."""
         with_apart = bool(self.seen["page"] % 2)
         found = self.printed([*words, "--page", *(["--apart"] if with_apart else [])])
         root = judge_page.read(found)
@@ -312,7 +313,7 @@ class Judge:
         self.seen["spoiled"] += 1
 
     def judge_clash(self, chance, name, others):
-        """The fault names the two files that the two parts of one name are in, wherever they stand among others."""
+        """The fault names the two files that have the two parts of one name, in any position among the others."""
         one, other = chance.sample(["one", name], 2)
         before, between = (chance.sample(others, chance.randint(0, len(others))) for _ in range(2))
         self.refused([*before, one, *between, other], f"{one} and {other}: two different parts of one name")

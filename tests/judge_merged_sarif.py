@@ -131,7 +131,7 @@ class Judge(judge_sarif.Judge):
         return self.check_run(run, parts, pairs, folder)
 
     def check_run(self, run, parts, pairs, folder, left=None):
-        """The run has a result for each of these pairs of the parts, and counts what was left out."""
+        """The run has a result for each pair, and counts what was left out."""
         self.equal(len(run["results"]), len(pairs), "the number of results")
         self.tally["no results"] += not pairs
         for result, pair in zip(run["results"], pairs):

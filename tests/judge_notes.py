@@ -18,7 +18,7 @@ from judging import Wrong
 
 # The note on an event that is named twice.
 TWICE = "both numbers are event 0: a pair has two events"
-# The notes on a joint text: what is read from a terminal, and that there is no script.
+# The notes on a joint text: what is read from a terminal, and a missing script.
 READING = "note: type a trace, a line `---` and a script, or see `racebench --help`\n"
 NO_SCRIPT = "note: there is no line `---`, so there is no script\n"
 # The note on locks that are held before a window.

@@ -35,7 +35,7 @@ def text_of(*path):
 
 
 def part(pattern, text, what):
-    """What the pattern's group finds in a text; where the text has another form by now, this judge has to follow it."""
+    """What the pattern's group finds in a text. If the text has another form by now, this judge has to follow it."""
     found = re.search(pattern, text, re.MULTILINE | re.DOTALL)
     if not found:
         raise judging.Wrong(f"there is no {what}; the pattern is {pattern!r}")
@@ -99,7 +99,7 @@ def zsh_lacks(words):
 
 
 def completed(*given, command="racebench"):
-    """What bash is offered for the last of these words, which follow the command."""
+    """What bash offers for the last argument, after the command."""
     line = (
         'source package/$0.bash; COMP_WORDS=($0 "$@"); COMP_CWORD=$#; _${0//-/_}; printf \'%s\\n\' "${COMPREPLY[@]}"'
     )
@@ -135,7 +135,7 @@ def screen_lacks(name):
 
 
 def screen_bash_lacks():
-    """Each option of the screen that bash is not offered, and each that is none."""
+    """Each option of the screen that bash does not offer, and each that it offers and the screen lacks."""
     return sorted(set(screen_words()[0]) ^ set(completed("-", command="racebench-screen")))
 
 

@@ -136,12 +136,12 @@ ATTRIBUTES = {
         "marker-end",
     ),
 }
-# What stands in values that a browser would fetch, follow or run; the one link is that of an arrow to its tip, within
+# Values that a browser would fetch, follow or run; the one link is that of an arrow to its tip, within
 # the page.
 FORBIDDEN = re.compile(r"url\((?!#tip\))|javascript:|data:|@import|https?:(?!//www\.w3\.org/2000/svg$)", re.IGNORECASE)
 
 
-# What is said where no open pair was tried; `explain` would try the one that is told.
+# The text if no open pair was tried; `explain` would try the shown one.
 UNTRIED = "undecided: no pair was tried, and neither order nor lock forbids a schedule"
 
 
@@ -298,8 +298,8 @@ def facts_of(block):
 
 
 def access_title(line, tally):
-    """What the title says of an access: what it does, in which function, and where. After ` < ` stands the function,
-    or the place of a call."""
+    """The title of an access: what it does, in which function, and where. After ` < ` comes the function, or the place
+    of a call."""
     _, what, location = line.split("|", 2)
     place, _, callers = location.partition(" < ")
     caller = callers.partition(" < ")[0]
@@ -418,7 +418,7 @@ def more_of(sort, kept, name):
 
 
 def texts_in(element, *tags):
-    """The texts of the paragraphs and lines that stand in the element itself, and not deeper."""
+    """The texts of the paragraphs and lines that are in the element itself, and not deeper."""
     return [child.text() for child in element.children if isinstance(child, Element) and child.tag in tags]
 
 
@@ -477,8 +477,8 @@ LAST_TOLD = "The last runs are listed in words below, and the command under them
 # How many rows of each sort and pictures a page has at most.
 MOST_ROWS = 2000
 MOST_PICTURES = 200
-# Of so few runs all are in words; else of so many runs and events, if the words have so many bytes; else the last runs
-# that have this many bytes.
+# Up to this many runs are all printed. With more runs or events, all are printed up to a number of bytes; else the
+# last runs with this many bytes.
 FEW_RUNS = 11
 MOST_RUNS = 100
 MOST_LISTED = 2000
@@ -487,7 +487,7 @@ LAST_BYTES = 4096
 # How many rectangles a picture has at most. A row of a long schedule has this many bytes, if its names are short.
 MOST_BOXES = 200
 MOST_ROW = 65536
-# What is said of words at the end of a page, after how it begins.
+# What the words at the end of a page mean, after how it begins.
 # What each count means, word by word.
 COUNTED = {
     "events": "lines of the trace",
@@ -620,7 +620,7 @@ class Judge:
         return 1
 
     def told(self, name, block, listed):
-        """The words for the schedule of a race, as lines, and whether they have all runs."""
+        """The lines about the schedule of a race, and whether they have all runs."""
         whole = self.raw_explained(name, block, "--all")
         runs = int(re.search(rb" in (\d+) runs? both are next$", whole[0])[1])
         is_short = runs <= MOST_RUNS and len(listed) <= MOST_LISTED and bytes_of(whole) <= MOST_BYTES
@@ -734,7 +734,7 @@ class Judge:
             raise Wrong(f"the counts are {told}, and plainly {wanted}")
 
     def judge_words(self, main, meanings, left, is_apart):
-        """Judges what is between the rows and the counts, and what the words mean."""
+        """Judges what is between the rows and the counts, and the meanings of words."""
         told = [UNLISTED] * (not is_apart)
         for line in left:
             if re.fullmatch(rb"(known|hidden) [1-9]\d*", line):
@@ -815,7 +815,7 @@ def guarded(pairs):
 
 
 def in_turns(runs):
-    """A trace in which the schedule of the last two accesses has so many runs: each reads what the one before wrote."""
+    """A trace in which the schedule of the last two accesses has this many runs: each reads what the last wrote."""
     lines = ["A|w(x0)|1"]
     for number in range(runs - 1):
         thread = "BA"[number % 2]
@@ -824,7 +824,7 @@ def in_turns(runs):
 
 
 def in_long_turns(runs, events):
-    """The same, and the schedule has this many events: the first run has most of them."""
+    """The same, and the schedule has this many events, most of which are in the first run."""
     lines = in_turns(runs).splitlines()
     return b"".join(line + b"\n" for line in [b"A|w(own)|1"] * (events - 2 * runs + 2) + lines)
 
@@ -881,7 +881,7 @@ T0|w(v)|
 T1|w(v)|g.c < g
 """
 
-# An open pair, which stays undecided where none is tried.
+# An open pair, which stays undecided without tries.
 UNDECIDED = b"A|w(x)|1\nA|acq(l)|2\nA|rel(l)|3\nB|acq(l)|4\nB|rel(l)|5\nB|w(x)|6\n"
 
 
@@ -945,7 +945,7 @@ def judge_padded(judge, lines, at, size):
 
 
 def judge_bounds(judge):
-    """Schedules at the bounds of what a page has of them."""
+    """Schedules at the bounds of what a page shows."""
     for runs in (FEW_RUNS, FEW_RUNS + 1, MOST_RUNS, MOST_RUNS + 1):
         write("turns", in_turns(runs))
         judge.judge("turns", [])

@@ -2,9 +2,9 @@
 """Judges which pair of events `explain` and `witness` take if they are given locations, by tests/plain.py and the
 rules of docs/FORMATS.md.
 
-Draws traces with locations that resemble one another, and pairs of words: locations, files and lines, paths, parts of
-them and numbers of events. Where the words name a pair, both commands must print what they print of its two events;
-else they must say that there is no such pair.
+Draws traces with locations that resemble one another, and pairs of arguments: locations, files and lines, paths, parts
+of paths and numbers of events. If the arguments name a pair, both commands must print what they print for its two
+events. Else they must report that they match no pair.
 
     judge_places.py PROGRAM [TRACES [SEED]]      this many drawn traces, the first of this seed
 
@@ -122,7 +122,7 @@ class Located:
         return {event for event, how in fits.items() if how == best}, False
 
     def pair(self, words, tally):
-        """The pair of events that the words name, if they name one."""
+        """The pair of events that the arguments name, if they name one."""
         (ones, one_is_event), (others, other_is_event) = (self.named(word, tally) for word in words)
         if one_is_event and other_is_event:
             found = tuple(sorted(ones | others))
@@ -141,7 +141,7 @@ class Located:
         return self.reported(ones, others, tally)
 
     def reported(self, ones, others, tally):
-        """The pair that `triage` reports of these accesses: the least candidate, the first open pair that is shown,
+        """The pair that `triage` reports for these accesses: the least candidate, the first open pair that is shown,
         the least open one, the least one."""
         pairs = sorted(
             (second, first, self.trace.kind(first, second))

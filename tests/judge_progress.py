@@ -25,7 +25,7 @@ from judging import Wrong
 LEAST_SECONDS = 1.8
 FIRST_PAIRS = 20
 MOST_PAIRS = 64_000
-# Events that stand before the pairs, so that each search goes over many.
+# Events that come before the pairs, so that each search goes over many.
 OTHERS = 60_000
 # How many lines that tell of more pairs of places have to come then; how long nothing comes before the first line; and
 # how often more work is tried where fewer lines come: a busy machine may hold a run up before it looks at its first
@@ -57,7 +57,7 @@ class TooFew(Exception):
 
 
 class Shown:
-    """A run whose standard error is a terminal, and its standard output the same terminal where no file is named."""
+    """A run whose standard error is a terminal; without a named file its standard output is the same terminal."""
 
     def __init__(self, program, words, output):
         mine, theirs = os.openpty()
@@ -132,7 +132,7 @@ def judge_quick(program):
 
 
 def judge_windows(program):
-    """With `--windows` a terminal is told of each window at once, as a pipe is with `--progress`."""
+    """With `--windows` a terminal gets a line for each window at once, as a pipe does with `--progress`."""
     running.write("quick", "T1|w(x)|1\nT2|w(x)|2\nT1|w(y)|3\nT2|w(y)|4\n")
     words = ["triage", "quick", "--windows=2"]
     status, out, err = running.ended(program, [*words, "--progress"])

@@ -3,7 +3,7 @@
 compared with what plain.py, a plain program of the definitions, says of the log at that moment. A question makes no
 entry; a faulty one is named with its line.
 
-Takes the program's path, and how many sessions are drawn, 60 where that is not said. Says what is wrong, if something
+Takes the program's path, and how many sessions are drawn, by default 60. Says what is wrong, if something
 is, and ends with status 1.
 """
 
@@ -177,7 +177,7 @@ class Asked:
 
 
 def judge_witness(trace, first, second, told, tally):
-    """The answer to `? witness`: a schedule that shows the pair, or why there is none."""
+    """The answer to `? witness`: a schedule that shows the pair, or why no schedule does."""
     if not (trace.is_event(first) and trace.is_event(second) and trace.conflict(first, second)):
         wanted = "refused 98 no such pair"
         tally["98"] += told == wanted

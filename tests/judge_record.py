@@ -2,7 +2,7 @@
 """Judges record/: programs of tests/recorded and examples/count.c are compiled, run and recorded, and `info` and
 `replay` of the program have to accept each trace and to find the one race that is in it, and no other.
 
-    judge_record.py PROGRAM [CASE ..]      with texts, only the cases whose names have one of them
+    judge_record.py PROGRAM [CASE ..]      with texts, only the cases whose names contain one
 
 Says what is wrong; the last line is `N passed, M failed`. A case that fails is tried once more, when all others have
 ended; one that passes then is a defect to be mended, and the last line names it. If no C compiler with the hooks is
@@ -55,8 +55,8 @@ SEEDS = (1, 2, 3)
 MANY = tuple(range(1, 21))
 # A recording is made again so often if the machine was so busy that a thread lost its turn by force.
 AGAIN = recorded_places.AGAIN
-# Each program, the words for the recorder, and the pairs of lines that race in it: RACE are the lines that say so, and
-# TRIAGED the same where locks come between, so that no candidate but a schedule shows it.
+# Each program, the options of the recorder, and the pairs of lines that race in it: RACE are the lines marked so, and
+# TRIAGED the same if locks come between, so that no candidate but a schedule shows it.
 PROGRAMS = [
     ("examples/count.c", [], {("count.c:13", "count.c:7")}),
     ("tests/recorded/each_kind.c", [], {"RACE"}),
@@ -97,7 +97,7 @@ def done(words, wanted=0, **more):
 
 
 def compilers():
-    """The pairs of a C and a C++ compiler that are here and have the hooks; the second is None where it is not here."""
+    """The pairs of a C and a C++ compiler that are here and have the hooks; the second may be missing (None)."""
     for c, cxx in (("gcc", "g++"), ("clang", "clang++")):
         if has_hooks(c, "c"):
             yield c, cxx if has_hooks(cxx, "c++") else None

@@ -31,7 +31,7 @@ MOST_PROBED = 12
 LOGS = 60
 # How many scripts are run on a trace with a thread that has no event.
 IDLE_SCRIPTS = 12
-# So many clients undo so many times, in every order; so many orders stand in one script. And for how many lists of
+# This many clients undo this many times, in every order; one script has this many orders. And the number of lists of
 # commands drawn by chance, with fewer undos.
 UNDOING = 3
 UNDOS = 7
@@ -135,7 +135,7 @@ class Tally(collections.Counter):
         self["undo|past-others"] += bool(past)
         self["undo|batch-past-others"] += what[0] == "batch" and bool(past)
         self["undo|past-own"] += any(whose == client for number, whose, _ in log.live if number > undone)
-        # A row that comes back stands before those that were made since.
+        # A row that comes back is before those that were made since.
         self["undo|into-the-middle"] += what[0] == "drop" and any(other[0] in ("new", "branch") for other in past)
 
 
@@ -147,8 +147,8 @@ class Judge:
         self.tally = Tally()
 
     def compare(self, expected, *words):
-        """Ends with the first line that the program prints otherwise, where there is one, and with what it was
-        given."""
+        """Ends with the first line that the program prints otherwise, if there is such a line, and with the program's
+        input."""
         printed = running.printed(self.program, words)
         if printed == expected.encode("ascii"):
             return
@@ -164,7 +164,7 @@ class Judge:
         self.tally["traces"] += 1
 
     def judge_script(self, trace, calls, log=None):
-        """Judges the script by `replay`, or, where a log is expected, by `threads`."""
+        """Judges the script by `replay`, or, if a log is expected, by `threads`."""
         running.write("trace", trace.text())
         running.write("script", "".join(f"{client} {plain.words_of(call)}\n" for client, call, _, _ in calls))
         told = "".join(line + "\n" for _, _, line, _ in calls)
@@ -185,7 +185,7 @@ def seen(log):
 
 
 def looked_at(calls, log, chance):
-    """The calls, and after some of them all that the log has come to then, seen by the same client."""
+    """The calls, and after some calls all that the log has come to then, seen by the same client."""
     longer = []
     for (client, call, told, before), after in zip(calls, [before for _, _, _, before in calls[1:]] + [log]):
         longer.append((client, call, told, before))
@@ -195,7 +195,7 @@ def looked_at(calls, log, chance):
 
 
 def probes(trace, log):
-    """Each event, and one that is none, put to each schedule, and taken off where it could come next."""
+    """Each event, and a number without an event, put to each schedule, and taken off if it could come next."""
     calls = []
     for name in log.names():
         for event in range(len(trace.events) + 1):
@@ -220,7 +220,7 @@ def judge_by_chance(judge):
 
 
 def judge_idle(judge):
-    """A thread's fork and join, by two others, with no event of its own between them."""
+    """A thread's fork and join, by two others, without an event of the thread between them."""
     trace = plain.Trace(plain.Event(*event) for event in IDLE_THREAD)
     judge.judge_info(trace)
     for seed in range(IDLE_SCRIPTS):
@@ -301,7 +301,7 @@ def with_names(renamed, call):
 
 
 def in_order(log, group, commands, order):
-    """The commands and then the undos of these clients, all with names and clients of this group alone; and the log
+    """The commands and then the undos of the clients, all with names and clients of this group alone; and the log
     after all."""
     names = sorted({name for _, command in commands for name in plain.touches(command)})
     renamed = {name: f"{name}.{group}" for name in names}

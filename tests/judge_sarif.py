@@ -131,7 +131,7 @@ class Judge:
             raise Wrong(f"{what} is {found!r}, and not {wanted!r}")
 
     def check_location(self, location, place, function, words, root):
-        """Judges a location by the place, the function and the words that it has to have."""
+        """Judges that a location has the place, the function and the text."""
         self.equal(location["message"]["text"], words, "the message of a location")
         self.equal(
             [one["fullyQualifiedName"] for one in location.get("logicalLocations", [])],
@@ -241,7 +241,7 @@ class Judge:
         return log
 
     def check(self, lines, words, root=None):
-        """Judges the log of a trace of these lines; the fingerprints of its results."""
+        """Judges the log of a trace with these lines. Returns the fingerprints of its results."""
         with open("trace", "w", encoding="utf-8") as out:
             out.write("".join(line + "\n" for line in lines))
         events = [Event(line) for line in lines]

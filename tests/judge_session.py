@@ -1,10 +1,8 @@
 #!/usr/bin/env python3
-"""Judges `session` and `log`: what no clause can say of them, since it is told of processes, files, kills and full
-disks.
+"""Judges `session` and `log`: what no clause can say, since it is about processes, files, kills and full disks.
 
-    judge_session.py PROGRAM [KILLS [CALLS]]     with so many kills, 20 where that is not said, and a last run at once
-    in which each of four
-                                                 sessions has this many calls, none where that is not said
+    judge_session.py PROGRAM [KILLS [CALLS]]     with KILLS kills, by default 20; then four sessions at once have CALLS
+                                                 calls each, by default none
 
 A script through sessions, cut anywhere into several, is answered as `replay` answers it. A session that is killed has
 lost no answered entry. A file that is cut anywhere stands for its whole lines; one of another trace, or one that was

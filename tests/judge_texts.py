@@ -2,7 +2,7 @@
 """Judges what `info` says of trace texts in two tables: all that it prints of one, or where and for what it is refused.
 
 These are worked examples of the checks of a line and of the rules of a trace (docs/FORMATS.md), up to their limits.
-Each number of a refusal there has to stand in a table. What is printed of the events of a text is said by
+Each number of a refusal there must be in a table. What is printed about the events of a text is computed by
 tests/plain.py. Takes the program's path. Says what is wrong, if something is, and ends with status 1 then.
 """
 
@@ -25,11 +25,11 @@ NAMES = {length: "x" * length for length in (255, 256)}
 REST = "1" * 4_089
 WRITE = "T1|w(x)|1\n"
 LARGEST = WRITE * 1_048_576
-# All that the formats count in 16 bits and one more, and a read that sees the last of these writes.
+# All that the formats count in 16 bits and one more, and a read that sees the last write.
 PAST_16_BITS = WRITE * 65_537
 READ_BEHIND = WRITE * 65_536 + "T2|r(x)|2\n"
 
-# What is printed of the texts after it: all of it, or what tests/plain.py prints of these events.
+# What is printed for the texts after it: the text itself, or what tests/plain.py prints for these events.
 ACCEPTED = [
     ([], "", "\n \t\r\n", "|begin|", "|end()|", "T1|begin|3", f"\t T|begin|{REST[1:]} \r\n"),
     (["T1 w x"], "T1|w(x)", "T1|w(x)|", "T1|w(x)|1"),
@@ -98,7 +98,7 @@ REFUSED = [
 
 
 def said_of(events):
-    """What is printed of a trace of these events; a text is what is printed."""
+    """What is printed for a trace of these events; a text is printed as it is."""
     if isinstance(events, str):
         return events
     return plain.Trace(plain.Event(*event.split(" ")) for event in events).info()

@@ -4,8 +4,8 @@ by tests/plain.py.
 
 Takes the program's path, how many traces to draw, and the first seed. Each trace is listed with what is apart and a
 drawn number of tries; again with its own output as what is known, which leaves no race; with texts that blocks need or
-must not have; with a status that tells of races; as a recording with marks; and by workers, as JSON and as lines for
-editors (tests/compiled.py), which have to tell the same. Says what is wrong, if something is, and ends with status 1
+must not have; with a status for races; as a recording with marks; and by workers, as JSON and as lines for editors
+(tests/compiled.py), which must have the same. Says what is wrong, if something is, and ends with status 1
 then, also where something that must be seen was never met.
 """
 
@@ -36,9 +36,9 @@ CALLS = [""] * 6 + [
     " < operator< <int> p.cc:7 < main m+0x1 < x.c:",
     " < f < g :7 <  h.c:1",
 ]
-# What is said with `--fail` of a trace without events.
+# What `--fail` prints for a trace without events.
 NO_EVENTS = b"racebench: the trace has no events: nothing was judged\n"
-# What JSON tells by number, in the order of the text.
+# The numbers in JSON, in the order of the text.
 COUNTS = "events threads pairs candidates open guarded forced places races undecided apart".split()
 NUMBERS = "pairs variables events threads tried".split()
 REACHED = [
@@ -333,8 +333,8 @@ def undecided(variables):
     return trace, ["l", *["1", "2"] * variables, "l", "l", *["3"] * variables, "l", *["4"] * variables]
 
 
-# What chance draws seldom, with places where they matter: a pair that sections in another order show; more open pairs
-# than are tried if nothing is said of it.
+# What chance draws seldom, with places if they matter: a pair that sections in another order show; more open pairs
+# than are tried without `--tries`.
 MADE = [
     (made("A acq l", "A fork W", "A w x", "A rel l", "B acq l", "B r y", "B rel l", "B r x"), None),
     (made("A w x", "A acq l", "A rel l", "B acq l", "B rel l", "B w x"), None),
@@ -344,7 +344,7 @@ MADE = [
 
 
 def judge_some(program, first, numbers):
-    """Judges the traces of these numbers in its own folder, and returns what was seen."""
+    """Judges the traces with these numbers in its own folder, and returns what was seen."""
     judge = Judge(program)
     with tempfile.TemporaryDirectory() as folder:
         os.chdir(folder)

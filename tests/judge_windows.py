@@ -3,7 +3,7 @@
 tests/plain.py.
 
 Takes the program's path, how many traces to draw, and the first seed. Each window must have the events that it says,
-after a prologue that takes what is held, whatever the order of its locks and threads. `triage --windows` must print
+after a prologue that takes what is held, in any order of its locks and threads. `triage --windows` must print
 what `merge` makes of `triage --json` of each window, with the numbers that the events have in the trace, with and
 without workers, of a file and of standard input. Each race of it is shown by a correct reordering of the whole trace
 that begins as recorded up to its window; and each pair with two accesses in one window that such a reordering shows,
@@ -68,7 +68,7 @@ REACHED = [
     "whole",
     "not whole",
 ]
-# The words for a log with the code in a folder.
+# The arguments for a log with the code in a folder.
 WITH_CODE = ["--sarif", "--source", "code"]
 # The lock of a window's prologue: underscores make its name one that the recording lacks.
 LOCK = re.compile(rb"\(window_*\)")
@@ -113,8 +113,8 @@ def crossed_trace(chance, most):
 
 
 def coming_trace(chance, count):
-    """A trace of so many threads that come and go: each may be forked, does a little, and may be joined. Some of them
-    hold a lock meanwhile, and some for ever."""
+    """A trace of this many threads that come and go: each may be forked, does a little, and may be joined. Some hold a
+    lock for a while, and some for ever."""
     events, here, holders = [], [], {}
 
     def work(thread):
@@ -242,7 +242,7 @@ class Judge:
         return self.merged(places, most, [*flags, *tries], forms, "trace", "whole")
 
     def merged(self, places, most, flags, forms, trace, folder):
-        """What `merge` makes, in each of these forms, of the windows of a trace that are in a folder."""
+        """What `merge` makes, in each form, of the windows of a trace that are in a folder."""
         names = [f"{trace} --windows {most} --window {start:09}" for start in places]
         for name, (start, place) in zip(names, places.items()):
             part = running.printed(self.program, ["triage", f"{folder}/window-{start:09}.std", "--json", *flags])

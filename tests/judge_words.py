@@ -25,7 +25,7 @@ FORMS = {
     "merge": (["part"], ["--json", "--page", "--sarif"]),
     "witness": (["t", "0", "1"], ["--script", "--std", "--svg"]),
 }
-# Numbers: the words before, the least and the most.
+# Numbers: the arguments before, the least and the most.
 NUMBERS = [
     ("triage t --tries ", 0, 4096),
     ("triage t --workers ", 0, 16),
@@ -112,7 +112,7 @@ class Judge:
         return done.returncode, done.stdout, done.stderr.decode()
 
     def refused(self, words, kind):
-        """The first line of why the words are refused."""
+        """The first line of why the arguments are refused."""
         status, out, err = self.ended(words)
         if status != 2 or out or not err.startswith("error: "):
             raise Wrong(f"{words} end with {status}, and not with 2: {err!r}")
@@ -120,7 +120,7 @@ class Judge:
         return err.partition("\n")[0].removeprefix("error: ")
 
     def taken(self, words, kind):
-        """The words are taken, whatever becomes of them."""
+        """The arguments are accepted; what the command then does is not judged."""
         status, _, err = self.ended(words)
         if status not in (0, 1) or err.startswith("error: "):
             raise Wrong(f"{words} end with {status}: {err!r}")

@@ -1,9 +1,9 @@
-"""A plain program that answers as `replay` and `info` do, from the words of docs/DEFINITIONS.md and docs/FORMATS.md;
+"""A plain program that answers as `replay` and `info` do, written from docs/DEFINITIONS.md and docs/FORMATS.md;
 and what the definitions say of a pair of events, for judges of `explain` and `witness`.
 
 It goes over lists and over the trace, and has neither clocks nor tables nor steps back. Its log keeps the entries
 alone: the rows of each log are folded anew of the commands that were not undone. What the headline of docs/PROMISES.md
-says of all logs is asked of each log here: where it does not hold, `Contradiction` is raised.
+claims for all logs is checked for each log here: if it does not hold, `Contradiction` is raised.
 """
 
 from __future__ import annotations
@@ -106,7 +106,7 @@ def asked_once(question: Callable[Concatenate[Trace, About], Answer]) -> Callabl
 
 
 class Trace:
-    """The events of a trace, and what the definitions say of them and of lists of their numbers, which are tuples."""
+    """The events of a trace, and what the definitions say about events and about lists of their numbers (tuples)."""
 
     def __init__(self, events: Iterable[Event]) -> None:
         self.events = tuple(events)
@@ -118,7 +118,7 @@ class Trace:
         return f"{thread}|{word}({name})|"
 
     def location(self, event: int) -> str:
-        """Where the event is; drawn traces have no locations."""
+        """The source location of the event; drawn traces have none."""
         return ""
 
     def text(self) -> str:
@@ -165,7 +165,7 @@ class Trace:
         return earlier[-1] if earlier else None
 
     def bases(self, *events: int) -> set[int]:
-        """The bases of these events, of those that have one."""
+        """The bases of the events that have one."""
         return {base for base in map(self.base, events) if base is not None}
 
     def conflict(self, first: int, second: int) -> bool:
@@ -196,7 +196,7 @@ class Trace:
         return True
 
     def may_stand(self, earlier: Listed, event: int) -> bool:
-        """Whether the event keeps its writer, lock, fork and join where these events stand before it."""
+        """Whether the event keeps its writer, lock, fork and join if it comes after exactly these events."""
         thread, word, name = self.events[event]
         if any(fork not in earlier for fork in self.forks_of(thread)):
             return False
@@ -221,7 +221,7 @@ class Trace:
 
     @asked_once
     def cause(self, listed: Listed, event: int) -> str | None:
-        """The number and the words of the first cause for which the event may not come next, or None."""
+        """The number and the text of the first cause for which the event may not come next, or None."""
         if not self.is_event(event):
             return "21 no such event"
         thread, word, name = self.events[event]
@@ -242,7 +242,7 @@ class Trace:
         return None
 
     def extended(self, listed: Listed, event: int) -> Listed:
-        """The list followed by the event, where that is a correct reordering."""
+        """The list followed by the event, if that is a correct reordering."""
         cause = self.cause(listed, event)
         if self.is_reordering(listed + (event,)) != (cause is None):
             raise Contradiction(f"{event} after {listed} has the cause {cause}")
@@ -344,7 +344,7 @@ class Trace:
         return None
 
     def section_ends(self, acquires: Iterable[int]) -> set[int]:
-        """The ends of the sections that these acquires begin, of those that end."""
+        """The ends of the sections that these acquires begin, if they end."""
         return {end for end in map(self.section_end, acquires) if end is not None}
 
     def acquires(self, events: Iterable[int]) -> list[int]:
@@ -380,8 +380,8 @@ class Trace:
         return {other for other in before if other is not None}
 
     def ends_first(self, acquire: int, event: int) -> bool:
-        """Whether the section that the acquire begins has to end before the event, where the acquire has to come
-        before it: the event lies in a section of that lock in another thread, or begins one."""
+        """Whether the section of the acquire must end before the event, given that the acquire comes before it: the
+        event lies in a section of that lock in another thread, or begins one."""
         lock = self.events[acquire].name
         is_inside = lock in self.locks_before(event) or self.does(event, "acq", lock)
         return is_inside and self.thread(acquire) != self.thread(event) and self.section_end(acquire) is not None
@@ -442,7 +442,7 @@ class Trace:
             needed = grown
 
     def in_order(self, first: int, second: int) -> Listed | None:
-        """The least list in the order of the trace that shows the pair, or None where no such list does."""
+        """The least list in the order of the trace that shows the pair, or None if there is none."""
         listed = self.needed(self.bases(first, second))
         return None if first in listed or second in listed else listed
 
@@ -608,7 +608,7 @@ def words_of(call: Call) -> str:
 
 
 def call_of(line: str) -> Call:
-    """The call of such a line, in a script or in a log, where each undo is told by the number of what it took back."""
+    """The call of a line of a script or a log. In a log each undo has the number of the entry that it took back."""
     word, *rest = line.split(" ")
     if word == "batch":
         return (word, tuple(call_of(part) for part in line.removeprefix("batch ").split(" ; ")))
@@ -643,7 +643,7 @@ def touches(call: Call) -> set[str]:
 
 
 class Log:
-    """The entries of a log, and what the definitions say of them."""
+    """The entries of a log, and what the definitions say about them."""
 
     def __init__(self, trace: Trace, entries: tuple[Entry, ...] = ()) -> None:
         self.trace = trace
@@ -712,7 +712,7 @@ class Log:
         return Row(row.birth, self.events_after(row.events, word, rest))
 
     def events_after(self, events: Listed, word: str, rest: Sequence[Any]) -> Listed:
-        """What a command that changes a row's events makes of them."""
+        """The events of a row after a command that changes them."""
         if word == "add":
             return self.trace.extended(events, rest[0])
         if word == "swap":
@@ -793,7 +793,7 @@ class Log:
         return own[-1]
 
     def live_of_number(self, client: int, number: int) -> int:
-        """The number, where it is that of a command or batch of the client that was not undone."""
+        """The number, if it is that of a command or batch of the client that was not undone."""
         if number >= len(self.entries):
             raise Refused("57 no such entry")
         if self.entries[number].kind not in ("did", "batch") or self.entries[number].client != client:
@@ -842,7 +842,7 @@ class Shown(NamedTuple):
 
 
 def merged_pairs(parts: Mapping[str, Sequence[Told]]) -> list[Shown]:
-    """The pairs of places of the parts in the order in which `merge` tells them."""
+    """The pairs of places of the parts, in the order in which `merge` prints them."""
     rows = sorted(
         (
             *sorted(access["location"].encode() for access in row["accesses"]),
@@ -872,7 +872,7 @@ def merged(parts: Mapping[str, Sequence[Told]], with_apart: bool) -> str:
 
 
 def merged_of(pairs: Sequence[Shown], parts: int, with_apart: bool) -> str:
-    """What `merge` prints of these pairs of this many parts."""
+    """What `merge` prints for these pairs of this many parts."""
     lines = [f"parts {parts}"]
     lines += [
         f"{word} {sum(pair.rank == rank for pair in pairs)}"

@@ -1,6 +1,6 @@
 """Judges what record/run says of a run that is not in its trace as it was: each count by a program that makes it.
 
-What no other judge sees: a trace that lacks records, orders or turns, of which nothing is said.
+What no other judge sees: a trace that lacks records, orders or turns without a message.
 """
 
 import os
@@ -40,7 +40,7 @@ def said_of(*words):
 
 
 def judge_counts(c):
-    """Each count is said by a run that has it, and by no other."""
+    """Each count is printed by a run that has it, and by no other."""
     words = [os.path.join(RECORD, "cc"), "-O1", os.path.join(SOURCES, "counts.c"), "-o", "program"]
     ran(words, env=dict(os.environ, RECORD_CC=c))
     for word, options, line in COUNTED:
@@ -67,7 +67,7 @@ int main(void) {
 
 
 def judge_wide(c):
-    """An access of many parts gives all of them if there is room for them."""
+    """An access of many parts gives all parts if there is room for them."""
     with open("wide.c", "w", encoding="ascii") as source:
         source.write(WIDE)
     ran([os.path.join(RECORD, "cc"), "-O1", "wide.c", "-o", "wide"], env=dict(os.environ, RECORD_CC=c))
@@ -78,8 +78,8 @@ def judge_wide(c):
 
 
 def judge_turns():
-    """With --yield 1 turns are short, and with a large one long, but for those of young threads; nothing else is said
-    of either run."""
+    """With --yield 1 turns are short, and with a large one long, except those of young threads; neither run prints
+    anything else."""
     turns = []
     for most in ("1", "100000"):
         told = said_of("--yield", most, "./program", "turns")

@@ -1,8 +1,8 @@
-"""Judges record/follow and record/confirm: on small programs each race stands, and what it leads to comes in one of the
-two orders; a run that is no run of the recording departs; and what does not fit together is refused.
+"""Judges record/follow and record/confirm. On small programs each race is shown, and its consequence comes in one of
+the two orders. A run that is no run of the recording departs. Files that do not fit together are refused.
 
-What no other judge sees: a schedule that the program does not take, a departure that is not told, an order of the
-two accesses that was not the one that was asked for.
+What no other judge sees: a schedule that the program does not take, a departure without a message, accesses in another
+order than the requested one.
 """
 
 import functools
@@ -33,7 +33,7 @@ OKAY, ASSERTION, FAULT = "status 0", "signal 6 (SIGABRT)", "signal 11 (SIGSEGV)"
 ANY = (OKAY, ASSERTION, FAULT)
 BAD = (ASSERTION, FAULT)
 ENDING = re.compile(r"status \d+|signal \d+ \(\w+\)|hangs|departed")
-# For each program the words for the recorder, and for each of its races: the lines of both accesses, the lower first,
+# For each program the options of the recorder, and for each of its races: the lines of both accesses, the lower first,
 # and how the program may end in each of four orders. Those are: the lower access first, and its thread goes on; the
 # same, and the other thread goes on; the higher access first, and its thread goes on; the same, and the other thread
 # goes on. Of two accesses in one line either is the lower.
@@ -87,18 +87,18 @@ PROGRAMS = {
         ],
     ),
 }
-# How many races stand at least in all programs together: ring.c waits by the time, so it has one or more.
+# How many races are shown at least in all programs together: ring.c waits by the time, so it has one or more.
 ALL_RACES = 23
 DIFFER = "the order matters: the outputs differ: 1 with A first, 0 with B first"
 NO_DIFFERENCE = "it makes no difference"
-# The members of a line of JSON for a race that stands and for one that departed, as docs/FORMATS.md has them.
+# The members of a line of JSON for a race that is shown and for one that departed, as docs/FORMATS.md has them.
 BOTH = {"ended", "events", "locations", "places", "text"}
 MEMBERS = {
     "stands": BOTH | {"endings", "first", "liberties", "matters", "runs", "same_memory", "second", "uses", "why"},
     "departed": BOTH | {"at"},
 }
 UNKNOWN = "whether the order matters is not known: the outputs vary by themselves"
-# What outputs.c shows, how many tries, whether the order matters, and what is told: a value that hangs on the order,
+# What outputs.c shows, how many tries, whether the order matters, and the message: a value that depends on the order,
 # alone and beside others that do not; nothing; one of two values that come in both orders; values that are others in
 # each run.
 OUTPUTS = [
@@ -116,8 +116,8 @@ FREED = {
     "freed_twice.c": ("T2 frees a block that T1 has freed: at freed_twice.c:7, freed at freed_twice.c:7", 2),
     "stale.c": ("T1 reads 1 byte of a block that T2 has freed: at stale.c:11, freed at stale.c:19", 3),
 }
-# How many draws there are of orders that share one distribution of endings, by the number of orders, and how often
-# `matters` may be said of them.
+# How many draws there are of orders that share one distribution of endings, by the number of orders, and the highest
+# allowed rate of a wrong `matters`.
 DRAWN, MOST_WRONG = {2: 100_000, 4: 30_000, 6: 30_000}, 0.001
 ORDERS = ["a-a", "a-b", "b-b", "b-a", "far-first", "far-second"]
 
@@ -175,7 +175,7 @@ def confirmed(racebench, name="program", *words, wanted=0, **more):
 
 
 def judge_races(racebench):
-    """Each race stands, and each order leads to what it has to lead to."""
+    """Each race is shown, and each order leads to the endings of the table."""
     stood = 0
     for source, (words, _) in PROGRAMS.items():
         recorded(os.path.join(SOURCES, source), words)
@@ -209,7 +209,7 @@ def witness_of(racebench, name):
 
 
 def judge_orders(racebench):
-    """The two accesses of count.c come in the order that is asked for: the value after both says which was last."""
+    """The two accesses of count.c come in the requested order: the value after both shows which was last."""
     recorded(os.path.join(TOP, "examples", "count.c"), [])
     pair, witness = witness_of(racebench, "program")
     out, told = ran([*FOLLOW, "--then", "both", "program.clock", *pair, "./program"], text=witness)
@@ -225,7 +225,7 @@ def judge_orders(racebench):
 
 
 def judge_outputs(racebench):
-    """Whether the order matters is told by outputs that hang on the order alone, and is not known where they vary by
+    """The order matters if outputs depend on it alone; it is not known whether it matters if they vary by
     themselves."""
     recorded(os.path.join(SOURCES, "outputs.c"), [])
     pair, witness = witness_of(racebench, "program")
@@ -241,8 +241,8 @@ def judge_outputs(racebench):
 
 
 def judge_freed(racebench):
-    """The recorder says itself that a block is used after it was freed, also if nothing else shows it; and no program
-    that frees nothing too early is said to do so."""
+    """The recorder reports each use of a freed block, also if nothing else shows it. It reports none in a program that
+    frees nothing too early."""
     for source, (text, without) in FREED.items():
         recorded(os.path.join(SOURCES, source), [])
         found = confirmed(racebench)
@@ -269,8 +269,8 @@ def drawn_verdict(chances, endings, rates, orders):
 
 
 def judge_rule(_):
-    """Orders that lead to the same are hardly ever said to matter: with two, four and six orders, one to four endings
-    and any rates. Two orders with one ending each that differ are said to matter after six runs."""
+    """Orders that lead to the same hardly ever `matter`: with two, four and six orders, one to four endings
+    and any rates. Two orders with one ending each that differ `matter` after six runs."""
     for count, draws in DRAWN.items():
         chances, wrong = random.Random(count), 0
         for _ in range(draws):
@@ -360,7 +360,7 @@ def judge_program(racebench):
 
 
 def judge_departs(racebench):
-    """A run whose addresses are others goes another way: that is told, with the places of both ways."""
+    """A run with other addresses goes another way: the message has the places of both ways."""
     recorded(os.path.join(SOURCES, "departs.c"), [])
     if [one["ended"] for one in confirmed(racebench)] != ["stands"]:
         raise Wrong("the race of departs.c does not stand with the addresses of the recording")
@@ -375,7 +375,7 @@ def judge_departs(racebench):
 
 
 def judge_teams(racebench):
-    """Races of teams of OpenMP stand: who comes first has the next part of a loop, a section, and what one thread
+    """Races of OpenMP teams are shown: who comes first has the next part of a loop, a section, and what one thread
     does."""
     for source, seed in itertools.product(("region.c", "teams.c", "openmp.c"), ("1", "2")):
         recorded(os.path.join(TOP, "tests", "recorded", source), ["--seed", seed, "--yield", "5"], flags=["-fopenmp"])
@@ -385,7 +385,7 @@ def judge_teams(racebench):
 
 
 def judge_debugger(racebench):
-    """Under gdb the program has the words that it was recorded with, and both threads stand."""
+    """Under gdb the program gets its recorded arguments, and both threads wait at their accesses."""
     if not shutil.which("gdb"):
         return
     odd = ["h[1-8] %h", "", "it's"]
@@ -400,7 +400,7 @@ def judge_debugger(racebench):
 
 
 def judge_waits(racebench):
-    """A thread that waits where its access would come next does not stand there."""
+    """A thread that waits right before its access is not at the access."""
     recorded(os.path.join(SOURCES, "waits.c"), [])
     found = confirmed(racebench, wanted=1)
     said = "came to an atomic read at waits.c:12, where the recording has a read at waits.c:13"

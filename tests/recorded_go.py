@@ -1,7 +1,7 @@
 """Judges record/ on Go programs: those of tests/recorded/go with ten seeds each, those that end badly, the options of
 record/run, a Go that is unknown, and programs made by chance whose races are known (recorded_go_planted.py).
 
-What no other judge sees: a race of a Go program that is not listed or a false one, a trace that is said to be whole and
+What no other judge sees: a race of a Go program that is not listed or a false one, a trace that claims to be whole and
 is not, and a seed that is no run.
 """
 
@@ -255,7 +255,7 @@ FOLLOWED = (
 
 
 def judge_followed(racebench: str, name: str, what: str) -> None:
-    """Both goroutines are led to their accesses, and the order of these has its effect."""
+    """Both goroutines are led to their accesses, and the order of the accesses has its effect."""
     recorded(name, "--seed", "2", "--clock", "clock")
     confirm = [os.path.join(RECORD, "confirm"), "--racebench", racebench, "trace.std", "clock"]
     out, _ = ran(confirm)
@@ -264,7 +264,7 @@ def judge_followed(racebench: str, name: str, what: str) -> None:
 
 
 def judge_stands(racebench: str) -> None:
-    """record/follow prints where both goroutines stand, with their calls and what is there; a schedule that is not of
+    """record/follow prints where both goroutines are, with their calls and the values there; a schedule that is not of
     this recording is refused, and so is gdb."""
     recorded("hidden", "--seed", "2", "--clock", "clock")
     a, b = re.findall(r"^race (\d+) (\d+) ", ran([racebench, "triage", "trace.std"])[0], re.MULTILINE)[0]
@@ -413,8 +413,8 @@ def answered(racebench: str, report: str, wanted: int = 0) -> tuple[str, str]:
 
 
 def judge_reported(racebench: str) -> None:
-    """A report of Go's race detector leads to the race of the trace. One that is cut is told so; a report on another
-    method of the same type, or on another line, is not met."""
+    """A report of Go's race detector leads to the race of the trace. A cut one leads to a message; a report on another
+    method of the same type, or on another line, matches no race."""
     for name in REPORTED:
         recorded(name, "--seed", "1")
         report = race_report(name)

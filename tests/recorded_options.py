@@ -1,8 +1,8 @@
 """Judges what record/run writes of a run: that the decoder writes the trace that its judge computes from the records,
 where a trace begins and ends, which variables it has, and that one of any length is whole.
 
-What no other judge sees: a trace that begins in the midst of a run and lets a lock go that nobody took, a variable of
-which a part of the accesses is missing, a limit that nothing is said of.
+What no other judge sees: a trace that begins in the midst of a run and releases a lock that nobody took, a variable
+of which a part of the accesses is missing, a limit without a message.
 """
 
 import os
@@ -67,8 +67,8 @@ def judge_decoder(source, options, c):
 
 
 def judge_objects(lines, expected):
-    """The names of the source stand for the objects and places that the judge finds, one for one: no two of them share
-    a name, and each keeps its own."""
+    """The names of the source match the objects and places that the judge finds, one to one: no two share a name, and
+    each keeps its own."""
     if len(lines) != len(expected):
         raise Wrong(f"with names of the source there are {len(lines)} events, and the judge finds {len(expected)}")
     named, places = {}, {}
@@ -101,7 +101,7 @@ def held_wrongly(lines):
 
 
 def judge_beginning():
-    """A trace from an event on has what comes after it; before that stand the acquires of the locks that are held
+    """A trace from an event on has what comes after it; before that it has the acquires of the locks that are held
     there, and nothing else."""
     run("--raw", "kept.raw", "./program")
     whole, _ = decoded()
@@ -116,7 +116,7 @@ def judge_beginning():
 
 
 def judge_only():
-    """Of the variables stand those that the file accesses, with all their accesses; everything else is as in the
+    """The trace has the variables that the file accesses, with all their accesses; everything else is as in the
     whole trace."""
     whole, _ = run("--raw", "kept.raw", "./program")
     some, said = decoded("--only", "p/util.c")

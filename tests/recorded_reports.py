@@ -1,5 +1,5 @@
 """Judges record/reported: real reports of ThreadSanitizer, Helgrind and DRD, made here, lead to the race of
-examples/count.c; reports that are cut, of another form or of another program are told so.
+examples/count.c; a message names reports that are cut, of another form or of another program.
 
 What no other judge sees: a report that is answered by another race, and one that is cut and taken for whole.
 """
@@ -101,7 +101,7 @@ def judge_report(racebench, said):
 
 
 def judge_cuts(racebench, said):
-    """A report that is cut is told so, whatever part of it is there."""
+    """A cut report leads to a message, wherever it was cut."""
     ends = range(0, len(said), max(1, len(said) // 12))
     for end in ends:
         with open("cut", "wb") as file:
@@ -183,7 +183,7 @@ def judge_lost(racebench):
 
 def judge_apart(racebench, c):
     """A block that is published without a lock: the race of the pointer is shown. The report on the block names the
-    line of its malloc, where the trace has no access, so that pair is not called apart."""
+    line of its malloc, but the trace has no access there, so that pair is not called apart."""
     source = os.path.join(SOURCES, "published.c")
     record(source)
     with open("report", "wb") as file:
@@ -194,7 +194,7 @@ def judge_apart(racebench, c):
         raise Wrong(f"the report of a block that is published without a lock is answered by {out}{err}")
 
 
-# A program whose accesses forks and joins order, and a report on two of them.
+# A program whose accesses are ordered by forks and joins, and a report on two accesses.
 ORDERED = """#include <pthread.h>
 static int table[8];
 static void *fill(void *p) { table[3] = 1; return p; }
@@ -284,7 +284,7 @@ def judge_variables():
 
 
 def cases(racebench, c):
-    """The cases of a compiler; those of valgrind stand beside gcc's."""
+    """The cases of a compiler; those of valgrind come with gcc's."""
     found = [(f"reports of ThreadSanitizer, {c}", judge_reports, (racebench, c))]
     found += [("variables of reports", judge_variables, ())] if c == "gcc" else []
     if c == "gcc" and shutil.which("valgrind"):

@@ -1,5 +1,5 @@
-"""Judges how record/ compiles and runs: a seed is a run, an end is told as it was, and nothing green comes of a
-recording without hooks.
+"""Judges how record/ compiles and runs: a seed fixes a run, an ending is reported as it was, and a recording without
+hooks never looks green.
 
 What no other judge sees: recordings of one seed that differ, a program without hooks whose trace has no race, and
 files that are left.
@@ -71,8 +71,8 @@ def raw_records(words, seed):
 
 
 def raw_run(words, seed):
-    """The records of a run, without its trace: for each its thread, clock, kind and place, and of those that no clock
-    answered the rest. And how many turns were taken by force."""
+    """The records of a run, without its trace: for each its thread, clock, kind and place, and the rest if no clock
+    answered it. Also how many turns were taken by force."""
     with tempfile.TemporaryFile() as file:
         surroundings = dict(
             os.environ,
@@ -131,7 +131,7 @@ def judge_same_teams(c):
 
 
 def judge_ends(c):
-    """How the program ended is said in any case, and its status is passed on if that is wanted."""
+    """The ending of the program is always printed, and its status is passed on with `--status`."""
     compiled(TWO_THREADS, by="cc")
     for words, status, said in (([], 0, "status 7"), (["--status"], 7, "status 7")):
         out, told = recorded(*words, "./program", wanted=status)
@@ -165,8 +165,8 @@ def judge_hooks(c):
 
 
 def judge_words(c):
-    """A source is told by -x too, in one word or in two; words come from a file; and what chooses the linker is a word
-    for the link alone, since build systems read it in what the compiler says of its calls."""
+    """A source is known by -x too, in one argument or in two; arguments come from a file; and an option that chooses
+    the linker is for the link alone, since build systems read it in what the compiler prints of its calls."""
     environment = dict(os.environ, RECORD_CC=c)
     with open("source.txt", "w", encoding="ascii") as source:
         source.write(TWO_THREADS)
@@ -211,7 +211,7 @@ def judge_usages(_):
             raise Wrong(f"record/{name} without words: {told}")
 
 
-# Numbers that the recorder could not take, with what is said of each.
+# Numbers that the recorder cannot take, with its message for each.
 NUMBERS = [
     ("--yield", 0, "from 1 to 4294967295"),
     ("--yield", 1 << 32, "from 1 to 4294967295"),
@@ -270,7 +270,7 @@ TMPDIR=$PWD/small exec %s ./program"""
 
 
 def judge_full_disk(c):
-    """A folder without room for the records is told, and no empty trace is written."""
+    """A folder without room for the records leads to a message, and no empty trace is written."""
     compiled(TWO_THREADS, by="cc")
     os.mkdir("small")
     command = FULL_DISK % ("64k", os.path.join(RECORD, "run"))

@@ -43,7 +43,7 @@ static int is_file(int file, struct stat *what) {
     return fstat(file, what) == 0 && (S_ISREG(what->st_mode) || S_ISDIR(what->st_mode));
 }
 
-/* The call's result, which is noted with what is said of it and these bytes. */
+/* The call's result, which is noted with its arguments and these bytes. */
 static long noted(const char *call, int file, const char *said, const void *bytes, long result) {
     int error = errno;
     struct stat what;

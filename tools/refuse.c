@@ -1,5 +1,5 @@
 /* Loaded before the C library (LD_PRELOAD), it has one call of the program fail. The environment says which:
- *   REFUSE      what kind of call: memory (malloc and realloc; so where it is missing), read, write, open or thread;
+ *   REFUSE      what kind of call: memory (malloc and realloc; the default), read, write, open or thread;
  *               or, of disk.c, pwrite, ftruncate, fsync, flock or link
  *   REFUSE_AT   the number of the call of this kind, from 1
  *   REFUSE_HOW  how it fails: error (so if it is missing), interrupted, short (one byte is moved), nothing (a write
@@ -9,12 +9,12 @@
  * until a run ends without such a call:
  *   REFUSE_EACH the file that gets, for each run, a line `STATUS MET OUT ERR` and then what the run wrote: its exit
  *               status or, below 0, the signal that ended it; whether the call came; and how many bytes follow of its
- *               standard output, of its standard error and of the file REFUSE_LEFT, -1 if there is none
- *   REFUSE_LEFT the file whose bytes are told as each run left them
- *   REFUSE_IN   the path of the standard input of these runs
- *   REFUSE_FILES the folder whose files each of them finds where it runs, and nothing else there; without it they find
- *               what is left by the one before
- * A run of these may take 20 minutes: a machine may be slow and busy. */
+ *               standard output, of its standard error and of the file REFUSE_LEFT, -1 without that file
+ *   REFUSE_LEFT the file whose bytes each run's record has, as the run left them
+ *   REFUSE_IN   the path of the standard input of the runs
+ *   REFUSE_FILES the folder whose files each run finds in its own, and nothing else there; without it they find
+ *               what the run before left
+ * A run may take 20 minutes: a machine may be slow and busy. */
 #define _GNU_SOURCE
 #include <errno.h>
 #include <fcntl.h>
@@ -75,7 +75,7 @@ ssize_t read(int file, void *bytes, size_t size) {
     return syscall(SYS_read, file, bytes, size);
 }
 
-/* How many bytes of so many a write may take, or below 0 that it fails. */
+/* How many bytes a write of `size` bytes may take, or below 0 that it fails. */
 static long taken(size_t size) {
     static atomic_int is_cut;
     if (atomic_exchange(&is_cut, 0)) return failed(ENOSPC);
@@ -144,7 +144,7 @@ static void put_files(const char *files) {
     if (child < 0 || waitpid(child, &status, 0) != child || status != 0) _exit(3);
 }
 
-/* The file of this name, opened, or below 0 where there is none; a folder is none. */
+/* The file of this name, opened, or below 0 if there is no such file; a folder is no file. */
 static int left_file(const char *name) {
     struct stat what;
     if (!name || stat(name, &what) != 0 || !S_ISREG(what.st_mode)) return -1;
@@ -195,7 +195,7 @@ static void run_each(const char *report) {
 
 __attribute__((constructor)) static void begin(void) {
     extern void *dlsym(void *, const char *);
-    next_create = dlsym((void *)-1L, "pthread_create"); /* the one behind this library's: RTLD_NEXT */
+    next_create = dlsym((void *)-1L, "pthread_create"); /* the one after this library's: RTLD_NEXT */
     const char *text = getenv("REFUSE_AT");
     long wanted = text ? atol(text) : 0;
     refuse_how = is("REFUSE_HOW", "interrupted") ? INTERRUPTED

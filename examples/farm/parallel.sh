@@ -5,7 +5,7 @@
 # each trace, and merged.txt and merged.json, the one report of all. A trace that is older than its report is not
 # triaged again: run the same line after a failure, or with more traces. JOBS (4) is how many jobs run at a time on a
 # machine. LOGINS names the machines, as ssh takes them, with commas between; `:` is this one. Then names of traces have
-# no blanks, and each machine has rsync. RACEBENCH names the command, which has to be there on each machine.
+# no blanks, and each machine has rsync. RACEBENCH names the command, which each machine must have.
 #
 # The status is 0 if all traces were triaged, and 1 if one was not: then nothing is merged. It is 2 if two reports would
 # have one name: of traces with one name in two folders, or of `merged.std`.

@@ -17,7 +17,7 @@ std::optional<Dwarf_Die> pointed_to(Dwarf_Die holder) {
     return types::referred(*pointer, DW_AT_type);
 }
 
-// A block is of one object, or of several after `new T[n]` and in C. A block of a `sizeof` may have more behind it.
+// A block is of one object, or of several after `new T[n]` and in C. A block of a `sizeof` may have more at its end.
 bool fits(const guesses::Guess &guess, Dwarf_Die type, uint64_t size) {
     std::optional<Dwarf_Die> object = types::object_type(type);
     uint64_t each = object ? types::size_of(*object) : 0;

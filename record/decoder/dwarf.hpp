@@ -16,7 +16,7 @@
 
 namespace dwarf {
 
-// Where a place is: the function, the path, the line, and the entry of the function.
+// A place in the code: the function, the path, the line, and the entry of the function.
 struct Frame {
     std::string function, path;
     int line;
@@ -31,7 +31,7 @@ struct Body {
     std::vector<Body> inside;
 };
 
-// A unit of compilation. Its functions are read when code of it is asked for.
+// A unit of compilation. Its functions are read when a place in its code is looked up.
 class Unit {
 public:
     Unit(const Dwarf_Die &die, const Dwarf_Die &split);
@@ -44,9 +44,9 @@ public:
     std::optional<Dwarf_Die> made_unique(Dwarf_Addr place);
     // The class of the outermost constructor that a place is in and the other is not, if its objects have this size.
     std::optional<Dwarf_Die> constructed(Dwarf_Addr place, uint64_t size, Dwarf_Addr outside);
-    // The type that the source names for a block of so many bytes. Whether the caller may know more.
+    // The type that the source names for a block of `size` bytes. Whether the caller may know more.
     std::optional<Dwarf_Die> guessed(Dwarf_Addr place, uint64_t size, bool &passes_on);
-    // The name of so many bytes at an address of a frame of the function at a place.
+    // The name of `size` bytes at an address of a frame of the function at a place.
     locals::Name local_name(Dwarf_Addr place, const locals::Frame &frame, uint64_t at, uint64_t size,
                             const locals::Uses &uses);
     mutable Dwarf_Die die;
@@ -83,7 +83,7 @@ public:
     std::optional<Dwarf_Die> made_unique(Dwarf_Addr place);
     std::optional<Dwarf_Die> constructed(Dwarf_Addr place, uint64_t size, Dwarf_Addr outside);
     std::optional<Dwarf_Die> guessed(Dwarf_Addr place, uint64_t size, bool &passes_on);
-    // The name of so many bytes of a variable. Empty if it is not known.
+    // The name of `size` bytes of a variable. Empty if it is not known.
     std::string variable_name(Dwarf_Addr start, uint64_t size) { return variables.name(debug, start, size, false); }
     // The same of a variable that each thread has, from an offset on in those of a thread.
     std::string thread_variable_name(Dwarf_Addr offset, uint64_t size) {

@@ -10,7 +10,7 @@ namespace guesses {
 
 namespace {
 
-// A statement may have so many lines before and after the one that is known.
+// The most lines that a statement may have before and after the known one.
 constexpr int MOST_LINES = 2;
 constexpr size_t MOST_LINE_BYTES = 1000;
 constexpr off_t MOST_FILE_BYTES = 1 << 24;

@@ -12,7 +12,7 @@ using operations::Operation;
 class Lines {
 public:
     Lines() : known(CACHE) {}
-    // The place for the line of an operation; its text is empty if it is not known. A meeting has a number of its own
+    // The place for the line of an operation; its text is empty if it is not known. A meeting has another number
     // each time, so its line is not for here, and that of a try neither: its location depends on more.
     std::string &text_of(const record &one, const Operation &operation);
 

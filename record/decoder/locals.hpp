@@ -24,7 +24,8 @@ struct Frame {
     uint64_t start, end;
 };
 
-// Where a variable is counted from. A frame pointer is below the return address and the caller's frame pointer.
+// What the place of a variable is relative to. A frame pointer is below the return address and the caller's frame
+// pointer.
 enum class From { END, POINTER, START };
 
 struct Local {
@@ -52,7 +53,7 @@ class Locals {
 public:
     // Finds the variables of a function. `name_of` gives the name of an inlined one.
     Locals(Dwarf_Die function, const std::function<std::string(Dwarf_Die)> &name_of);
-    // The name of so many bytes at an address of a frame. Empty if no variable is known there, or if the uses don't say
+    // The name of `size` bytes at an address of a frame. Empty if no variable is known there, or if the uses don't show
     // which of several it is.
     Name name(const Frame &frame, uint64_t at, uint64_t size, const Uses &uses) const;
 

@@ -31,7 +31,7 @@ bool Moments::is_before(Moment moment, u16 thread) {
     return place.thread < known.size() && place.number < known[place.thread];
 }
 
-// Adds what another thread knows, and so many moments of that thread.
+// Adds what another thread knows, and `count` moments of that thread.
 void Moments::learn(u16 thread, const Known &known, u16 other, u32 count) {
     Thread &mine = thread_at(thread);
     auto all = std::make_shared<Known>(*mine.known);

@@ -3,7 +3,7 @@
 
 namespace names {
 
-// If another place has the name, an offset tells the two apart, and a number if that does not.
+// If another place has the name, an offset is added, and a number if the offset is the same.
 std::string Names::apart(const std::string &name, const Key &key) {
     std::string found = text::fitting(name);
     bool is_frame = things.activation_of(key.thing) != nullptr;

@@ -22,7 +22,7 @@ class Names {
 public:
     // With `raw`, a name has the symbol, block or stack, and an offset in bytes.
     Names(objects::Objects &things, bool raw) : things(things), raw(raw) {}
-    // The name of so many bytes at a place. It is that of the first call for this place.
+    // The name of `size` bytes at a place. It is that of the first call for this place.
     const std::string &of(objects::Thing thing, u64 place, u64 size);
 
 private:

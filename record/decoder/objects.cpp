@@ -6,7 +6,7 @@
 namespace objects {
 
 constexpr int PIECE_BITS = 20;
-// So many places of code are kept at most for a place in a frame.
+// The most places of code that are kept for a place in a frame.
 constexpr size_t MOST_USES = 16;
 
 void Objects::restart() {
@@ -112,7 +112,7 @@ void Objects::changed_inside(u64 start, u64 end, Thing thing) {
     }
 }
 
-// The activation that has more memory than was known; a new one if there is none.
+// The activation that has more memory than was known, or else a new one.
 Thing Objects::same_frame(const record &one) const {
     auto after = inside.lower_bound(one.at + one.size);
     if (!one.order || after == inside.begin()) return NOTHING;
@@ -355,7 +355,7 @@ std::string Objects::frame_name(Thing thing, u64 place, u64 size) {
     return "stack:" + function + number + (offset < 0 ? "" : "+") + std::to_string(offset);
 }
 
-// The offset is that from the first of these variables on.
+// The offset is that from the first variable on.
 std::string Objects::own_name(const Name &of, u64 place, u64 size) {
     std::string name = modules.own_variable_name(place, size), thread = "T" + std::to_string(of.thread);
     if (!name.empty()) return name + "#" + thread;

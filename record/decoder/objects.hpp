@@ -19,7 +19,7 @@ struct Where {
     u64 place;
 };
 
-// One activation of a function. Its places are counted from so many bytes before the frame's end on.
+// One activation of a function. Its places are counted from BEFORE_END bytes before the frame's end on.
 struct Activation {
     u64 body;
     locals::Frame frame;
@@ -49,16 +49,16 @@ public:
         bool is_known = whole.page == page && whole.thing != NOTHING && whole.age == ages[page % PAGES];
         return is_known ? Where{whole.thing, address - whole.start} : found_at(address);
     }
-    // What is no memory: one of so many of a kind.
+    // What is no memory: number `number` of a kind.
     Thing named(int kind, u64 number);
     // The name of a thing and an offset in bytes.
     std::string name(Thing thing, u64 place) const;
-    // The name of so many bytes at a place as the source has it. Empty if it is not known.
+    // The name of `size` bytes at a place as the source has it. Empty if it is not known.
     std::string source_name(Thing thing, u64 place, u64 size);
     size_t blocks() const { return names.size(); }
     // Whether some thing is an activation of a function.
     bool has_activations() const { return !activations.empty(); }
-    // The code of the function whose activation a thing is, and its thread; nothing if it is none.
+    // The code of the function whose activation a thing is, and its thread; nothing for another thing.
     const Activation *activation_of(Thing thing) const;
     // A block is written by the thread that allocated it: the first such write may be that of a constructor.
     void see_write(Thing thing, const record &one);
@@ -93,7 +93,7 @@ private:
         bool was_looked_for = false, is_guess = false;
         std::optional<Dwarf_Die> type;
     };
-    // Where an address was found, while nothing began or changed in its page.
+    // The result of the last search for an address, while nothing began or changed in its page.
     struct Found {
         u64 address = ~0ull;
         u32 age = 0;
@@ -105,7 +105,7 @@ private:
         u32 age = 0;
         Thing thing = NOTHING;
     };
-    // A part of a page where an address was found.
+    // A part of a page in which an address was found.
     struct Recent {
         u64 start = 0, size = 0, base = 0;
         Thing thing = NOTHING;

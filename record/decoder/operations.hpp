@@ -6,7 +6,7 @@
 
 namespace operations {
 
-// A word of the trace and what it is of: the name of a place in a thing, with a word before it and a thread behind it.
+// A word of the trace and its object: the name of a place in a thing, with a word before it and a thread after it.
 // Names are made of what is written alone.
 struct Operation {
     const char *word, *before;

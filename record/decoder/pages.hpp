@@ -28,7 +28,7 @@ public:
     }
 
 private:
-    // Pages that are so many apart share a number. An access of more pages is
+    // Pages that are a multiple of COUNT apart share a number. An access of more than MOST_PAGES pages is
     // always seen.
     static constexpr u64 BITS = 12, COUNT = 1 << 20, MOST_PAGES = 16;
     static u32 number_of(u64 address) { return static_cast<u32>((address >> BITS) % COUNT); }

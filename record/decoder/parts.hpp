@@ -1,4 +1,4 @@
-// Which things two threads access, one of them writing, and in which parts.
+// Which things two threads access, at least one by a write, and in which parts.
 #pragma once
 #include <algorithm>
 #include <array>
@@ -46,7 +46,7 @@ public:
         end < MARKED ? mark(end) : add_far(end);
     }
     void settle();
-    // The parts from `start` to `end`: the first one, and the one behind the last.
+    // The parts from `start` to `end`: the first one, and the one after the last.
     std::pair<size_t, size_t> between(u64 start, u64 end) const { return {from(start), from(std::max(start, end))}; }
     u64 at(size_t part) const { return ends[part]; }
     size_t size() const { return ends.size(); }
@@ -61,7 +61,7 @@ private:
     void mark(u64 end);
     void add_far(u64 end);
     void find_step();
-    // The first part that begins at a place or behind it.
+    // The first part that begins at a place or after it.
     size_t from(u64 place) const {
         if (!step || place < ends[0] || place > ends.back()) return search(place);
         u64 behind = place - ends[0] + step - 1;
@@ -77,11 +77,11 @@ private:
 };
 
 // An access of more parts than this may give its first ones only, if all accesses have more parts beyond than there is
-// room for: then it gives so many of them as MORE_PARTS says, the most that there is room for.
+// room for. Then it gives the largest number of MORE_PARTS that there is room for.
 constexpr size_t MOST_PARTS = 64, ROOM_BEYOND = 131072;
 constexpr std::array<size_t, 3> MORE_PARTS = {65536, 4096, 512};
 
-// What was found of an access: its first part, the one behind its last, and the one behind the last that is written.
+// The parts of an access: the first, the one after the last, and the one after the last written.
 struct Span {
     Thing thing = objects::NOTHING;
     u64 place = 0, size = 0;
@@ -92,7 +92,7 @@ struct Span {
 class Spans {
 public:
     Spans() : known(CACHE) {}
-    // The place for an access; whether it is known is told by `is_of`.
+    // The place for an access; `is_of` says whether it is known.
     Span &place_of(Thing thing, u64 place) {
         u64 mixed = (place ^ static_cast<u64>(thing) << 40) * 0x9e3779b97f4a7c15ull >> 48;
         return known[mixed % CACHE];

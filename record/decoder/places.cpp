@@ -58,7 +58,7 @@ Variable Modules::variable_at(u64 address) {
     return {module->base + found->start, library + text::plain(text::with_section(found->name))};
 }
 
-// So many calls around an allocation may be those of a container.
+// The most calls around an allocation that may be those of a container.
 constexpr int MOST_CALLS = 4;
 
 std::optional<Dwarf_Die> Modules::allocated(u64 pc, u32 call) {
@@ -225,7 +225,7 @@ Frames Modules::stack(u64 pc, u32 number) {
     return found;
 }
 
-// The frames that are written: those of the program's own code, or all if there is none.
+// The frames that are written: those of the program's own code, or else all.
 const Frames &Modules::ordered_stack(u64 pc, u32 call) {
     auto known = known_stacks.find({pc, call});
     if (known != known_stacks.end()) return known->second;

@@ -50,18 +50,18 @@ public:
     explicit Modules(const raw::File &file);
     // The variable at an address: none if its name is empty.
     Variable variable_at(u64 address);
-    // The name of so many bytes at a place of a variable as the source has it. Empty if it is not known.
+    // The name of `size` bytes at a place of a variable as the source has it. Empty if it is not known.
     std::string variable_name(u64 start, u64 place, u64 size);
-    // How many bytes the variables take that the program has for each thread, and the name of some of these bytes.
+    // How many bytes the variables take that the program has for each thread, and the name of some of the bytes.
     u64 own_variables();
     std::string own_variable_name(u64 place, u64 size);
     // The function that is entered at a place.
     std::string function_at(u64 body);
-    // The name of so many bytes at an address of a frame of that function, whose uses have addresses of code.
+    // The name of `size` bytes at an address of a frame of that function, whose uses have addresses of code.
     locals::Name local_name(u64 body, const locals::Frame &frame, u64 at, u64 size, locals::Uses uses);
     // The parameter of the allocator of C++ that allocated at a place in a call: its type is that of the block.
     std::optional<Dwarf_Die> allocated(u64 pc, u32 call);
-    // The type of a block of so many bytes that was allocated so: what std::make_unique makes, or the class of the
+    // The type of a block of `size` bytes that was allocated so: what std::make_unique makes, or the class of the
     // constructor that wrote it first.
     std::optional<Dwarf_Die> constructed(const Key &allocated, const Key &written, u64 size);
     // The type that the source names.
@@ -70,7 +70,7 @@ public:
     const std::string &place(u64 pc, u32 call);
     // Whether the first place of a location is in one of the files, which are ends of paths.
     bool is_in(u64 pc, u32 call, const std::vector<std::string> &files);
-    // A location with so many frames at most. `inside` is `free`, `try` or nothing: what of the C library it is in. A try
+    // A location with at most `most` frames. `inside` is `free`, `try` or nothing: what of the C library it is in. A
     // is written also without a frame.
     std::string location(u64 pc, u32 call, size_t most, const std::string &inside);
     // The libraries without hooks, except those of C and C++ and those whose names begin as a trusted one.

@@ -15,7 +15,7 @@ class Polls {
 public:
     // Each record that happened, in their order.
     void see(const record &one);
-    // Whether some thread made two looks in turn, so that the looks have to be searched.
+    // Whether some thread made two looks in turn, so that the looks must be searched.
     bool is_wanted() const { return any; }
     // What each record becomes in the trace, in their order.
     void see_event(size_t number, const record &one, const Operations &operations);

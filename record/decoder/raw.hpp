@@ -16,14 +16,14 @@ class File {
 public:
     explicit File(const std::string &path);
     const head &top() const { return *reinterpret_cast<const head *>(bytes); }
-    // The words of the records.
+    // The machine words of the records.
     size_t words() const { return used; }
     const u64 *first_word() const { return first; }
     // How many records had no room, or more: each word that the file lacks may be one.
     u64 lost() const { return top().lost + (top().used > used ? top().used - used : 0); }
     // Gives back the memory of words that have gone by: the file has them.
     void forget(u64 from, u64 to) const;
-    // The node of a number; a number that is none is that of no call.
+    // The node of a number; a number without a node is that of no call.
     const node &call(u32 number) const;
     size_t calls() const { return nodes; }
 

@@ -35,7 +35,7 @@ void Relaxed::see_lock(u16 thread, const Held &lock, bool takes) {
     mine = now.empty() ? nullptr : std::make_shared<const std::vector<Held>>(std::move(now));
 }
 
-// A write and a read of it, or a read and the write behind it, in two sections of a lock: another order of the sections
+// A write and a read of it, or a read and the write after it, in two sections of a lock: another order of the sections
 // gives the read another writer.
 void Relaxed::order(const Locked &first, const Locked &second) {
     if (!first.locks || !second.locks) return;

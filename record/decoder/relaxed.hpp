@@ -29,7 +29,7 @@ class Relaxed {
 public:
     // Each record that happened, in their order.
     void see(const record &one);
-    // Whether parts have to be seen: only if an atomic access is relaxed or one-way.
+    // Whether parts are needed: only if an atomic access is relaxed or one-way.
     bool wants_parts() const { return there; }
     void see_part(u64 number, const record &one, size_t part);
     // Each lock that is taken or let go, and each atomic access of a part, in their order.

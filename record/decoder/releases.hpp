@@ -12,7 +12,7 @@ namespace releases {
 enum { RELAXED, CONSUME, ACQUIRES, RELEASES, BOTH, SEQ_CST };
 
 // Records that release: of each thread the last one, which comes after its earlier ones. An access that changes a value
-// of more of them is written as one that acquires them all.
+// of more such records is written as one that acquires them all.
 using Sources = std::vector<forks::Step>;
 constexpr size_t MOST_SOURCES = 64;
 

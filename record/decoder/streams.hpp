@@ -16,8 +16,8 @@ public:
     void restart() { sends = taken = 0; }
     // The number of the next send, from 1 on; 0 if nobody needs it.
     u64 next_send();
-    // The last send that a record comes after, which received some bytes or the end, or found that a byte is there; 0
-    // if there is none.
+    // The last send that a record comes after, which received some bytes or the end, or found that a byte is there; or
+    // 0.
     u64 next_receive(const record &one);
 
 private:

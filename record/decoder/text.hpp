@@ -1,4 +1,4 @@
-// Names as they stand in a trace: what is cut, replaced and left out of them.
+// Names as a trace has them: what is cut, replaced and left out.
 #pragma once
 #include <cstdint>
 #include <map>
@@ -10,9 +10,9 @@ namespace text {
 
 constexpr size_t MOST_NAME_BYTES = 255, MOST_FUNCTION_BYTES = 80, MOST_PLACE_BYTES = 160;
 
-// A name that is too long is cut, before a byte that begins a character, with a number of the whole name behind it.
+// A name that is too long is cut, before a byte that begins a character, and a number of the whole name is added.
 std::string fitting(const std::string &name, size_t most = MOST_NAME_BYTES);
-// A name that can stand in a line of a trace.
+// A name that can be a part of a line of a trace.
 std::string plain(std::string name);
 // A path without `.`, `..` and empty parts.
 std::string normal(const std::string &path);

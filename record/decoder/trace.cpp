@@ -256,7 +256,7 @@ void Trace::leave_out() {
     }
 }
 
-// Kept are the parts that two threads access, one of them writing.
+// Kept are the parts that two threads access, at least one by a write.
 void Trace::find_kept() {
     see_parts();
     if (!gives_more_parts()) return;

@@ -1,4 +1,4 @@
-// The records of one run, and what of them is printed. They go by several times, so memory grows with the variables
+// The records of one run, and what is printed. They go by several times, so memory grows with the variables
 // and not with the records.
 #pragma once
 #include <cstdio>
@@ -30,7 +30,7 @@
 namespace trace {
 
 constexpr size_t MOST_THREADS = 256;
-// With so many events at most, a trace has any number of events and threads.
+// The most events of a trace without a limit of events and threads.
 constexpr u64 NO_LIMIT = UINT64_MAX;
 
 struct Options {
@@ -42,7 +42,7 @@ struct Options {
     bool all = false;
     // Where the accesses that are left out are named; nowhere if it is empty.
     std::string ordered;
-    // Of variables those that these files access; of all where there is none.
+    // Variables that these files access; empty for all variables.
     std::vector<std::string> only;
     // Libraries that may be without hooks: how their names begin.
     std::vector<std::string> trusted;
@@ -142,7 +142,7 @@ public:
     Counts write(FILE *out, FILE *numbers);
     // What is not in the trace, once it is written.
     losses::Losses losses() const;
-    // The deadlock that the run ended in, once the trace is written; empty if there is none.
+    // The deadlock that the run ended in, once the trace is written; empty without a deadlock.
     std::vector<deadlocks::Wait> deadlock();
     // Writes which accesses are not, since forks and joins order them, to the file of the options.
     void write_ordered();

@@ -28,7 +28,7 @@ std::vector<Dwarf_Die> scopes_of(Dwarf_Die die);
 std::optional<Dwarf_Die> parameter_of(Dwarf_Die type);
 // What a type is called, or that of a variable, without the arguments of templates. Empty if it has no name.
 std::string label_of(Dwarf_Die die);
-// The path of the innermost member of a variable or type that has all of these bytes, and the offset in it if it is not
+// The path of the innermost member of a variable or type that has all the bytes, and the offset in it if it is not
 // 0. A lock or another object of the library that orders threads has no members.
 std::string path_in(Dwarf_Die variable, uint64_t offset, uint64_t size);
 

@@ -16,7 +16,7 @@ struct Variable {
 
 class Variables {
 public:
-    // The name of these bytes: the variable, and the path in it. Empty if no variable is known there. For variables
+    // The name of the bytes: the variable, and the path in it. Empty if no variable is known there. For variables
     // that each thread has, `start` is an offset in those of a thread.
     std::string name(Dwarf *debug, Dwarf_Addr start, uint64_t size, bool of_thread);
 

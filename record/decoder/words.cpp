@@ -174,7 +174,7 @@ void Trace::add_message(const record &one, const Resolved &of, streams::Stream &
     operations.push_back({"rel", "", of.thing, of.place});
 }
 
-// A reader holds a lock of its own, and a writer those of all readers. The state of a lock is written beside it if a
+// Each reader holds another lock, and a writer those of all readers. The state of a lock is written beside it if a
 // try was refused: who was refused comes between.
 void Trace::find_synchronization(const record &one, const Resolved &of) {
     LockSeen &known = locks[{of.thing, of.place}];

@@ -6,7 +6,7 @@
 
 namespace trace {
 
-// Whether an event of these threads is within the limits of a trace.
+// Whether an event of the two threads is within the limits of a trace.
 bool Trace::fits(u16 thread, u64 other) {
     if (counts.left_out || counts.written >= options.most) return false;
     if (thread == other && thread == last_fitting) return true;
@@ -55,7 +55,7 @@ void Trace::pass_by(const record &one, size_t number, const Operation &operation
     counts.before++;
 }
 
-// In place of the events before stand the acquires of the locks that are held.
+// Instead of the events before, the trace has the acquires of the locks that are held.
 void Trace::open() {
     is_open = true;
     std::vector<Line> lines;

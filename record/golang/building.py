@@ -75,7 +75,7 @@ def overlay_of(go: Go) -> str:
 
 
 def compile_decoder(go: Go, path: str) -> int:
-    """Compiles the decoder by itself, whatever the user's settings are; its status."""
+    """Compiles the decoder by itself, without the user's settings. Returns its status."""
     settings = dict(
         GOFLAGS="", GO111MODULE="on", CGO_ENABLED="0", GOTOOLCHAIN="local", GOWORK="off", GOOS="", GOARCH=""
     )
@@ -98,7 +98,7 @@ def decoder_of(go: Go, folder: str) -> str:
 
 
 def root_of(program: str) -> str | None:
-    """The GOROOT of a program that record/go built; None if it is none."""
+    """The GOROOT of a program that record/go built; None for another file."""
     try:
         with open(program, "rb") as file:
             rest = b""

@@ -48,13 +48,13 @@ class Words:
 
 
 def name_of(word: str) -> str:
-    """The name of a flag, such as `run` of `-run=X`; empty if the word is none."""
+    """The name of a flag, such as `run` of `-run=X`; empty if the word is no flag."""
     found = re.match(r"--?([A-Za-z][\w.-]*)", word)
     return found[1] if found else ""
 
 
 def taken(words: list[str], has_value: bool) -> list[str]:
-    """The flag at the beginning of the words, with its value."""
+    """The flag at the beginning of the arguments, with its value."""
     first = words.pop(0)
     if not has_value or "=" in first:
         return [first]

@@ -42,7 +42,7 @@ struct plan {
 #define NOBODY ~0u
 // A look at goroutines that wait, while nothing else can run.
 #define LOOK_NS 50000
-// So many choices without a record may pass over the goroutine that is held back.
+// The most choices without a record that may pass over the goroutine that is held back.
 #define MOST_IDLE 400
 
 // The kinds of ../runtime/format.h, which the texts of record/follow are made of.
@@ -165,7 +165,7 @@ static int look_at(u64 at, u64 size, u64 *to) {
     return process_vm_readv(getpid(), &mine, 1, &there, 1, 0) > 0;
 }
 
-// Both goroutines stand before their accesses.
+// Both goroutines are right before their accesses.
 static void both_stand(void) {
     for (int k = 0; k < 2; k++) {
         struct standing *one = &plan->standing[k];
@@ -257,7 +257,7 @@ static u64 taken(u32 number) {
 // A goroutine waits: the recorder has it until its turn comes.
 void __record_hold(struct context *c, u64 goroutine) { held[c->number] = goroutine, held_count++; }
 
-// One of those that wait after the race; the one that is held back only if `also_held_back`.
+// A goroutine that waits after the race; the one that is held back only if `also_held_back`.
 static u64 any_held(int also_held_back) {
     for (u64 k = 0; k < plan->threads; k++) {
         u32 number = (u32)((round_of + k) % plan->threads);
@@ -283,7 +283,7 @@ void __record_next(u64 *goroutine) {
     *goroutine = any_held(0);
 }
 
-// Nothing can run: one of those that wait and may run on, or a little time passes.
+// Nothing can run: returns a waiting goroutine that may run on, or lets a little time pass.
 void __record_idle(u64 *goroutine) {
     *goroutine = 0;
     if (following) is_last_done(due());

@@ -23,7 +23,7 @@ def surroundings(words: dict[str, Any], seed: int, paths: list[str]) -> dict[str
 
 
 def places_words(clock: clocks.Clock) -> list[str]:
-    """The words that run what answers for the program of a recording."""
+    """The command that answers for the program of a recording."""
     program = clocks.program_of(clock.words["argv"][0]) or clock.words["argv"][0]
     try:
         folder = tempfile.mkdtemp(prefix="record")

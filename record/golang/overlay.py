@@ -101,7 +101,7 @@ def assembly(root: str) -> Source:
 
 
 def refused_try(function: str, receives: int) -> str:
-    """What stands in a select with a default after a channel could not be used."""
+    """The code in a select with a default after a channel could not be used."""
     return f"{function}	if !selected && c != nil {{\n		racerefused(unsafe.Pointer(c), {receives})\n	}}\n"
 
 
@@ -168,7 +168,7 @@ def guarded(*lines: str) -> str:
 
 
 def mutex(root: str) -> Source:
-    """A mutex is one record. What it does inside is none, and no other goroutine runs between the two."""
+    """A mutex is one record. It makes no record inside, and no other goroutine runs between the two."""
     source = Source(root, "sync/mutex.go")
     begins = guarded("race.Turn()", "race.Disable()")
     for head in ("func (m *Mutex) Lock() {\n", "func (m *Mutex) TryLock() bool {\n"):

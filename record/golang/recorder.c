@@ -61,7 +61,7 @@ enum { MAIN = 1 };
 #define ADDRESS 0xffffffffffffull
 #define TABLE (1u << 23)
 #define CALLS_OF_A_BLOCK 10
-// The free space of the file system is looked up once in so many tails.
+// How many tails pass between two looks at the free space of the file system.
 #define TAILS_A_LOOK 16
 
 struct record {
@@ -251,7 +251,7 @@ static u64 id_of(const struct context *parent) {
 }
 
 // What the goroutines of a run draw from, and what its scheduler draws from; 0 if nothing is recorded. A run that
-// follows a plan has a seed of its own for what comes after it.
+// follows a plan has another seed for what comes after it.
 void __record_seed(u64 *seed, u64 *scheduler) {
     *seed = off ? 0 : drawn() | 1;
     draw ^= number("RACEBENCH_GO_AFTER", 0) * 0xD1B54A32D192ED03ULL;
@@ -481,7 +481,7 @@ u64 __record_event(struct context *c, u64 kind, u64 address, u64 value) {
 }
 
 // Atomic operations: the recorder does them, so no other goroutine comes between one and its record. Each operation
-// has its arguments behind its address, and its result behind these.
+// has its arguments after its address, and its result after its arguments.
 #define ORDER __ATOMIC_SEQ_CST
 #define OPERATION(name, bits, work) \
     static int name##bits(u8 *a) { \
@@ -522,7 +522,7 @@ static int is_to_wait(struct context *c, u8 *a, u64 place, const struct operatio
     return must_wait(c, 1);
 }
 
-// A loop over an atomic variable must let others go on. The yield comes before the operation, but for 64 bits that
+// A loop over an atomic variable must let others go on. The yield comes before the operation, except for 64 bits that
 // may be the pointer that is stored: its block must not be lost. It comes after such an exchange that failed.
 static u64 atomic(struct context *c, u64 caller, u8 *a, u64 top, u64 *frame, const struct operation *is) {
     if (off || !started || !c || c->ignore) return is->work(a), 0;

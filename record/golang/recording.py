@@ -23,7 +23,7 @@ HEAD = struct.Struct("<16Q")
 MAGIC = 0x32304F4745434152
 # Places of the head's numbers, in the order of recorder.c.
 APPENDED, LOST, BASE, STOP_AT = 3, 5, 7, 8 * 15
-# Numbers that mean that there is no limit.
+# Numbers that mean: no limit.
 NO_LIMIT = (1 << 63) - 1
 MOST_ROOM = 1 << 36
 MOST_EVENTS, MOST_BYTES, MOST_THREADS = 1_048_576, 268_435_456, 256
@@ -117,7 +117,7 @@ class Facts:
 
 
 def facts_of(text: str) -> Facts:
-    """What the decoder says; the rest of it is said here."""
+    """What the decoder prints; this process prints the lines that are no facts."""
     facts = Facts()
     for line in text.splitlines():
         word, _, rest = line.partition(" ")
@@ -220,7 +220,7 @@ def left_out(given: argparse.Namespace, facts: Facts) -> list[str]:
 
 
 def orders(counts: dict[str, int]) -> list[str]:
-    """Where the trace has more order than the program forces."""
+    """Lines about order that the trace has and the program does not force."""
     senders = "channels have several senders: their messages keep the order of this run (--slots gives Go's model)"
     lent = "goroutines have the number of one that ended, without an order between the two: races may be hidden; "
     return [

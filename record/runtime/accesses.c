@@ -9,8 +9,8 @@
 #include "turns.h"
 #include "words.h"
 
-/* A turn ends after so many accesses, which are drawn below twice `--yield`. Where a turn brought no place of code
- * that is new for its thread, the thread's next one is twice as long, up to so many times. */
+/* A turn ends after a number of accesses, which is drawn below twice `--yield`. If a turn brought no place of code
+ * that is new for its thread, the thread's next one is twice as long, up to LONGEST_TURN times. */
 #define LONGEST_TURN 16
 /* For its first accesses a thread gives the token away at the rate of the seed. A short thread would else never be
  * interrupted. */
@@ -101,7 +101,7 @@ static void wrote(const volatile void *at, u64 size, u64 pc) {
     errno = error;
 }
 
-/* What a call read, where it is known when it has been made: before what it wrote. */
+/* What a call read, if that is known only when it has been made: before what it wrote. */
 static void went_over(const volatile void *at, u64 size, u64 pc) {
     int error = errno;
     if (at) accessed(READ, at, size, pc);
@@ -134,7 +134,7 @@ ACCESSES(16)
 void __tsan_read_range(void *a, unsigned long n) { access_(READ, a, n, PC); }
 void __tsan_write_range(void *a, unsigned long n) { access_(WRITE, a, n, PC); }
 void __tsan_vptr_read(void **a) { access_(READ, a, sizeof *a, PC); }
-/* Each constructor sets the table of its class; one that stands already is no write. */
+/* Each constructor sets the table of its class; setting the same one again is no write. */
 void __tsan_vptr_update(void **a, void *v) {
     if (*a != v) access_(WRITE, a, sizeof *a, PC);
     else pass_silently(PC);

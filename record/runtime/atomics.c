@@ -85,7 +85,7 @@ ATOMICS(16, u16)
 ATOMICS(32, u32)
 ATOMICS(64, u64)
 
-/* Not every processor has these for 16 bytes: a lock stands for them. */
+/* Not every processor has these for 16 bytes: a lock replaces them. */
 static volatile u8 wide_lock;
 static void lock_wide(void) {
     while (__atomic_exchange_n(&wide_lock, 1, SC)) syscall(SYS_sched_yield);

@@ -110,7 +110,7 @@ static _Unwind_Reason_Code step(struct _Unwind_Context *context, void *data) {
 static __thread struct library_call library_call;
 static void end_library_call(struct library_call *before) { library_call = *before; }
 
-/* The first place with hooks around a place in a library; the place itself where there is none. */
+/* The first place with hooks around a place in a library; the place itself if there is no such place. */
 static __attribute__((noinline)) u64 caller_in_program(u64 pc) {
     if (is_hooked(pc)) return pc;
     if (library_call.pc && library_call.depth == depth) return library_call.pc;

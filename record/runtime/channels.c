@@ -39,7 +39,7 @@ static void park_for(int f, u32 channel, short what) {
 /* Waits in the recorder until the call on a channel will not wait. */
 static int comes_at_once(int f, u32 channel, short what, int flags) {
     if (IDLE || !channel) return WITHOUT_TURN;
-    /* Where a plan is followed, what is sent is there when its pass is done. */
+    /* In a followed run, what is sent is there when its pass is done. */
     if (!following || what == POLLIN) maybe_give();
     if ((flags & MSG_DONTWAIT) || is_nonblocking(f)) return IN_TURN;
     was_interrupted = 0;
@@ -79,7 +79,7 @@ static void sends(int f, u64 pc) {
     else if (!IDLE) sending = pass_bytes(f, POSTED, 0, pc);
 }
 
-/* After a call, or a part of it, that sent so many bytes. */
+/* After a call, or a part of it, that sent `n` bytes. */
 static ssize_t sent(int f, ssize_t n) {
     u32 channel = out_of(f);
     if (!channel || IDLE) return n;
@@ -88,7 +88,7 @@ static ssize_t sent(int f, ssize_t n) {
     return n;
 }
 
-/* Where a plan is followed: as many bytes as were recorded, and no more. */
+/* In a followed run: as many bytes as were recorded, and no more. */
 static ssize_t read_again(int f, char *to, size_t n, struct tick_entry *e) {
     size_t wanted = (ssize_t)e->answer < 0 ? 0 : e->answer < n ? e->answer : n, there = 0;
     if ((ssize_t)e->answer < 0) {
@@ -128,7 +128,7 @@ static ssize_t read_at(int f, void *to, size_t n, u64 pc) {
 
 ssize_t __wrap_read(int f, void *to, size_t n) { return read_at(f, to, n, PC); }
 
-/* A pipe takes so many bytes at once if it takes any: more are sent in pieces, so that who reads may come between. */
+/* A pipe takes PIPE_BUF bytes at once if it takes any: more are sent in pieces, so that who reads may come between. */
 static ssize_t write_pieces(int f, const char *from, size_t n) {
     size_t there = 0;
     while (there < n) {
@@ -171,7 +171,7 @@ static ssize_t write_at(int f, const void *from, size_t n, u64 pc) {
 
 ssize_t __wrap_write(int f, const void *from, size_t n) { return write_at(f, from, n, PC); }
 
-/* The memory that a call went over, of so many bytes from the first piece on: each piece is a tick, also if nothing came. */
+/* The memory that a call went over, `bytes` bytes from the first piece on: each piece is a tick, also if none came. */
 static void goes_over(int kind, const struct iovec *v, size_t pieces, ssize_t bytes, u64 pc) {
     int error = errno;
     size_t left = bytes > 0 ? (size_t)bytes : 0;
@@ -227,7 +227,7 @@ PREADS(pread64)
 PWRITES(pwrite)
 PWRITES(pwrite64)
 
-/* The other end is told that nothing more comes. */
+/* The other end learns that nothing more comes. */
 int shutdown(int f, int how) {
     REAL(shutdown, int, int, int);
     u32 channel = how == SHUT_RD ? 0 : out_of(f);

@@ -12,7 +12,7 @@
 
 static int is_of_program(u64 from) { return from - main_start < main_size || is_hooked(from); }
 
-/* What a call is about to write. One that a library makes for itself writes into memory of its own. */
+/* What a call is about to write. A library that calls for itself writes into its own memory. */
 #define WRITES_TIME(at) \
     do { \
         u64 from_ = (u64)__builtin_return_address(0); \

@@ -14,7 +14,7 @@ static struct record wanted[MOST_THREADS];
 
 /* With more parked threads nobody looks for a circle. */
 #define MOST_STUCK 1024
-/* Parked threads of which each waits for a lock that another one of them holds. */
+/* Parked threads, each of which waits for a lock that another such thread holds. */
 static u8 is_stuck[MOST_THREADS];
 
 /* A lock that a thread holds, and how often. */
@@ -81,7 +81,7 @@ static void find_holds(void) {
     }
 }
 
-/* The first stuck thread that holds what this one waits for; NOBODY if there is none. A reader waits for no reader. */
+/* The first stuck thread that holds what this one waits for, or NOBODY. A reader waits for no reader. */
 static u32 next_of(u32 thread) {
     struct record *w = &wanted[thread];
     for (u32 k = 0; k < hold_count; k++)

@@ -258,7 +258,7 @@ static int control(int f, int what, void *more, int (*real)(int, int, ...), u64 
 CONTROLS(fcntl)
 CONTROLS(fcntl64)
 
-/* A program that closes whatever may be open leaves the recorder its file. */
+/* A program that closes all descriptors leaves the recorder its file. */
 int close(int f) {
     REAL(close, int, int);
     if (f >= 0 && f == raw_file) {

@@ -15,7 +15,7 @@ static __thread struct call *calls;
 static __thread u32 known_nodes;
 
 static struct node *all_nodes;
-/* Numbers of nodes by what they are: places of a table, 0 where there is none. */
+/* Numbers of nodes by what they are: places of a table, 0 if empty. */
 static u32 *node_table;
 static u64 node_table_size;
 
@@ -34,14 +34,14 @@ static int more_nodes(void) {
     return there;
 }
 
-/* The node above `parent`, or itself, that has these two places; 0 where there is none. */
+/* The node above `parent`, or itself, that has these two places; or 0. */
 static u32 same_places(u32 parent, u64 body, u64 site) {
     while (parent && (all_nodes[parent].body != body || all_nodes[parent].site != site))
         parent = all_nodes[parent].parent;
     return parent;
 }
 
-/* The node of a call from the node of its caller; where there is no room, that of the caller. */
+/* The node of a call from the node of its caller; without room, that of the caller. */
 static u32 node_of(u32 parent, u64 body, u64 site) {
     u64 hash = (body * 31 + site) * 0x9e3779b97f4a7c15ull ^ (u64)parent * 0xff51afd7ed558ccdull;
     hash ^= hash >> 29;
@@ -60,8 +60,8 @@ static u32 node_of(u32 parent, u64 body, u64 site) {
     }
 }
 
-/* The node of the innermost of so many calls. Only a thread that has its turn makes nodes; a signal's handler that
- * comes meanwhile takes what is known. */
+/* The node of the innermost of `d` calls. Only a thread that has its turn makes nodes; a signal's handler that
+ * interrupts this takes what is known. */
 static __attribute__((noinline)) u32 node_at(u32 d) {
     static __thread u8 busy;
     while (known_nodes < d && !busy) {
@@ -148,7 +148,7 @@ static inline __attribute__((always_inline)) u64 put_inline(struct record r, int
 static u64 put_open_record(struct record r) { return put_inline(r, 1); }
 static u64 put_record(struct record r) { return put_inline(r, 0); }
 
-/* The record of so many bytes. */
+/* The record of `size` bytes. */
 static inline struct record record_of(int kind, u64 at, u64 size, u64 pc) {
     return (struct record){.kind = (u8)kind, .at = at, .size = size > UINT_MAX ? UINT_MAX : (u32)size, .pc = pc};
 }

@@ -97,7 +97,7 @@ FILLS(int, timerfd_gettime, (int f, struct itimerspec *to), (f, to), , to, answe
 FILLS(int, timer_create, (clockid_t of, struct sigevent *event, timer_t *to), (of, event, to), , to,
       answer ? 0 : sizeof *to)
 
-/* Six letters of the name of a new file, in front of so many. */
+/* The six letters of the name of a new file, before `behind` letters. */
 #define NAMES_FILE(type, name, given, passed_on, behind, there) \
     FILLS(type, name, given, passed_on, READS(t, TEXT_AT(t)), \
           t + (__real_strlen(t) >= 6u + (size_t)(behind) ? __real_strlen(t) - 6 - (size_t)(behind) : 0), \

@@ -18,7 +18,7 @@ static volatile u64 record_count;
 /* While the thread whose turn it is waits for the world, others may run through hooks that are no events of the trace:
  * what it waits for may be a message of theirs. */
 static volatile int open_to_others;
-/* What the thread is about to do at its hook, for the one who stands there. */
+/* What the thread is about to do at its hook, for a debugger there. */
 static __thread struct {
     int kind;
     u64 at, size, pc;
@@ -69,7 +69,7 @@ static void step_done(u64 k) {
     plan->step = at_step;
 }
 
-/* A place to stop at for a debugger: both threads stand before their accesses. */
+/* A place to stop at for a debugger: both threads are right before their accesses. */
 __attribute__((noinline, visibility("default"))) void racebench_race_stands(void) { __asm__ volatile("" ::: "memory"); }
 
 static void name_thread(u64 kernel_id, const char *text) {
@@ -120,7 +120,7 @@ static int is_at_access(u64 pos) {
     return about.kind != FREED && fits(expected_at(pos >> 16), about.kind, about.pc);
 }
 
-/* The thread stands before its access. The turns' lock is held. */
+/* The thread is right before its access. The turns' lock is held. */
 static void stands(u64 pos) {
     if (!is_at_access(pos)) depart(OTHER_CODE, pos, (u64)about.kind, about.pc, expected_at(pos >> 16));
     struct standing *s = &plan->standing[stood++];
@@ -165,7 +165,7 @@ static int may_pass(u64 pos) {
     return holder == me && may_run_on(me) && pos == CLOCK(tick + 1, 0);
 }
 
-/* At a hook, before what it tells: the thread waits for its turn in the plan. */
+/* At a hook, before its record: the thread waits for its turn in the plan. */
 static void arrive(u64 pos) {
     int error = errno;
     u8 was = inside;
@@ -226,7 +226,7 @@ static void pass_silently(u64 pc) {
     if (following) event_passed(CLOCK(tick, 0));
 }
 
-/* A compare-and-swap that was recorded as done has to be done here, and else not. */
+/* A compare-and-swap that was recorded as done must be done here, and else not. */
 static void check_swap(int done, u64 pc) {
     u64 e = following ? expected_at(tick) : 0;
     if (e && (KIND_OF(e) == ATOMIC_UPDATE) != !!done) depart(OTHER_OUTCOME, CLOCK(tick, 0), ATOMIC_UPDATE, pc, e);
@@ -318,7 +318,7 @@ static int waits_in_plan(void) {
 
 static void world_differs(void) { depart(OTHER_WORLD, CLOCK(tick + 1, 0), ANSWER, about.pc, expected_at(tick + 1)); }
 
-/* The entry of the next tick where it is of this kind and place; the thread has its turn then. */
+/* The entry of the next tick if it is of this kind and place; the thread has its turn then. */
 static struct tick_entry *world_expected(int kind, u64 pc) {
     if (!following || IDLE) return NULL;
     about_to(kind, 0, 0, pc);

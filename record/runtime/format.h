@@ -63,7 +63,7 @@ enum { NOTHING, LONG, TURN, TAKEN_BACK };
 #define TURN_WORDS 2
 
 /* A function that was entered: a place in it, where it was called, and the node of its caller. `same` is the node that
- * stands for it: where a function calls itself, the one above it that has the same two places. */
+ * represents it: if a function calls itself, the one above it that has the same two places. */
 struct node {
     u64 body, site;
     u32 parent, same;

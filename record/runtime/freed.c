@@ -1,4 +1,4 @@
-/* Blocks of the heap in a followed run: an access of a block that was freed is noted in the plan once the race stands.
+/* Blocks of the heap in a followed run: after the race, an access of a block that was freed is noted in the plan.
  * Interposes nothing. Runs in the turn of its thread, so no other thread is here. Must not call the heap. */
 #define OF_FREED
 #include "freed.h"
@@ -12,7 +12,7 @@ struct block {
     u32 thread;
     u8 is_freed;
 };
-/* Blocks begin at a multiple of so many bytes. */
+/* Blocks begin at a multiple of this many bytes. */
 #define GRAIN 16
 #define GRAINS_OF_PAGE 65536
 #define PAGES_OF_GRAINS (1ull << 28)
@@ -102,7 +102,7 @@ static int is_late_free(const struct record *r) {
     return is_late;
 }
 
-/* Looks at a record that is made. Uses of freed blocks are noted once the race stands. */
+/* Looks at a record that is made. Uses of freed blocks are noted after the race. */
 static void look_at_block(const struct record *r) {
     if (!plan || me >= MOST_THREADS || r->of != OF_MEMORY || !can_note_blocks() || is_late_free(r)) return;
     int shows = plan->state == STANDS || plan->state == DONE;

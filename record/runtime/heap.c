@@ -15,7 +15,7 @@
 /* A library that the thread is in without its turn, as one that waits or that made the thread, goes on without it. */
 static int is_outside(void) { return !IDLE && !following && (me == NOBODY || me < MOST_THREADS) && holder != me; }
 
-/* The library of OpenMP takes and gives back blocks of its own in its barriers, also after the last thread came. To wait
+/* The library of OpenMP takes and gives back its own blocks in its barriers, also after the last thread came. To wait
  * for a turn there could be to wait for a thread that begins the next region, and that waits for this one. */
 static int is_of_barrier(void) { return idle_in != NULL; }
 
@@ -69,7 +69,7 @@ COUNTED(__cxa_end_catch, void, (void), ())
 COUNTED(_ZNSt15__exception_ptr13exception_ptr10_M_releaseEv, void *, (void *pointer), (pointer))
 
 /* What C++ calls for `new` and `delete`. Here the place is that of the program, and not one in the library of C++.
- * Where the program has its own, or there is no memory, the library's does what it has to do. */
+ * If the program has its own, or there is no memory, the library's does what it has to do. */
 void *racebench_new(size_t n);
 void racebench_delete(void *block);
 void *_Znwm(size_t n) __attribute__((weak, alias("racebench_new")));
@@ -111,7 +111,7 @@ DELETE(WEAK, _ZdaPvmSt11align_val_t, "_ZdaPvmSt11align_val_t", (void *block, siz
 DELETE(WEAK, _ZdlPvRKSt9nothrow_t, "_ZdlPvRKSt9nothrow_t", (void *block, const void *t), (block, t))
 DELETE(WEAK, _ZdaPvRKSt9nothrow_t, "_ZdaPvRKSt9nothrow_t", (void *block, const void *t), (block, t))
 
-/* A block that stays where it is keeps its name; one that moves is copied. Both ways are as many ticks, and both give
+/* A block that does not move keeps its name; one that moves is copied. Both ways are as many ticks, and both give
  * the block back: whether it moves is the library's choice, and the old pointer is no good either way. */
 void *realloc(void *block, size_t n) {
     size_t before = block ? malloc_usable_size(block) : 0;
@@ -158,7 +158,7 @@ int __wrap_munmap(void *at, size_t n) {
     return __real_munmap(at, n);
 }
 
-/* Memory that stays where it is keeps its name. What was where it is no more is given back. */
+/* Memory that does not move keeps its name. The old range of memory that moved is given back. */
 void *__wrap_mremap(void *at, size_t before, size_t n, int how, ...) {
     va_list words;
     va_start(words, how);

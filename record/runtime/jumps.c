@@ -6,7 +6,7 @@
 #include <setjmp.h>
 
 #if defined __x86_64__
-/* Where the stack is after the jump: the C library keeps it turned and mixed with a word of the thread. */
+/* Which word has the stack after the jump: the C library keeps it turned and mixed with a word of the thread. */
 #define STACK_IN_JUMP 6
 static u64 stack_after(const struct __jmp_buf_tag *to) {
     u64 kept = (u64)to->__jmpbuf[STACK_IN_JUMP], mixed = kept >> 17 | kept << 47, word;

@@ -55,7 +55,7 @@ static int unlock_mutex(pthread_mutex_t *m) {
     return real(m);
 }
 
-/* A try that was refused in the recording is refused where a plan is followed, also if the lock is free here: that is
+/* A try that was refused in the recording is refused in a followed run, also if the lock is free here: that is
  * counted. */
 static int refused_in_plan(pthread_mutex_t *m, u64 pc) {
     struct tick_entry *e = world_expected(TRIED, pc);

@@ -18,7 +18,7 @@ static void pass(const volatile void *at, u64 pc) {
     errno = error;
 }
 
-/* A thread comes to a meeting, or goes on from it: `round` tells the meetings at one place apart, 0 where there is one
+/* A thread comes to a meeting, or goes on from it: `round` numbers the meetings at one place, 0 if there is one
  * alone. */
 static void meet(int kind, int of, u64 at, u64 round, u64 pc) {
     if (!IDLE) put_record((struct record){.kind = (u8)kind, .at = at, .answer = round, .pc = pc, .of = (u8)of});
@@ -191,8 +191,8 @@ static int do_once(pthread_once_t *o, void (*routine)(void), u64 pc) {
 
 int pthread_once(pthread_once_t *o, void (*routine)(void)) { return do_once(o, routine, PC); }
 
-/* The library of C++ may be linked into the program, where the recorder stands for its guards: their first byte says
- * that the static is made. */
+/* The library of C++ may be linked into the program; the recorder replaces its guards. Their first byte says that the
+ * static is made. */
 #define GUARD(name, type, own) \
     static type (*real)(u64 *); \
     if (!real && !(real = (type(*)(u64 *))found(name, NULL))) real = own;

@@ -6,7 +6,7 @@
 #include "streams.h"
 #include "texts.h"
 
-/* How many bytes of a text are looked at: those of the number and one behind it, or what is skipped and one. */
+/* How many bytes of a text are looked at: those of the number and one after it, or what is skipped and one. */
 static size_t looked_at(const char *s, const char *end) {
     if (end == s) {
         while (*end == ' ' || (*end >= '\t' && *end <= '\r')) end++;
@@ -15,7 +15,7 @@ static size_t looked_at(const char *s, const char *end) {
     return (size_t)(end - s) + 1;
 }
 
-/* Before a conversion that ends at `stop`, which is NULL where the base is none. */
+/* Before a conversion that ends at `stop`, which is NULL if the base is not allowed. */
 static void converts(const char *s, const char *stop, char **end, u64 pc) {
     if (!stop) return;
     if (has_threads) access_(READ, s, looked_at(s, stop), pc);
@@ -72,7 +72,7 @@ CONVERTS_ALONE(double, atof)
 
 /* ---- texts that are read by a format: what was found is known afterwards ---- */
 
-/* A place that a format writes to: so many bytes, or a text, or a pointer to a text of its own. */
+/* A place that a format writes to: `size` bytes, or a text, or a pointer to a new text. */
 struct target {
     char *at;
     size_t size;
@@ -91,14 +91,14 @@ static size_t number_size(char kind, int longs, int shorts, int is_wide) {
     return shorts > 1 ? 1 : shorts ? 2 : 4;
 }
 
-/* Behind the set of a conversion, such as `[^]x]`; NULL where it has no end. */
+/* The place after the set of a conversion, such as `[^]x]`; NULL if the set has no end. */
 static const char *behind_set(const char *f) {
     f += f[0] == '^';
     f = *f ? __real_strchr(f + 1, ']') : NULL;
     return f ? f + 1 : NULL;
 }
 
-/* Reads one conversion, behind its `%`; the place behind it, or NULL where it is not known. */
+/* Reads one conversion, after its `%`. Returns the place after it, or NULL if it is not known. */
 static const char *read_target(const char *f, va_list *words, struct targets *to) {
     struct target t = {NULL, 0, 0, 0, 1, 0};
     int longs = 0, shorts = 0, is_wide = 0, is_left_out = *f == '*';
@@ -123,7 +123,7 @@ static const char *read_target(const char *f, va_list *words, struct targets *to
     return f;
 }
 
-/* Where a format writes to; behind what is not known nowhere. */
+/* The places that a format writes to; none after an unknown conversion. */
 static void find_targets(struct targets *to, const char *f, va_list given) {
     va_list words;
     to->count = 0;
@@ -148,7 +148,7 @@ static void wrote_target(const struct target *t, int is_there, u64 pc) {
     wrote(at, !at ? 0 : t->is_text ? text_size(at, t->letter_size) : t->size, pc);
 }
 
-/* After a call that found so many. A count is written if all before it were found. */
+/* After a call that found `found_count`. A count is written if all before it were found. */
 static void wrote_targets(const struct targets *all, int found_count, u64 pc) {
     int left = found_count < 0 ? 0 : found_count;
     for (u32 k = 0; k < all->count && !IDLE; k++) {

@@ -122,7 +122,7 @@ static void goes_on_from_iteration(struct doacross *d, const u64 *at, u64 pc) {
 
 static int is_known_loop(void) { return !IDLE && my_loop && my_loop->came; }
 
-/* The library is told of each source, since a loop may go on when the recording has ended. */
+/* The library gets each source, since a loop may go on when the recording has ended. */
 #define COMES_TO(name) \
     void name(u64 *at) { \
         REAL(name, void, u64 *); \

@@ -12,7 +12,7 @@
 
 /* The most loops in one another of one such loop, and the most iterations, of which a bit each says that they came. */
 #define MOST_DIMENSIONS 16
-/* `share` is the meeting of the team that shares the loop out, and `number` stands for the loop in a trace. */
+/* `share` is the meeting of the team that shares the loop out, and `number` is the loop's number in a trace. */
 struct doacross {
     u64 share, number;
     u32 dimensions;

@@ -13,7 +13,7 @@
 /* The part that all streams share lies where the table of the stream's class says. */
 static char *shared_of_stream(void *stream) { return (char *)stream + (*(long **)stream)[-3]; }
 
-/* The table of the class of the standard streams' buffers, which begins behind two words. */
+/* The table of the class of the standard streams' buffers, which begins after two words. */
 extern char *of_standard[] __asm__("_ZTVN9__gnu_cxx18stdio_sync_filebufIcSt11char_traitsIcEEE") __attribute__((weak));
 
 /* The buffer of a stream; NULL for the standard streams. */
@@ -27,7 +27,7 @@ static void **next_of_stream(void *stream) {
     return buffer ? (void **)(buffer + NEXT_IN_BUFFER) : NULL;
 }
 
-/* `given` and `passed_on` are what is written; `reads` tells of it. */
+/* `given` and `passed_on` are what is written; `reads` records what is read for it. */
 #define INTO_STREAM(name, given, passed_on, reads) \
     WEAKLY void *__real_##name(void *stream given); \
     void *__wrap_##name(void *stream given) { \

@@ -84,7 +84,7 @@ BEGINS_48(void, lcong48, (unsigned short n[7]), (n))
 KEYS(int, hcreate, (size_t n), (n), WRITES)
 KEYS(void, hdestroy, (void), (), WRITES)
 
-/* An entry is made if there is none. */
+/* Makes an entry if there was no such entry. */
 ENTRY *hsearch(ENTRY entry, ACTION what) {
     REAL(hsearch, ENTRY *, ENTRY, ACTION);
     READS(entry.key, TEXT_AT(entry.key)), READS(&table_of_keys, 1);

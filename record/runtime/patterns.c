@@ -11,7 +11,7 @@
 #include <pwd.h>
 #include <regex.h>
 
-/* ---- regular expressions. Other libraries have functions of these names too, with patterns of another size. ---- */
+/* ---- regular expressions. Other libraries have functions with the same names, with patterns of another size. ---- */
 
 static int is_seen(const void *real, u64 from) {
     return !IDLE && (u64)real - c_library.start < c_library.size && is_of_program(from);

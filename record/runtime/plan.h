@@ -38,7 +38,7 @@ struct frame {
 };
 #define MOST_FRAMES 64
 #define MOST_TOLD 64
-/* A thread that stands before its access. */
+/* A thread right before its access. */
 struct standing {
     u64 thread, pos, at, size, kind, pc, kernel_id, value[2], value_there, after[2], after_there, frames;
     struct frame frame[MOST_FRAMES];
@@ -49,7 +49,7 @@ struct use {
     u64 kind, thread, size, freed_by, pc, freed_at;
 };
 struct plan {
-    /* what record/follow says; the thread that did the last access goes on for so many accesses (`alone`) */
+    /* what record/follow says; the thread that did the last access goes on for `alone` accesses */
     u64 magic, threads, steps, forks, ticks, frees, held_back, alone, patience_ms;
     u64 threads_at, forks_at, steps_at, ticks_at, needs_at, first_at, modules_at, modules;
     /* what comes back */

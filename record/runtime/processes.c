@@ -67,7 +67,7 @@ static void put_words(char **to, const char *first, va_list words) {
     while (*to) *++to = va_arg(words, char *);
 }
 
-/* The words of a call that has them as its own arguments, as an array. */
+/* The arguments of a call that has them one by one, as an array. */
 #define LISTED(name, after, call) \
     int __wrap_##name(const char *path, const char *first, ...) { \
         va_list words; \

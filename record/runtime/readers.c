@@ -1,4 +1,4 @@
-/* Reader-writer locks. Each reader holds a lock of its own, and a writer holds all of them. Interposes
+/* Reader-writer locks. Each reader holds another lock, and a writer holds those of all readers. Interposes
  * pthread_rwlock_* that take and release. Must not call a lock function that waits, as in locks.c. */
 #define OF_READERS
 #include "readers.h"

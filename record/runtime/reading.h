@@ -3,8 +3,8 @@
 #pragma once
 #include "format.h"
 
-/* `place` is the number of the first word of the record that was read last. If a word is none that the recorder writes,
- * `is_faulty` is set, and that is the end. */
+/* `place` is the number of the first word of the record that was read last. A word that the recorder does not write
+ * sets `is_faulty`, and that is the end. */
 struct reader {
     const u64 *words;
     u64 next, end, place, tick;
@@ -70,7 +70,7 @@ static inline const struct record *read_other(struct reader *r, u64 word) {
     }
 }
 
-/* The next record, also one that did not happen, whose kind is VOID; NULL if there is none. */
+/* The next record, also one that did not happen, whose kind is VOID; NULL at the end. */
 static inline const struct record *read_record(struct reader *r) {
     while (r->next < r->end && !r->is_faulty) {
         r->place = r->next++;

@@ -133,7 +133,7 @@ static long raw_syscall(long number, ...) {
 }
 #define syscall raw_syscall
 
-/* Headers say of some pointers that they are never NULL, and the compiler drops a test of them. It keeps this one. */
+/* Headers say that some pointers are never NULL, and the compiler drops a test for that. It keeps this one. */
 static inline int is_there(const volatile void *p) {
     __asm__("" : "+r"(p));
     return p != NULL;

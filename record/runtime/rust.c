@@ -1,5 +1,5 @@
-/* The locks and condition variables of Rust's standard library. record/rustlang/library.py puts calls of these
- * functions at the start of the library's own. If nothing is recorded they do nothing, and the library's function goes
+/* The locks and condition variables of Rust's standard library. record/rustlang/library.py puts calls of the functions
+ * below at the start of the library's own. If nothing is recorded they do nothing, and the library's function goes
  * on. Interposes nothing of C. Must not wait in a lock of the library, as in locks.c. */
 #include "accesses.h"
 #include "atomics.h"
@@ -63,7 +63,7 @@ int racebench_rust_unlock(u32 *word) {
 
 /* ---- Condvar: as pthread_cond_t, with a word for its name ---- */
 
-/* Waits so many nanoseconds, or without end if they are negative. REFUSED if the time is over. */
+/* Waits this many nanoseconds, or without end if they are negative. REFUSED if the time is over. */
 int racebench_rust_wait(u32 *word, u32 *mutex, int64_t nanoseconds) {
     if (IDLE) return NOT_RECORDED;
     u64 pc = LOCK_PC;
@@ -135,7 +135,7 @@ static int tried_state(int kind, u32 *state, u64 pc) {
 int racebench_rust_try_read(u32 *state) { return IDLE ? NOT_RECORDED : tried_state(READER_IN, state, LOCK_PC); }
 int racebench_rust_try_write(u32 *state) { return IDLE ? NOT_RECORDED : tried_state(WRITER, state, LOCK_PC); }
 
-/* The word becomes that of so many readers fewer, or of no writer; who waits looks again. */
+/* The word becomes that of `fewer` readers less, or of no writer; who waits looks again. */
 static void free_state(u32 *state, u32 fewer) {
     u32 s = __atomic_sub_fetch(state, fewer, SC);
     if (s & ~RUST_COUNT) {

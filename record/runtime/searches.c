@@ -84,7 +84,7 @@ char *__wrap_stpncpy(char *to, const char *from, size_t n) {
     return __real_stpncpy(to, from, n);
 }
 
-/* Without an end where the text is as long as the room. */
+/* Reads no end if the text is as long as the room. */
 size_t __wrap_strlcpy(char *to, const char *from, size_t room) {
     READS_TEXT(from);
     size_t n = __real_strlen(from);

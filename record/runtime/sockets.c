@@ -31,7 +31,7 @@ struct listener {
 };
 static struct listener *listeners;
 
-/* What tells two ends of a family apart: IPv4 and IPv6 alike. */
+/* What differs between two ends of a family: IPv4 and IPv6 alike. */
 static int address_of(const struct sockaddr_storage *a, struct address *to) {
     const struct sockaddr_in *four = (const void *)a;
     const struct sockaddr_in6 *six = (const void *)a;

@@ -32,7 +32,7 @@ static void sent_stream(FILE *s) {
     errno = error;
 }
 
-/* Whether a call will find what it looks for in the stream's buffer: so many bytes, or this letter before. */
+/* Whether a call will find what it looks for in the stream's buffer: `bytes` bytes, or this letter before. */
 static int is_in_buffer(const FILE *s, size_t bytes, int end) {
     const char *at = s->_IO_read_ptr;
     size_t there = at < s->_IO_read_end ? (size_t)(s->_IO_read_end - at) : 0;
@@ -58,7 +58,7 @@ WRITES_STREAM(fputc, to, (int c, FILE *to), (c, to))
 WRITES_STREAM(putc, to, (int c, FILE *to), (c, to))
 WRITES_STREAM(putchar, stdout, (int c), (c))
 
-/* The streams that fdopen made of channels, and those of memory: where the program has the text and its size. */
+/* The streams that fdopen made of channels, and those of memory: the address of the program's text and of its size. */
 struct stream {
     FILE *is;
     struct stream *next;
@@ -67,7 +67,7 @@ struct stream {
 };
 static struct stream *streams;
 
-/* Where a stream is in the list; NULL finds the place of one that was closed. */
+/* The place of a stream in the list; NULL finds the place of one that was closed. */
 static struct stream *place_of(const FILE *stream) {
     struct stream *s = streams;
     while (s && s->is != stream) s = s->next;
@@ -123,7 +123,7 @@ static void sent_all_streams(void) {
     for (struct stream *s = streams; s; s = s->next) sent_stream(s->is);
 }
 
-/* Without a stream it writes all of them out. */
+/* Without a stream it writes all streams out. */
 int fflush(FILE *to) {
     REAL(fflush, int, FILE *);
     to ? sends_stream(to, PC) : IDLE ? (void)0 : sends_all_streams(PC);

@@ -54,8 +54,8 @@ static __thread struct group *my_groups;
 
 /* The first tasks are left to other threads of the team for a moment: else their maker may do all. */
 #define LEFT_TO_OTHERS 1000
-/* A thread that has a task waits so long for idle threads to begin the ready ones, and so often in vain: one thread that
- * does all would hide what races. Threads that are not idle may get so many turns first. */
+/* A thread that has a task waits this long for idle threads to begin the ready ones, and this often in vain: one thread
+ * that does all would hide what races. Threads that are not idle may get this many turns first. */
 #define MOMENTS 1000
 #define TURNS_OF_OTHERS 8
 #define MOST_IN_VAIN 20
@@ -172,7 +172,7 @@ static void in_task(void *p) {
 }
 
 /* A task's depend clauses, in the two forms that the library has: those that write, the others, and in the second form
- * places where an address is with its kind. */
+ * places at which an address is with its kind. */
 static void read_depends(struct task *t, void **depend) {
     u64 first = (u64)depend[0], count = first ? first : (u64)depend[1], from = first ? 2 : 5;
     u64 writes = (u64)depend[first ? 1 : 2] + (first ? 0 : (u64)depend[3]);
@@ -210,7 +210,7 @@ static struct task new_task(void (*body)(void *), void *data, void (*copy)(void 
                          .group = my_group};
 }
 
-/* So many tasks of this thread wait for a thread of the team. */
+/* `count` tasks of this thread wait for a thread of the team. */
 static void make_ready(struct task *t, u64 count) {
     t->is_counted = t->region != NULL;
     if (t->region) __atomic_fetch_add(&t->region->ready, (u32)count, SC);
@@ -246,7 +246,7 @@ void GOMP_task(void (*body)(void *), void *data, void (*copy)(void *, void *), l
     if (deferred && t.number < LEFT_TO_OTHERS) let_others();
 }
 
-/* Tasks that share out a loop: all are made by one call, which waits for them as for a group of its own, unless the
+/* Tasks that share out a loop: all are made by one call, which waits for them as for a separate group, unless the
  * program says `nogroup`. */
 #define TASKLOOP(name, T) \
     void name(void (*body)(void *), void *data, void (*copy)(void *, void *), long size, long align, unsigned flags, \

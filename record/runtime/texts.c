@@ -27,7 +27,7 @@ static size_t compared(const char *a, const char *b, size_t most, int folds) {
     return n < most ? n + 1 : most;
 }
 
-/* How many bytes of a text are read, of which at most so many are looked at. */
+/* How many bytes of a text are read, of which at most `most` are looked at. */
 static size_t read_of(const char *s, size_t most) {
     size_t n = __real_strnlen(s, most);
     return n < most ? n + 1 : most;
@@ -109,7 +109,7 @@ char *__wrap_strncat(char *to, const char *from, size_t n) {
     return __real_strncat(to, from, n);
 }
 
-/* A text of its own, of so many bytes and an end. */
+/* A new text, of `n` bytes and an end. */
 static char *text_of(const char *s, size_t n, u64 pc) {
     char *made = got(__libc_malloc(n + 1), n + 1, pc);
     if (!made) return NULL;
@@ -146,7 +146,7 @@ void __wrap_qsort_r(void *first, size_t count, size_t size, compares_with *compa
 }
 
 /* Searches call back into the program, which reads what it compares. A tree is in memory of the C library: where it
- * begins stands for all of it, and a search that may add to it turns it too. */
+ * begins represents all of it, and a search that may add to it turns it too. */
 typedef int compares(const void *, const void *);
 extern void *__real_bsearch(const void *, const void *, size_t, size_t, compares *);
 void *__wrap_bsearch(const void *key, const void *first, size_t count, size_t size, compares *compare) {
@@ -215,7 +215,7 @@ static void read_text(const char *s, long most, u64 pc) {
     if (s) access_(READ, s, most < 0 ? __real_strlen(s) + 1 : read_of(s, (size_t)most), pc);
 }
 
-/* The texts that a format reads; behind what is not known none. */
+/* The texts that a format reads; none after an unknown conversion. */
 static void read_texts(const char *f, va_list given, u64 pc) {
     va_list words;
     struct part p = {.is_known = 1};

@@ -42,7 +42,7 @@ static u32 number_of(pthread_t id) {
     return NOBODY;
 }
 
-/* The place of the thread's variables of its own, which are below it. */
+/* The thread pointer; the thread's own variables are below it. */
 static u64 thread_pointer(void) {
 #if defined __x86_64__
     u64 pointer;
@@ -89,8 +89,8 @@ static void stranger(void) {
     watch();
 }
 
-/* A thread ends with robust mutexes: it lets go of them, and the kernel tells the next owner. `entry` is in the list of
- * the kernel, so far behind the word of the mutex as the list says. */
+/* A thread ends with robust mutexes: it releases them, and the kernel notifies the next owner. `entry` is in the list
+ * of the kernel, as far after the word of the mutex as the list says. */
 #define MOST_ROBUST 64
 static void leave_robust_mutexes(void) {
     struct robust_list_head *held = NULL;
@@ -105,8 +105,8 @@ static void leave_robust_mutexes(void) {
     }
 }
 
-/* Destructors of other keys may run code of the program: the last turn ends in the last round of them. No handler comes
- * in it or later. */
+/* Destructors of other keys may run code of the program: the last turn ends in the last round of destructors. No
+ * handler comes in it or later. */
 static void end_of_thread(void *round) {
     u64 k = (u64)round;
     if (k < PTHREAD_DESTRUCTOR_ITERATIONS && pthread_setspecific(last_turn, (void *)(k + 1)) == 0) return;
@@ -226,7 +226,7 @@ static int joined_with(int answer, u32 number, void **value, u64 pc) {
     return answer;
 }
 
-/* Where a plan is followed, the thread that is waited for goes on by the joiner's leave. */
+/* In a followed run the thread that is waited for goes on by the joiner's leave. */
 static void wait_for_end(u32 number) {
     if (following && !gone[number]) {
         lend_to(number);

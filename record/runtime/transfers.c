@@ -69,7 +69,7 @@ AT_PLACES(64, off64_t)
 BY_FLAGS(2, off_t)
 BY_FLAGS(64v2, off64_t)
 
-/* How many bytes so many messages have. */
+/* How many bytes `n` messages have. */
 static ssize_t bytes_in(const struct mmsghdr *all, int n) {
     size_t bytes = 0;
     for (int k = 0; k < n; k++) bytes += all[k].msg_len;

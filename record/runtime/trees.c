@@ -61,7 +61,7 @@ static void link_leaf(int right, struct tree_node *mine, struct tree_node *paren
     else if (link_read(&head->side[right], pc) == parent) link_set(&head->side[right], mine, pc);
 }
 
-/* One step behind an insert, where `n` and its parent are red; the node to go on with. */
+/* One step after an insert, at which `n` and its parent are red; the node to go on with. */
 static struct tree_node *mend_reds(struct tree_node *n, struct tree_node *head, u64 pc) {
     struct tree_node *parent = n->parent, *above = link_read(&parent->parent, pc);
     int side = link_read(&above->side[0], pc) != parent;
@@ -96,7 +96,7 @@ static struct tree_node *farthest(struct tree_node *n, int side, u64 pc) {
     return n;
 }
 
-/* Where a node is taken out: what takes its place or that of the node behind it, and the parent of that. */
+/* The gap of a node that is taken out: what takes its place or that of the node after it, and the parent of that. */
 struct gap {
     struct tree_node *filled_by, *below;
 };
@@ -112,7 +112,7 @@ static struct gap take_out(struct tree_node *mine, struct tree_node *child, stru
     return gap;
 }
 
-/* Takes out a node with two children: the node behind it takes its place and its color. */
+/* Takes out a node with two children: the node after it takes its place and its color. */
 static struct gap replace(struct tree_node *mine, struct tree_node *head, u64 pc) {
     struct tree_node *left = mine->side[0], *right = mine->side[1], *other = farthest(right, 0, pc);
     struct gap gap = {link_read(&other->side[1], pc), other};
@@ -177,7 +177,7 @@ static struct tree_node *link_at(struct tree_node **at, u64 pc) {
     return *at;
 }
 
-/* The node that is next to this side: the nearest of those below, or the first above that has `n` on its other side. */
+/* The node that is next to this side: the nearest one below, or the first above that has `n` on its other side. */
 static struct tree_node *neighbor(struct tree_node *n, int side, u64 pc) {
     struct tree_node *below = link_at(&n->side[side], pc), *above;
     if (below) {

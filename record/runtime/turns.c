@@ -27,7 +27,7 @@ static u64 left_of_turn = 1;
 /* The holder waits, but not for long: for the end of a thread that has had its last turn, or for a team of OpenMP that
  * is made or ended. */
 static volatile u8 short_wait;
-/* Parked threads look whether what they wait for came from outside: nothing is drawn meanwhile. */
+/* Parked threads look whether what they wait for came from outside: nothing is drawn during that. */
 static u8 rescuing;
 
 /* Signals of this thread that came in the midst of its work on turns; it blocks them until they may come. */
@@ -77,7 +77,7 @@ static u32 draw(u32 below) {
     return (u32)((chance * 2685821657736338717ull) >> 33) % below;
 }
 
-/* The turns' lock is held. What is to be seen of this turn stands before the thread is woken. */
+/* The turns' lock is held. All results of this turn are written before the thread is woken. */
 static void hand_to(u32 thread) {
     left_of_turn = 0;
     __atomic_store_n(&holder, thread, __ATOMIC_SEQ_CST);
@@ -214,7 +214,7 @@ static void give_and_take(void) {
     end_turns(b);
 }
 
-/* For a thread that can't go on yet: it looks again after others ran, or after a moment where no other waits. */
+/* For a thread that can't go on yet: it looks again after others ran, or after a moment if no other waits. */
 static void let_others(void) {
     int error = errno;
     if (following && waits_in_plan()) return;

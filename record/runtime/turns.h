@@ -8,7 +8,7 @@
 #endif
 
 /* What `inside` has while a thread passes the turn on or waits for it, and while it has the turns' lock. A signal that
- * comes meanwhile is handled when the thread waits or is done: signals.c. */
+ * comes then is handled when the thread waits or is done: signals.c. */
 #define IN_TURNS 2
 #define HAS_LOCK 4
 /* What a thread has again after its work on turns. */
@@ -16,10 +16,10 @@ struct before {
     int error;
     u8 inside, holds_cancel;
 };
-/* For so many looks of the watcher parked threads look again: a handler that came while its thread was in the recorder
- * may have posted what they wait for, or the kernel let go of a mutex. */
+/* After this many looks of the watcher parked threads look again: a handler that came while its thread was in the
+ * recorder may have posted what they wait for, or the kernel let go of a mutex. */
 #define LOOKS_AGAIN 3
-/* Where nothing happened for so many looks of 20 ms, and threads are parked, these look again: what they wait for
+/* If nothing happened for this many looks of 20 ms, and threads are parked, these look again: what they wait for
  * may have come from a library or from another process. */
 #define LOOKS_BEFORE_RESCUE 5
 

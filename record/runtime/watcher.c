@@ -41,7 +41,7 @@ static void look(u64 looks, int asleep, int runs_long) {
 #define UNSHARE 2
 
 /* The looker opens files of the system, and the program's next descriptor must not depend on when it does: from Linux
- * 5.9 on it has descriptors of its own, none at first. */
+ * 5.9 on it has a separate table of descriptors, empty at first. */
 static void leave_descriptors(void) { syscall(SYS_close_range, 0, 0xffffffffl, UNSHARE); }
 
 /* It ends with the program's threads. */

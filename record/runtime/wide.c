@@ -132,7 +132,7 @@ int __wrap_swprintf(wchar_t *to, size_t n, const wchar_t *format, ...) {
 /* ---- one letter, or a text, of the one kind that becomes one of the other. What was read of a text is known when it
  * has been converted; what is kept of a letter that is not yet whole is written where it changed. ---- */
 
-/* What is kept between calls: that of the caller, or nothing, where it is the C library's. */
+/* What is kept between calls: that of the caller, or nothing if it is the C library's. */
 struct kept {
     mbstate_t *at, before;
     u64 pc;
@@ -146,7 +146,7 @@ static struct kept keep(mbstate_t *state, u64 pc) {
 static void kept(const struct kept *k) {
     if (k->at && __real_memcmp(k->at, &k->before, sizeof k->before)) wrote(k->at, sizeof *k->at, k->pc);
 }
-/* The bytes of a letter of which a call says that it has so many; one that is an end has one. */
+/* The bytes of a letter, by the answer of a call that gives their number; one that is an end has one. */
 static size_t bytes_of(size_t answer, size_t most) { return answer <= most ? answer ? answer : 1 : 0; }
 
 WEAKLY int __real_mbtowc(wchar_t *, const char *, size_t), __real_wctomb(char *, wchar_t);
@@ -179,7 +179,7 @@ size_t __wrap_wcrtomb(char *to, wchar_t letter, mbstate_t *state) {
     return answer;
 }
 
-/* The place of the text goes on where something is written, and is none at the text's end. */
+/* The place of the text goes on when something is written, and is NULL at the text's end. */
 #define CONVERTS_TEXT(name, to_type, from_type, size_of) \
     WEAKLY size_t __real_##name(to_type *, const from_type **, size_t, mbstate_t *); \
     size_t __wrap_##name(to_type *to, const from_type **from, size_t n, mbstate_t *state) { \
@@ -199,7 +199,7 @@ size_t __wrap_wcrtomb(char *to, wchar_t letter, mbstate_t *state) {
 CONVERTS_TEXT(mbsrtowcs, wchar_t, char, TEXT_SIZE)
 CONVERTS_TEXT(wcsrtombs, char, wchar_t, WIDE_SIZE)
 
-/* Numbers of wide letters: each looks at the letter behind. */
+/* Numbers of wide letters: each looks at the letter after the number. */
 #define CONVERTS_WIDE(type, name, given, base) \
     WEAKLY type __real_##name(const wchar_t *, wchar_t **given); \
     type __wrap_##name(const wchar_t *s, wchar_t **end given) { \

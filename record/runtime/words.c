@@ -1,11 +1,11 @@
-/* The words of the raw file: most records are one word, an address and the slot of the record's form. Interposes
- * nothing. Runs in the turn of its thread. But a turn may be taken by force, and a signal's handler may come between any
- * two lines: so words are taken by compare and exchange. Must not rely on what it read before it took them. */
+/* The machine words of the raw file: most are a record: an address and the slot of the record's form. Interposes
+ * nothing. Runs in the turn of its thread. But a turn may be taken by force, and a signal's handler may come between
+ * any two lines: so words are taken by compare and exchange. Must not rely on what it read before it took them. */
 #define OF_WORDS
 #include "words.h"
 
-/* The words, in a file that is mapped, so it is whole however the program ends; and how many the disk has room for: a
- * mapped page that the disk has no room for ends the program. */
+/* The machine words, in a file that is mapped, so it is whole however the program ends; and how many the disk has room
+ * for: a mapped page that the disk has no room for ends the program. */
 static u64 *words;
 static u64 words_there;
 static int raw_file = -1;
@@ -49,7 +49,7 @@ static void forget_words(void) {
     madvise((void *)start, end / round * round - start, MADV_DONTNEED);
 }
 
-/* Whether a tenth of the file system is free. So many words, 200 MB, may take what there is. */
+/* Whether a tenth of the file system is free. The first FIRST_WORDS words, 200 MB, may take what there is. */
 #define FIRST_WORDS (100 * PIECE)
 static int leaves_a_tenth(void) {
     struct statfs about;
@@ -70,7 +70,7 @@ static __attribute__((noinline)) int more_words(u64 end) {
 
 static inline int has_words(u64 at, u64 count) { return at + count <= words_there || more_words(at + count); }
 
-/* Takes so many words, if the next one is still that one. */
+/* Takes `count` words, if the next one is still number `at`. */
 static inline int take_words(u64 at, u64 count) {
     return __atomic_compare_exchange_n(&head->used, &at, at + count, 0, __ATOMIC_ACQ_REL, __ATOMIC_RELAXED);
 }
@@ -113,8 +113,8 @@ static inline u32 way_of(const struct form *first, struct form f) {
     return k;
 }
 
-/* Writes a record and its form. A slot has its form before the words have it: who sees it in between sees that forms
- * are in work, or does not get the words. */
+/* Writes a record and its form. A slot has its form before the record is in the file: who sees it in between sees that
+ * forms are in work, or does not get the record. */
 static __attribute__((noinline)) u64 put_form(const struct record *r, struct form f, u64 first) {
     static u32 pushed_out;
     if (__atomic_exchange_n(&are_forms_in_work, 1, __ATOMIC_ACQ_REL)) return put_long(r, 0);

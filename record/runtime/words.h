@@ -7,7 +7,7 @@
 #define SHARED OTHERS
 #endif
 
-/* So many words get room on the disk at once. */
+/* How many words get room on the disk at once. */
 #define PIECE (1 << 18)
 
 SHARED u64 *words;

@@ -1,6 +1,6 @@
-/* Calls that wait for the world: others run meanwhile. What the world answered is a tick: a followed run waits for it,
- * or gets it again. Interposes nanosleep, wait, poll, select, epoll_wait, accept, sched_yield and their kin. Must not
- * wait with the token. */
+/* Calls that wait for the world: others run during the wait. What the world answered is a tick: a followed run waits
+ * for it, or gets it again. Interposes nanosleep, wait, poll, select, epoll_wait, accept, sched_yield and their kin.
+ * Must not wait with the token. */
 #include "world.h"
 #include "accesses.h"
 #include "callers.h"
@@ -59,7 +59,7 @@ int sched_yield(void) {
 
 void thrd_yield(void) { sched_yield(); }
 
-/* ---- calls that ask for some of many descriptors: they read what they are asked for, and write what is there ---- */
+/* ---- calls that wait for some of many descriptors: they read the wanted events, and write what is there ---- */
 
 /* A call says that something is there to be received: it comes after who sent it. */
 static void found_there(int f, int is_there, u64 pc) {

@@ -106,7 +106,7 @@ def has_sources(rust: Rust) -> bool:
 
 
 def version_of_sources(rust: Rust) -> str:
-    """The version that a distribution notes beside the sources; empty if there is none."""
+    """The version that a distribution notes beside the sources; empty without such a note."""
     try:
         with open(os.path.join(os.path.dirname(rust.sources), "src", "version"), encoding="utf-8") as file:
             return file.read().strip()

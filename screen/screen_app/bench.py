@@ -15,7 +15,7 @@ from .session import Session
 from .sheet import Sheet
 from .trace import Trace
 
-# How many sheets are kept. Each holds four bytes for each event of the trace, and more for each of its own.
+# How many sheets are kept. Each holds four bytes for each event of the trace, and more for each of the sheet's events.
 SHEETS = 8
 # The answer to a call that was accepted begins with its entry.
 ACCEPTED = re.compile(r"(\d+): ")
@@ -35,7 +35,7 @@ class Bench:
         self.questions = False  # whether the program answers lines that begin with `?`
 
     async def open(self) -> None:
-        """Starts the session. What its program can answer is asked once."""
+        """Starts the session, and finds out once which questions its program can answer."""
         names, rows = await self.session.ask("list", "? rows")
         self.questions = rows.startswith("rows ")
 
@@ -62,7 +62,7 @@ class Bench:
 
     def _sheet(self, key: tuple[object, ...], events: array[int]) -> Sheet:
         sheet = self.sheets.pop(key, None) or Sheet(self.trace)
-        self.sheets[key] = sheet  # the last one used stands last
+        self.sheets[key] = sheet  # the last one used is last
         if len(self.sheets) > SHEETS:
             self.layouts.pop(self.sheets.pop(next(iter(self.sheets))), None)
         sheet.become(events)

@@ -109,7 +109,7 @@ def listen_to_terminal(server: Server) -> None:
     loop = asyncio.get_running_loop()
 
     def end() -> None:
-        if not server.stopping.is_set():  # the terminal comes back, whatever has not ended by then
+        if not server.stopping.is_set():  # the terminal comes back, even if something has not ended by then
             loop.call_later(ENDING / 2, tell_tasks)
             faulthandler.dump_traceback_later(ENDING, exit=True)
         server.stopping.set()
@@ -128,13 +128,13 @@ def listen_to_terminal(server: Server) -> None:
 
 
 def tell_tasks() -> None:
-    """Tells what has not ended yet: the threads alone do not say what is waited for."""
+    """Prints the tasks that have not ended yet: the threads alone do not show what they wait for."""
     for task in asyncio.all_tasks():
         task.print_stack(file=sys.stderr)
 
 
 def tell_faults(loop: asyncio.AbstractEventLoop, context: dict[str, Any]) -> None:
-    """A pipe to a session that was killed breaks, and the page says that it ended; all else is told as ever."""
+    """A pipe to a session that was killed breaks, and the page shows that it ended; all else is handled as usual."""
     if not isinstance(context.get("exception"), (BrokenPipeError, ConnectionResetError)):
         loop.default_exception_handler(context)
 
@@ -145,7 +145,7 @@ async def run(given: argparse.Namespace, readers: Readers) -> None:
     bench = Bench(given.program, trace, given.log, given.client)
     bench.decided = decided(given)
     server = server_of(bench, given)
-    reading = asyncio.ensure_future(server.read_trace(readers))  # meanwhile the program reads it too
+    reading = asyncio.ensure_future(server.read_trace(readers))  # the program reads it at the same time
     try:
         await bench.open()
         await server.start(given.port)

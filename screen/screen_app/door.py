@@ -1,4 +1,4 @@
-"""Connections: how many there may be, how long one may ask for nothing, and what one is told that asks amiss.
+"""Connections: how many there may be, how long one may be silent, and what the answer to a wrong request is.
 
 Whoever is on this machine can open connections, and each takes a number of a file. Without numbers no session starts.
 """

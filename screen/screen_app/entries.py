@@ -1,4 +1,4 @@
-"""Entries of the log, and how they are told to the browser."""
+"""Entries of the log, and the messages about them to the browser."""
 
 from . import messages
 from .trace import Trace

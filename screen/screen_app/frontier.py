@@ -11,7 +11,7 @@ from .messages import Next as ToldNext
 from .session import Gone
 from .sheet import Sheet
 
-# How often a schedule is asked for again that others change meanwhile.
+# How often a schedule is requested again if others change it before the answer.
 TRIES = 6
 # The refusal of a batch whose first command could be made: its last makes a schedule that is there.
 COULD = "refused 70 at 1 43"
@@ -90,7 +90,7 @@ def item_of(bench: Bench, word: str) -> Next:
 
 
 def cause_words(bench: Bench, code: str, *about: str) -> str:
-    """The words of a cause, as a refusal has them."""
+    """The text of a cause, as a refusal has it."""
     if code == WRONG_WRITER:
         return f"wrong writer needs {about[0]} has {about[1]}"
     if code == LOCK_HELD:

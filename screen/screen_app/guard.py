@@ -2,7 +2,7 @@
 
 Any page that the analyst's browser shows can send requests to a port of this machine, and any name can be made to
 point at it. So a request needs the right Host, what changes something needs the right Origin, and the socket needs
-a key. The key is given once for each ticket, and a ticket stands behind `#` of a link, which is in no request.
+a key. The key is given once for each ticket, and a ticket comes after the `#` of a link, which no request contains.
 """
 
 import hmac

@@ -180,7 +180,7 @@ def ending(line: bytes) -> tuple[tuple[int, int], Told] | None:
 
 
 def readable(text: Any) -> str:
-    """A text without the signs that stand for bytes that are no UTF-8; the program writes them so too."""
+    """A text without the signs for bytes that are no UTF-8; the program writes them so too."""
     return str(text).encode("utf-8", "surrogateescape").decode("utf-8", "replace")
 
 

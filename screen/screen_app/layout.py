@@ -1,8 +1,8 @@
 """The rows that a sheet is drawn as, and windows of them.
 
-A long run is one row, a block; short runs stand event by event. So stand also runs that were opened, the last
-events of all, and the last event of each thread, so that it is seen where each thread stands. These runs are few:
-they are laid out anew at each change, and the sums of rows of all others are kept by the sheet.
+A long run is one row, a block; short runs are drawn event by event. So are runs that were opened, the last events of
+all, and the last event of each thread, so that you see where each thread is. These runs are few: they are laid out
+anew at each change, and the sheet keeps the sums of rows of all others.
 """
 
 from bisect import bisect_right
@@ -14,7 +14,7 @@ from .messages import Lock, Row, View
 from .sheet import SHORT, Sheet
 from .trace import NONE, OPERATIONS, READ, WRITE
 
-# How many events at the end always stand single.
+# How many events at the end are always drawn as single rows.
 TAIL = 6
 # More threads than this have no lane each: the last lane is that of all others.
 LANES = 9
@@ -42,7 +42,7 @@ class Layout:
         self.sheet = sheet
         self.runs = self._special()
         self.parts: list[list[Part]] = []  # of each special run
-        self.shifts: list[int] = []  # after each special run, how much lower rows stand than the sheet counts
+        self.shifts: list[int] = []  # after each special run, how much lower rows are than the sheet counts
         shift = 0
         for run in self.runs:
             parts = list(self._cut(run, sheet.run_row[run] + shift))

@@ -55,7 +55,7 @@ class Cause(TypedDict):
     """Why an event may not come next."""
 
     code: str  # the number of the program's cause; `aim` and `way` are the screen's own
-    said: str  # the words
+    said: str  # the text
     about: NotRequired[Event]  # what has to come first, or holds the lock
     has: NotRequired[Event | None]  # the write that the read would see
     left: NotRequired[int]  # how many events the joined thread has to come
@@ -112,7 +112,7 @@ View = TypedDict(
         "counts": NotRequired[list[list[int]]],  # a thread, and how many events of it are there
         "map": NotRequired[list[int]],  # threads, evenly over the rows
         "aimed": NotRequired[list[int]],  # rows of the aim
-        "row": NotRequired[int],  # the row of the position that was asked for
+        "row": NotRequired[int],  # the row of the requested position
         "source": NotRequired[dict[str, str]],  # lines by location
     },
 )
@@ -211,7 +211,7 @@ class Reach(TypedDict, total=False):
 class Witness(TypedDict):
     pair: list[int]
     accesses: list[Event]
-    none: NotRequired[str]  # why there is none
+    none: NotRequired[str]  # why there is no schedule
     length: NotRequired[int]
     source: NotRequired[dict[str, str]]
 

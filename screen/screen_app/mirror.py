@@ -18,7 +18,7 @@ from .trace import Trace
 HEAD = 81
 # How many bytes before the known end are looked at again: they tell the file from another one.
 TAIL = 80
-# How many of the latest proposals are told at once.
+# How many of the latest proposals one message has.
 PROPOSALS = 6
 
 

@@ -11,7 +11,7 @@ PORTION, KEPT = 200, 8
 
 
 class Count:
-    """What others did from an entry on: for each of them and each schedule, how often they did what."""
+    """What others did from an entry on: for each client and each schedule, how often they did what."""
 
     def __init__(self, first: int) -> None:
         self.upto = first
@@ -36,7 +36,7 @@ class News:
     async def since(self, first: int, entries: list[Entry]) -> list[NewsLine]:
         """Of the entries from the first on, the latest first."""
         count = self.counts.pop(first, None) or Count(first)
-        self.counts[first] = count  # the last one used stands last
+        self.counts[first] = count  # the last one used is last
         if len(self.counts) > KEPT:
             self.counts.pop(next(iter(self.counts)))
         while count.upto < len(entries):

@@ -16,7 +16,7 @@ SLOW, MOST = 60, 1_000
 class Outlet:
     """Sends what it is given, one after another, so nobody waits for a browser that takes nothing.
 
-    The order matters: a step's entry of the log is told before the step's answer, and the page acts on that.
+    The order matters: a step's entry of the log is sent before the step's answer, and the page acts on that.
     """
 
     def __init__(self, socket: web.WebSocketResponse, transport: asyncio.Transport | None) -> None:

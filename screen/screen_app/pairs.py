@@ -22,7 +22,7 @@ from .text import Told, clean
 LINES = 400
 # How many witnesses are kept; each has four bytes an event.
 WITNESSES = 16
-# How far the look for races is, is told so often, in seconds.
+# Seconds between two messages about the progress of the look for races.
 OFTEN = 0.5
 # What comes of a line that is no block of races.
 UNREAD = (ValueError, KeyError, TypeError, AttributeError, RecursionError)
@@ -46,7 +46,7 @@ class Pairs:
         return self.bench.questions and self.knows_witness
 
     async def witness(self, pair: tuple[int, int], asker: object) -> Witness:
-        """The list that shows the pair, kept for views of it; what is said of the pair where there is none."""
+        """The list that shows the pair, kept for views of it; without a list, the reason."""
         if pair[1] >= len(self.bench.trace):
             raise Mistake("no such event")
         told: Witness = {"pair": list(pair), "accesses": [self.bench.trace.told(event) for event in pair]}
@@ -142,7 +142,7 @@ class Races:
         def hear(progress: str) -> None:
             nonlocal due
             self.state["progress"] = progress
-            due = due or loop.call_later(OFTEN, tell)  # the last one is told too, though nothing comes after it
+            due = due or loop.call_later(OFTEN, tell)  # sends the last one too, though nothing comes after it
 
         confirmed = Confirmed(bench.trace.path).read()
         try:

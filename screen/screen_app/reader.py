@@ -15,7 +15,7 @@ WORDS = (b"r", b"w", b"acq", b"rel", b"fork", b"join")
 BLANKS = b" \t\r\n"
 # How many bytes are read before others get a turn.
 PORTION = 1 << 17
-# The kind of an operation stands in the lowest bits of its number, and the number of its name above them.
+# The kind of an operation is in the lowest bits of its number, and the number of its name above them.
 KINDS, KINDS_AT = 7, 3
 SKIPPED = -1
 
@@ -50,14 +50,14 @@ class New(Exception):
 
 
 class Known(dict[bytes, int]):
-    """Numbers of threads or operations as they stand in the text."""
+    """Numbers of threads or operations, by the bytes of the text."""
 
     def __missing__(self, field: bytes) -> int:
         raise New
 
 
 class Places(dict[bytes, int]):
-    """Numbers of last fields of lines that have two bars, as they stand in the text."""
+    """Numbers of last fields of lines that have two bars, by the bytes of the text."""
 
     def __init__(self, numbers: Numbers) -> None:
         super().__init__()
@@ -129,7 +129,7 @@ class Reader:
 
 
 def parsed(operation: bytes) -> tuple[int, bytes]:
-    """The kind of an operation and its name; SKIPPED where it is no event."""
+    """The kind of an operation and its name; SKIPPED if it is no event."""
     word, bracket, rest = operation.strip(BLANKS).partition(b"(")
     if not bracket or word.strip(BLANKS) not in WORDS:
         return SKIPPED, b""

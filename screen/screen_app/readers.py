@@ -29,7 +29,7 @@ def sections(path: str, number: int) -> list[tuple[int, int]]:
 
 
 def lines_before(file: BinaryIO, end: int) -> int:
-    """How many lines end before this place, which is where the file stands then."""
+    """How many lines end before this place. The file is at the place afterwards."""
     found = 0
     while (left := end - file.tell()) > 0 and (text := file.read(min(left, PORTION))):
         found += text.count(b"\n")
@@ -64,7 +64,7 @@ class Helper:
                 with open(into, "wb") as file:
                     marshal.dump(tuple(section_of(path, start, end)), file)
             finally:
-                os._exit(0)  # whatever went wrong: then the answer is not whole
+                os._exit(0)  # after any failure: then the answer is not whole
         os.close(into)
 
     def answer(self) -> Any:
@@ -114,7 +114,7 @@ class Readers:
             self.helpers.append(Helper(path, *section))
 
     async def parts(self) -> list[Part]:
-        """The sections in their order; none where one process has to read all."""
+        """The sections in their order; empty if one process has to read all."""
         loop = asyncio.get_running_loop()
         answers = [loop.run_in_executor(None, helper.answer) for helper in self.helpers]
         try:

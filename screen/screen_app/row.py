@@ -6,7 +6,7 @@ from array import array
 from bisect import bisect_left
 from collections import deque
 
-# How many of the latest changes of a schedule are kept; a batch that adds events is one of them.
+# How many of the latest changes of a schedule are kept; a batch that adds events is one change.
 CHANGES = 4096
 
 
@@ -22,7 +22,7 @@ class Change:
 class Row:
     """A schedule. `since` has for each position the entry that put its event there.
 
-    While the log is followed, `touches` are the entries that changed it, and `changes` what the latest of them did.
+    While the log is followed, `touches` are the entries that changed it, and `changes` what the latest entries did.
     """
 
     __slots__ = ("birth", "owner", "events", "since", "version", "by", "touched", "touches", "changes")

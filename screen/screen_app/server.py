@@ -26,9 +26,9 @@ from .text import clean
 from .trace import CONNECTED
 
 STATIC = os.path.join(os.path.dirname(os.path.dirname(os.path.abspath(__file__))), "static")
-# The page's files, and what a browser is told of each.
+# The page's files, and the content type of each.
 TYPES = {".html": "text/html", ".js": "text/javascript", ".css": "text/css", ".svg": "image/svg+xml"}
-# So long the first page is left alone after its first request, in seconds.
+# Seconds before background work starts, from the first page's first request.
 FIRST_PAGE = 0.5
 # So long after a request the page is in use, and so long portions of other work are apart then, in seconds.
 USED, BREATH = 0.5, 0.02
@@ -40,8 +40,8 @@ MESSAGE, SOCKETS, WAITING, PATIENCE = 1 << 16, 16, 16, 5
 WRONG, LATE = 4403, 4408
 # How long a browser has to answer that the socket ends.
 GRACE = 0.5
-# How often a browser is asked whether it is there; it has half of that to answer. One that ends closes its socket, so
-# this is for one that was stopped, and a machine that is busy has time.
+# How many seconds lie between two pings of a browser; it has half of that to answer. A browser that ends closes its
+# socket, so this is for one that was stopped, and a machine that is busy has time.
 PULSE = 600
 # The most requests of one socket that are at work, and the most that wait for that or are at work.
 AT_WORK, ASKED = 64, 512
@@ -136,7 +136,7 @@ class Server:
         return None if first.type == WSMsgType.TEXT and self.guard.is_key(first.data) else WRONG
 
     async def _serve(self, socket: web.WebSocketResponse, outlet: Outlet) -> None:
-        """Reads all that comes, so that the socket's own messages are never behind requests that wait."""
+        """Reads all that comes, so that the socket's own messages never queue after requests that wait."""
         self.outlets.add(outlet)
         room = asyncio.Semaphore(AT_WORK)
         work: set[asyncio.Task[None]] = set()
@@ -154,7 +154,7 @@ class Server:
             outlet.stop()
 
     async def _answer(self, outlet: Outlet, text: str, room: asyncio.Semaphore) -> None:
-        """Answers a request, whatever comes of it: the page waits for that."""
+        """Answers a request, also one that fails: the page waits for the answer."""
         async with room:
             number, answer = await self._outcome(text, outlet)
         try:
@@ -261,7 +261,7 @@ class Server:
         self.tasks.append(asyncio.ensure_future(self._to_its_end(work)))
 
     async def _to_its_end(self, work: Coroutine[Any, Any, None]) -> None:
-        """Does work that nobody waits for. If it fails, the page is told no more of it, and says so."""
+        """Does work that nobody waits for. If it fails, the page gets an error message, and nothing more."""
         try:
             await work
         except Exception as why:

@@ -12,11 +12,11 @@ from typing import Any
 LINE_LIMIT = 1 << 28
 # A list of races is kept up to this many blocks.
 MOST_BLOCKS = 200_000
-# How far the program is, as it says it; and this many of its last lines are told if it fails.
+# A line about the progress of the program. If the program fails, this many of its last lines are shown.
 PROGRESS = re.compile(r"events \d+|pairs of places \d+ of \d+")
 LAST_LINES = 20
-# How many bytes of what a session said last are told. How long it has to end after its input did, or after a kill, and
-# how long its pipes may be open after its output ended, in seconds.
+# How many bytes of a session's last output are shown. How many seconds it has to end after its input ended or after
+# a kill, and how many its pipes may be open after its output ended.
 LAST_WORDS, ENDS, LAST = 4096, 3, 60
 # Steps come before what is looked for beside them. It is a command: no code is safe between a fork and the start.
 BEHIND = ("nice", "-n", "5")
@@ -27,7 +27,7 @@ Process = asyncio.subprocess.Process
 
 
 class Gone(Exception):
-    """The program has ended; what it said last stands in it."""
+    """The program has ended; its last output is the text."""
 
 
 class Session:
@@ -94,7 +94,7 @@ class Session:
 
 
 async def started(*words: str, stdin: int = asyncio.subprocess.DEVNULL) -> Process:
-    """A process of the program. A program that cannot be started is told as one that ended."""
+    """A process of the program. A program that cannot be started is handled as one that ended."""
     try:
         return await asyncio.create_subprocess_exec(*words, stdin=stdin, stdout=PIPE, stderr=PIPE, limit=LINE_LIMIT)
     except OSError as why:
@@ -142,7 +142,7 @@ async def output(*words: str) -> tuple[int, bytes, str]:
 async def triage(program: str, trace: str, hear: Hear, take: Take, *words: str) -> tuple[dict[str, Any], int]:
     """What `triage --json --apart` says: the counts; races, undecided and apart pairs of places are given to `take`.
 
-    Also how many more of these there are than are taken. The words may leave out races, which are counted as `known`.
+    Also how many more there are than are taken. The arguments may leave out races, which are counted as `known`.
     """
     counts: dict[str, Any] = {}
     number = 0

@@ -1,4 +1,4 @@
-"""A schedule to be drawn: its events, where each stands, its runs, and the locks held.
+"""A schedule to be drawn: its events, the row of each, its runs, and the locks held.
 
 It grows and shrinks at its end, each event in a few steps.
 """
@@ -74,7 +74,7 @@ class Sheet:
             self.run_row.pop()
 
     def become(self, events: array[int]) -> None:
-        """Makes it the schedule of these events, keeping the beginning that is the same."""
+        """Turns the sheet into the schedule with these events, keeping the beginning that is the same."""
         kept = common(self.events, events)
         if kept == len(self.events) == len(events):
             return

@@ -10,7 +10,7 @@ from .messages import Changed, Step
 from .row import Row
 from .text import clean
 
-# The most entries of its own that a page names.
+# The most entries of this analyst that a page names.
 OWN = 4096
 NOT_SENT = "not sent: the schedule was changed meanwhile"
 UNDONE = ": undone "
@@ -90,7 +90,7 @@ class Shown:
 
 
 def changer(row: Row, others: list[int], span: tuple[int, int | None]) -> int:
-    """Which of these entries changed the events from one position up to another first."""
+    """Which of the others' entries changed the events from one position up to another first."""
     low = span[0] if span[0] >= 0 else len(row.events) - 1
     for change in row.changes:
         end = change.at + max(len(change.old), len(change.new))

@@ -52,7 +52,7 @@ async def add(bench: Bench, name: str, event: int) -> Step:
 
 
 class Run:
-    """Adds a thread's events up to one of them, or until the next is refused, by as few batches as may be."""
+    """Adds a thread's events up to a given one, or until the next is refused, by as few batches as may be."""
 
     def __init__(self, bench: Bench, name: str) -> None:
         self.bench, self.name = bench, name
@@ -85,7 +85,7 @@ class Run:
         return {"added": self.added, "entries": self.entries, "answer": clean(answer)}
 
     async def _stopped(self, part: Sequence[int], answer: str) -> Step:
-        """A batch was refused at one of its events: those before it are added, and the cause is told."""
+        """A batch was refused at one of its events: those before it are added, and the answer has the cause."""
         found = REFUSED_ADD.match(answer)
         if not found:
             return self._told(answer)
@@ -229,7 +229,7 @@ async def undo(bench: Bench, entries: list[int]) -> Step:
 
 
 async def enter(bench: Bench, name: str, events: array[int], pair: tuple[int, int] | None) -> Step:
-    """Makes a schedule of these events: a proposal that is adopted where its line is short enough, else batches."""
+    """Makes a schedule with these events: a proposal that is adopted if its line is short enough, else batches."""
     line = f"propose {pair[0]} {pair[1]} " + " ".join(map(str, events)) if pair else ""
     if pair and len(line) <= LINE:
         answer = await bench.say_one(line)

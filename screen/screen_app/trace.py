@@ -24,7 +24,7 @@ CONNECTED, PORTION = 20_000, 5_000
 class Part(NamedTuple):
     """What a section of the trace's file has: names in the order of their first use there, and columns of numbers."""
 
-    before: int  # this many events stand before it, if each line is one
+    before: int  # this many events come before it, if each line is one
     threads: list[bytes]
     variables: list[bytes]
     locks: list[bytes]
@@ -198,7 +198,7 @@ class Trace:
     def digests(self, most: int = 2_000) -> Iterator[str]:
         """The SHA-256 digest of the canonical text, in steps; the last is of all of it.
 
-        The head of a log has the program's own, so it tells whether both read the same.
+        The head of a log has the program's own, so it shows whether both read the same.
         """
         made = hashlib.sha256()
         for start in range(0, len(self), most):

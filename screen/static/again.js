@@ -1,5 +1,5 @@
-// What is drawn anew after each step of anyone is asked for once at a time. Who asks while an answer is under way gets
-// one request after it, which all share: so a page on a busy machine asks no faster than it is answered, and draws.
+// What is drawn anew after each step of anyone is requested once at a time. All who want it while an answer is under
+// way share one request after it: so a page on a busy machine requests no faster than it gets answers, and draws.
 
 // Makes a function that does this work for what is looked at; its promise is of work that began after the call.
 export function again(work, lookedAt) {

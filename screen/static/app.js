@@ -82,7 +82,7 @@ async function begin() {
   feed.begin(told.seen);
   feed.render();
   views.bar();
-  if (views.looked() !== looked) return; // something was opened meanwhile
+  if (views.looked() !== looked) return; // something was opened before the answer came
   const [row, kept] = [latest(), history.state];
   if (state.view) views.open(state.view, { end: false, isAsItWas: true, isSame: true });
   else if (kept?.pair || state.rows.has(kept?.schedule)) views.restore(kept);
@@ -93,7 +93,7 @@ async function begin() {
   }
 }
 
-// Keys that are typed meanwhile are for what it opens.
+// Keys that are typed before the dialog opens are for it.
 on("open", () => {
   const begun = begin();
   later(() => begun);
@@ -110,7 +110,7 @@ on("names", (told) => {
   if (state.view) sheet.refresh(false);
 });
 
-// Whether this page made a step at the end of the schedule, which is to be seen. A move stays where it is.
+// Whether this page made a step at the end of the schedule, which should be in sight. A move does not scroll.
 function isStep(entry, name) {
   const about = entry.kind === "undo" ? state.entries.get(entry.of) : entry;
   const isElsewhere = about?.name !== undefined && about.name !== name;
@@ -125,7 +125,7 @@ function broughtBack(entry) {
   return undone?.kind === "drop" ? undone.name : null;
 }
 
-// What is drawn is asked for first, and the feed is drawn while the answer is under way.
+// What is drawn is requested first, and the feed is drawn while the answer is under way.
 on("log", async (told) => {
   const name = state.view?.schedule;
   feed.take(told);

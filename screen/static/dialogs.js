@@ -1,4 +1,4 @@
-// Dialogs: a name that is asked for, all keys, and a link for another browser.
+// Dialogs: a field for a name, all keys, and a link for another browser.
 import { $, el, replace, button } from "./make.js";
 import { ask } from "./net.js";
 
@@ -50,7 +50,7 @@ function show(title, ...inner) {
 // `keys` is the table of keys.js.
 export const showKeys = (keys) => show("Keys", el("div", "keys", keys.map(group)));
 
-// Each link opens once, so another browser gets one of its own.
+// Each link opens once, so another browser gets a new one.
 export async function showLink() {
   const told = await ask("link");
   if (!told.link) return told;

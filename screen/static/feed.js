@@ -29,7 +29,7 @@ export const events = { open: null, act: null, adopt: null, say: null, seen: nul
 let hasBegun = false;
 let flashed = null;
 let shown = SHOWN;
-let end = null; // after the last entry that is shown, where that is not the latest
+let end = null; // after the last entry that is shown, if that is not the latest
 let keeping = null;
 let looking = null;
 
@@ -278,8 +278,8 @@ function leave() {
   }
 }
 
-// Takes in what the log has more; it is drawn by render. What came may be too much to be told: then what is known may
-// be taken back by now, and what is shown of it is asked for.
+// Takes in what the log has more; render draws it. Too much may have come for one message: then what is known may be
+// taken back by now, and the page requests what is shown.
 export function take(told) {
   const isWhole = told.log_length - told.entries.length <= state.logLength;
   state.logLength = told.log_length;

@@ -15,7 +15,7 @@ export function reveal(name) {
   if (!$(name).offsetHeight) pane(name);
 }
 
-// Where the focus is among the panes. If it is in none of them, it is before the first one after it.
+// The pane that has the focus. If it is outside of the panes, it is before the first pane after it.
 function placeOf(element, by) {
   const at = PANES.indexOf(paneOf(element));
   if (at >= 0) return at;

@@ -33,7 +33,7 @@ const chosenOne = () => told?.next.find((one) => one.thread === chosen) ?? null;
 const here = () => (told && told.name === name() ? told : null);
 const step = (what, given) => (here() ? events.act(what, { name: name(), ...given }) : null);
 
-// Waits for the list that was asked for last, and not for those of what others do from now on.
+// Waits for the list that was requested last, and not for those about what others do from now on.
 export const settled = () => pending;
 
 async function fetchNext() {
@@ -115,7 +115,7 @@ function render() {
   const lines = sorted().map((one) => line(one, lit));
   fill(list, lines.length ? lines : el("p", "empty", empty));
   nameChosen(list);
-  const sign = `${chosen} ${Boolean(chosenOne()?.why)}`; // a thread that has to wait stands elsewhere in a long list
+  const sign = `${chosen} ${Boolean(chosenOne()?.why)}`; // a thread that has to wait is elsewhere in a long list
   if (shown !== sign) list.querySelector(".on")?.scrollIntoView({ block: "nearest" });
   shown = sign;
 }

@@ -68,7 +68,7 @@ $("back").addEventListener("pointerdown", () => {
 $("back").addEventListener("click", ({ detail }) => takeBack(detail ? pressed : sheet.shown()));
 
 let opening = 0; // questions for a name that wait for their turn
-const typed = []; // keys meanwhile
+const typed = []; // keys that were typed before a question opened
 let isGiving = false;
 
 function branch() {
@@ -86,7 +86,7 @@ function branch() {
   }).then(go); // a step that is left out opens nothing
 }
 
-// Gives the keys that were typed meanwhile to the question, and those after it to the page.
+// Gives the keys that were typed before it opened to the question, and those after it to the page.
 async function give() {
   if (isGiving) return;
   isGiving = true;

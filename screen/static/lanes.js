@@ -1,4 +1,4 @@
-// Where lanes stand: one a thread, close together, since each row has one event, whose text may run over the lanes
+// The places of lanes: one a thread, close together, since each row has one event, whose text may run over the lanes
 // to its right.
 import { $, el, fill, hue, count } from "./make.js";
 import { part } from "./morph.js";

@@ -42,7 +42,7 @@ function nodeOf(one, old) {
   return node;
 }
 
-// The node that shows this one: an old one with its key, the one that stands there if both have none, or it itself.
+// The node that shows this one: an old one with its key, the one at its place if both have none, or it itself.
 function shown(one, byKey, at) {
   const key = keyOf(one);
   const old = key === null ? null : byKey.get(key) ?? null;
@@ -64,7 +64,7 @@ function keyed(into, wanted) {
   return byKey;
 }
 
-// Puts these nodes and parts into an element, in place of what is in it.
+// Replaces what is in an element by these nodes and parts.
 export function put(into, list) {
   const byKey = keyed(into, new Set(list.map(keyOf)));
   let at = into.firstChild;

@@ -28,8 +28,8 @@ async function key() {
   return kept("sessionStorage", "key");
 }
 
-// A new link that is opened in this tab differs from this page behind the `#` alone. Its ticket is for the page that is
-// loaded then: if this one spent it, that one would have none.
+// A new link changes only the fragment, so reload. Its ticket is for the page that is loaded then: if this page spent
+// it, that one would have none.
 addEventListener("hashchange", () => location.hash.length > 1 && location.reload());
 
 function tryAgain() {

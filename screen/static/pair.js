@@ -25,7 +25,7 @@ function side(told, pair, event) {
   const one = told.next.find((other) => other.event === event);
   if (!one) return String(event);
   const source = told.source?.[one.location];
-  // A read may be shown and yet be refused as next; nothing is said where what it would miss is the pair's other half.
+  // A read may be shown and yet be refused as next. There is no text if it would miss the pair's other half.
   const but = one.why && !pair.includes(one.why.about?.event) ? el("span", "but", "but ", reason(one.why, one)) : null;
   const made = el("span", "access", tag(one.thread), " ", el("span", "num", String(one.event)), " ", operation(one),
     place(one.location), source ? el("code", "", source) : null, but);

@@ -1,6 +1,6 @@
 // Clicks. Lists are drawn anew at any moment, as others work too, so what a click means is settled when the button
-// goes down: then the node, and what it does, are noted, and the click does that, whatever was drawn until the button
-// went up.
+// goes down: then the node, and what it does, are noted, and the click does that, also if the list was drawn anew
+// until the button went up.
 
 // A hand that presses stays within this many pixels.
 const NEAR = 6;
@@ -35,7 +35,7 @@ function meant(target) {
 const isNear = (one, other) => Math.hypot(one.x - other.x, one.y - other.y) <= NEAR;
 const isSecond = (mine, clicks) => clicks > 1 || (mine.isTap && mine.at - before.at < DOUBLE);
 
-// The second press of a double click means what the first one meant: if something else stands there by now, nothing.
+// The second press of a double click means what the first one meant: if something else is there by now, nothing.
 const isStray = (mine, clicks) =>
   before && before.node !== mine.node && isNear(mine, before) && isSecond(mine, clicks);
 

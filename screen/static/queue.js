@@ -7,7 +7,7 @@ let place = 0;
 
 export const isBusy = () => waiting > 0;
 
-// A step that is done when those before it are done, and is left out if the hand went elsewhere meanwhile.
+// A step that is done when those before it are done, and is left out if the analyst went elsewhere before that.
 export function later(step) {
   const mine = place;
   waiting++;

@@ -27,7 +27,7 @@ const LOST = "no such witness";
 
 let win = null;
 let asked = 0;
-let taken = 0; // which of them was drawn last
+let taken = 0; // the number of the request that was drawn last
 let latest = null; // the promise of what was asked last
 let goal = END;
 let seen = 0; // how far it was scrolled when the goal was set
@@ -47,7 +47,7 @@ export function shown() {
   return name && win ? { name, log_length: win.log_length } : null;
 }
 
-// What a step by position is for: what was shown when it was asked for, unless another schedule was opened since.
+// What a step by position is for: what was shown when it was made, unless another schedule was opened since.
 export function meant(before) {
   const name = state.view?.schedule;
   return before?.name === name ? before : shown() ?? { name, log_length: state.logLength };
@@ -89,8 +89,8 @@ export function reset({ end = false, isSame = false } = {}) {
   render();
 }
 
-// Asks for rows, draws them, and brings in sight what is wanted. One that is overtaken waits for the one that did so;
-// it is drawn meanwhile if the same is wanted, so that rows come while others work all the time.
+// Requests rows, draws them, and brings in sight what is wanted. A request that is overtaken waits for the later one.
+// It is drawn before that if the same is wanted, so that rows come while others work all the time.
 export function load(given = {}) {
   latest = fetchRows(given);
   return latest;
@@ -118,7 +118,7 @@ async function fetchRows({ to, toggle }) {
     return null;
   }
   heed();
-  if (goal !== wanted) return isLatest ? load() : latest; // somebody scrolled meanwhile
+  if (goal !== wanted) return isLatest ? load() : latest; // somebody scrolled before the answer came
   taken = mine;
   take(told);
   return null; // others may go on for ever, so nobody waits for what came after it
@@ -155,7 +155,7 @@ function draw() {
   render();
 }
 
-// A short schedule stands at the foot, where what comes next is.
+// A short schedule is at the foot, beside what comes next.
 function settle() {
   const all = win.total ? win.total * HEIGHT + 6 : NOTHING;
   space.style.height = `${all}px`;
@@ -169,7 +169,7 @@ export async function refresh(isMine) {
   if (isMine && win?.rows.length) reveal(win.rows.at(-1).thread);
 }
 
-// Keeps the row at the top where it is, if rows above it came or went.
+// Keeps the row at the top in its place, if rows above it came or went.
 function stay(row) {
   const at = row ? edges.rowAt(win, row.position) : -1;
   if (at >= 0 && win.from + at !== topRow()) scrollTo(top() + (win.from + at - topRow()) * HEIGHT);
@@ -253,7 +253,7 @@ export async function enter() {
   else events.say("choose an event first: ↑ and ↓ move the cursor");
 }
 
-// Moves an event as far as it goes; why it goes no farther stands between the two rows.
+// Moves an event as far as it goes; why it goes no farther is shown between the two rows.
 export async function swap(before, position, by) {
   if (!by) return;
   stop = null;
@@ -306,8 +306,8 @@ addEventListener("pointerup", () => {
   later(() => swap({ ...mine.shown, since: [] }, mine.position, Math.max(-FARTHEST, Math.min(FARTHEST, by))));
 });
 
-// A double click on a block opens it, whether its events stand there by the second press or not. One on an event that
-// stood there before closes the block.
+// A double click on a block opens it, whether the second press hits its events or not. One on an event that was drawn
+// before closes the block.
 let wasBlock = false;
 drawn.events.click = (row, clicks) => {
   if (clicks < 2) wasBlock = Boolean(row.size);

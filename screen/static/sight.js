@@ -4,7 +4,7 @@ import { el } from "./make.js";
 // How many lines beyond the sight are drawn on both sides.
 const SIDES = 6;
 
-// What the lines stand in; it is as high as all of them.
+// The element of the lines; it is as high as all lines.
 export function space(id) {
   const made = el("div", "space");
   made.id = id;

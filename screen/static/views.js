@@ -295,7 +295,7 @@ export async function fresh() {
   if (name) later(() => make("new", { name }));
 }
 
-// What is shown when it is asked for is branched, though the name may come later.
+// The branch is of what is shown when it is made, though the name may come later.
 export async function branch(shown = sheet.meant(null)) {
   const name = state.view?.schedule;
   const row = state.rows.get(name);

@@ -13,11 +13,11 @@ export const viewed = ({ schedule, witness }) => (witness ? { witness } : { sche
 // How many signs at the end of a name are the last to be cut.
 const END = 9;
 
-// Letters that are read from right to left. Parts stand from left to right, so a name with such letters is one part.
+// Letters that are read from right to left. Parts go from left to right, so a name with such letters is one part.
 const LEFTWARD = /[\u0590-\u08ff\ufb1d-\ufdff\ufe70-\ufefc\u{10800}-\u{10fff}\u{1e800}-\u{1efff}]/u;
 
-// The last member of a variable, with the indices around it: there the names of a trace differ. It is in so many letters
-// at the end.
+// The last member of a variable, with the indices around it: there the names of a trace differ. It is within this many
+// letters at the end.
 const MEMBER_ROOM = 64;
 const MEMBER = /(?:\[\d+\])*[.:][^.:[\]]+(?:\[\d+\])*(?:\+\d+)?$/u;
 
@@ -28,8 +28,8 @@ function named(kind, text) {
   return made;
 }
 
-// A text in parts: where there is no room for all of it, the folder is cut first, then the front, then a member, and the
-// end last.
+// A text in parts: without room for all of it, the folder is cut first, then the front, then a member, and the end
+// last.
 function inParts(kind, text, folder = 0, calls = null) {
   const signs = [...text.slice(folder)];
   const isCut = signs.length > END + 7 && !LEFTWARD.test(text.slice(folder));
@@ -45,7 +45,7 @@ function inParts(kind, text, folder = 0, calls = null) {
 
 export const nameOf = (text, kind = "name") => inParts(kind, text);
 
-// Where a name stands among others in a line, this many of its signs are shown; a title has all of them.
+// A name among others in a line shows this many of its signs; a title has all signs.
 const [THREAD, NAME] = [20, 60];
 function cut(text, most) {
   const signs = [...text];
@@ -96,7 +96,7 @@ const DOES = { r: "reads", w: "writes", acq: "takes lock", rel: "releases lock",
 export const spoken = (event) => [`event ${event.event}`,
   `${threadName(event.thread)} ${DOES[event.operation]} ${event.name}`, event.location].join(", ");
 
-// The place of an event and of the call that it stands in: "list.c:787 < list.c:730". Of a path the file and the line
+// The place of an event and of the call around it: "list.c:787 < list.c:730". Of a path the file and the line
 // are cut last, and the calls first.
 export function place(text, isShort = false) {
   const [first, ...rest] = text.split(" < ");
@@ -106,7 +106,7 @@ export function place(text, isShort = false) {
   return made;
 }
 
-// What a refusal means, with the event that it is about. The program's words stand in the title.
+// What a refusal means, with the event that it is about. The title has the program's text.
 export function reason(why, event) {
   const inner = { 23: notBegun, 24: wrongWriter, 25: lockHeld, 26: joinEarly, aim: aimNeeds }[why.code]?.(why, event);
   const made = el("span", "reason", inner ?? why.said.replace(/^\d+ /, ""));

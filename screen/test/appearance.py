@@ -11,7 +11,7 @@ from workbench import SEVERAL
 
 
 async def test_light_dark_and_each_width(program):
-    """Nothing is cut off the page, and text is told from its ground, at each width in light and dark."""
+    """Nothing is cut off the page, and text contrasts with its ground, at each width in light and dark."""
     traces.write("trace", traces.COUNT)
     async with Screen(program, "trace", "log") as screen, Browser() as browser:
         page = await browser.page(screen.link)
@@ -40,7 +40,7 @@ async def test_light_dark_and_each_width(program):
         is_clean(page, screen)
 
 
-# Texts that are told badly from their ground: less than 4.5 to 1, as the web's rules for reading ask for.
+# Texts with too little contrast: less than 4.5 to 1, the bound of the web's rules for reading.
 PALE = """(() => {
   const parts = (text) => {
     const [red, green, blue, alpha = 1] = text.match(/[\\d.]+(e-\\d+)?/g).map(Number);
@@ -73,7 +73,7 @@ PALE = """(() => {
 
 
 async def test_texts_are_told_from_their_ground(program):
-    """Whatever is chosen, refused, taken back or of another analyst, in light and dark."""
+    """Everything that is chosen, refused, taken back or of another analyst, in light and dark."""
     traces.write("trace", traces.COUNT + "".join(f"T0|w(a{at})|main.c:{at}\n" for at in range(20)))
     await session(program, 2, "new B\nadd B 0\nundo\npropose 7 12 0 2 3 4 5 6 1 8 9 10 11\n")
     async with Screen(program, "trace", "log") as screen, Browser() as browser:
@@ -183,7 +183,7 @@ async def spoken(page):
 
 
 async def test_what_a_screen_reader_finds(program):
-    """Each pane is a named list of options, each option is a sentence, and what was done is said in a live region."""
+    """Each pane is a named list of options, each option is a sentence, and a live region has what was done."""
     traces.write("trace", traces.COUNT)
     async with Screen(program, "trace", "log") as screen, Browser() as browser:
         page = await browser.page(screen.link)
@@ -239,7 +239,7 @@ LIVE = "[...document.querySelectorAll('[aria-live=polite]')].map((e) => e.id || 
 
 
 async def test_what_is_opened_is_announced(program):
-    """The heading is a live region that stays, whatever is opened; so is the number of races that match."""
+    """The heading is a live region that stays when another pane opens; so is the number of races that match."""
     traces.write("trace", SEVERAL)
     await session(program, 2, "new A\nnew B\n")
     async with Screen(program, "trace", "log") as screen, Browser() as browser:
@@ -347,7 +347,7 @@ async def test_how_a_race_ended(program):
             is_clean(page, screen)
 
 
-# Names that are read from right to left, as the first and the last of their letters stand; and names whose blanks are
+# Names that are read from right to left, by the position of their first and last letters; and names whose blanks are
 # not drawn as they are.
 LEFTWARD = """(selector) => {
   const [text, box] = [document.querySelector(selector)?.firstChild, document.querySelector(selector)];

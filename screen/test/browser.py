@@ -33,7 +33,7 @@ ALT, CONTROL, META, SHIFT = 1, 2, 4, 8
 CAPS = 0
 # How long a condition, an answer of the browser and its start may take, in seconds: a machine may be slow and busy.
 PATIENCE, TRIES = 600, 3
-# How often a press that hits something else, since the page moved meanwhile, is made again.
+# How often a press that hits something else, since the page moved, is made again.
 PRESSES = 100
 # How long what the mouse shows may take before it is moved there again, in seconds.
 LOOK = 6
@@ -330,7 +330,7 @@ class Page:
         await self.call("Input.dispatchMouseEvent", type=kind, x=x, y=y, **more)
 
     async def steady(self, selector, at=0):
-        """Waits until the element stands where it stood a moment ago."""
+        """Waits until the element is where it was a moment ago."""
         before = None
         while (now := await self.point(selector, at)) != before:
             before = now
@@ -338,7 +338,7 @@ class Page:
         return now
 
     async def press(self, selector, at=0, **more):
-        """Moves to the element and lets the button down; gives the place. If the page moved it meanwhile, again."""
+        """Moves to the element and presses the button; returns the place. Tries again if the page moved it."""
         for _ in range(PRESSES):
             x, y = await self.steady(selector, at)
             await self.mouse("mouseMoved", x, y)
@@ -363,7 +363,7 @@ class Page:
             await self.release(x, y, number, timestamp=now)
 
     async def hover(self, selector, at=0, shown="true"):
-        """Moves to the element, and again if that does not show what it has to: the page may move it meanwhile."""
+        """Moves to the element, and again if that does not show what it has to: the page may have moved it."""
         for _ in range(PRESSES):
             x, y = await self.steady(selector, at)
             await self.mouse("mouseMoved", x, y)

@@ -11,7 +11,7 @@ from scrolling import HOLD
 from stage import FRAMES, LENGTH, ORDER, ROWS, SAID, SAYINGS, Screen, Socket, comes, focus, is_clean, logged, new
 from stage import press, press_at_once, settled
 
-# Holds back all that tells the page of what others do, from `hold()` on until `letGo()`.
+# Holds back all messages about what others do, from `hold()` on until `letGo()`.
 DEAF = HOLD.replace('["view"]', '["view", "frontier"]').replace(
     "const isRows = rows.has(JSON.parse(message.data).id);",
     "const told = JSON.parse(message.data); const isRows = Boolean(told.push) || rows.has(told.id);",
@@ -38,7 +38,7 @@ CASE = """    "{line}") if [ ! -e '{flag}' ]; then
 
 
 def between(program, **does):
-    """The path of a program before whose lines others do something, once each. `_` stands for a blank."""
+    """The path of a program before whose lines others do something, once each. `_` is a blank."""
     cases = [CASE.format(line=line.replace("_", " "), flag=f"done-{line}", does=call) for line, call in does.items()]
     traces.write("between", BETWEEN.format(program=program, cases="\n".join(cases)))
     os.chmod("between", 0o755)
@@ -281,7 +281,7 @@ async def asked(page):
 
 
 async def test_a_branch_is_for_the_events_that_are_shown(program):
-    """Also if they change while the name is asked for. What comes after them does not matter."""
+    """Also if they change while the page waits for the name. What comes after them does not matter."""
     traces.write("trace", FREE)
     async with Screen(program, "trace", "log") as screen, Browser() as browser:
         page = await deaf(browser, screen, 4)
@@ -306,7 +306,7 @@ async def test_a_branch_is_for_the_events_that_are_shown(program):
 
 
 async def test_a_branch_while_another_runs_far(program):
-    """Thousands of events come to the schedule while the name is asked for."""
+    """Thousands of events come to the schedule while the page waits for the name."""
     traces.write("trace", "".join(f"T{at // 9000}|w(a{at // 9000})|a:{at}\n" for at in range(18000)))
     async with Screen(program, "trace", "log") as screen, Browser() as browser:
         page = await deaf(browser, screen, 2, 2)

@@ -8,7 +8,7 @@ def same(one, other):
 
 
 async def within(seconds, awaited):
-    """Waits this many seconds, each by itself: if the machine stands still for long, that counts as one."""
+    """Waits this many seconds, each by itself: if the machine pauses for long, that counts as one."""
     task = asyncio.ensure_future(awaited)
     try:
         for _ in range(seconds):

@@ -21,7 +21,7 @@ IS_OPEN = "document.querySelector('#bar .of-aim') !== null"
 
 
 def extensions(trace, pair, start):
-    """The shortest way from a schedule to one that shows the pair, over all orders; None if there is none."""
+    """The shortest way from a schedule to one that shows the pair, over all orders; None if no way leads there."""
     seen, waiting = set(), [tuple(start)]
     while waiting:
         events = waiting.pop()
@@ -87,7 +87,7 @@ def test_what_is_out_of_reach_by_all_orders(program):
 
 
 def judge(aim, events, met):
-    """Compares what is said of a schedule with all its extensions."""
+    """Compares the page's claim about a schedule with all its extensions."""
     is_in_reach = extensions(aim.trace, aim.pair, events) is not None
     bar, found = aim.bar(state_of(aim.trace, events)), aim.completes(state_of(aim.trace, events))
     assert not (bar and is_in_reach), (list(events), aim.pair, bar)

@@ -43,7 +43,7 @@ async def test_keys_that_have_a_twin(program):
 
 
 async def test_the_field_that_runs_to_an_event(program):
-    """It takes numbers of events of its own thread, and says so of others. Escape leads back to the list."""
+    """It takes numbers of events of its thread, and refuses others by a message. Escape leads back to the list."""
     traces.write("trace", TWO)
     field = "document.querySelector('.until-event')"
     async with Screen(program, "trace", "log") as screen, Browser() as browser:
@@ -292,7 +292,7 @@ async def test_a_key_that_is_held(program):
 
 
 async def test_the_source_near_an_edge(program):
-    """It stands where there is room, and in the window."""
+    """It appears at a side with room, and in the window."""
     traces.write("trace", "T1|w(a)|main.c:20\nT2|w(a)|main.c:30\n")
     os.mkdir("source")
     traces.write("source/main.c", "\n".join(f"line {number}; {'and more ' * 20}" for number in range(1, 60)))

@@ -42,7 +42,7 @@ def script(path, text):
 
 
 async def gone(asking):
-    """What is said of a program that is gone."""
+    """The message about a program that is gone."""
     try:
         await asyncio.wait_for(asking, PATIENCE)
     except Gone as why:
@@ -140,7 +140,7 @@ class Heard:
 
 
 async def test_a_request_that_fails_is_answered(program):
-    """Whatever goes wrong, and the next one has room. Else the page would wait for ever."""
+    """Any failure is answered, and the next request has room. Else the page would wait for ever."""
     screen, outlet, room = served(program), Heard(), asyncio.Semaphore(1)
     screen.requests.is_ready.set()
 
@@ -232,7 +232,7 @@ async def test_it_ends_while_the_trace_is_read(program):
 
 
 async def test_how_far_it_is_is_told_though_nothing_follows(program):
-    """The last of two lines that come at once is told, although the program says nothing more for long."""
+    """The last of two lines that come at once is shown, although the program prints nothing more for long."""
     told, ended = asyncio.Event(), asyncio.Event()
     races, triage = pairs.Races(), pairs.triage
 
@@ -255,7 +255,7 @@ async def test_how_far_it_is_is_told_though_nothing_follows(program):
 
 
 async def test_lines_that_are_no_races(program):
-    """The list is said to be unreadable, and the page is not left looking for it."""
+    """The page calls the list unreadable, and does not look for it for ever."""
     for line in ("no json", "[]", '{"kind": "race"}', '{"kind": "race", "accesses": [1, 2]}'):
         path = script("odd", f"#!/bin/sh\necho '{line}'\n")
         races = pairs.Races()
@@ -389,7 +389,7 @@ def test_a_process_that_cannot_be_made(program):
     finally:
         readers.LONG, os.fork, os.cpu_count = long, fork, count
     same((read.helpers, len(made)), ([], 2))
-    same(opened() - before, set())  # files of other tests may be closed meanwhile
+    same(opened() - before, set())  # files of other tests may be closed at the same time
     for number in made:
         try:
             os.waitpid(number, os.WNOHANG)
@@ -417,7 +417,7 @@ command.main()
 
 
 async def test_it_ends_though_something_does_not(program):
-    """The terminal comes back, and what waited is told."""
+    """The terminal comes back, and a message names what waited."""
     traces.write("trace", traces.COUNT)
     traces.write("hung.py", HUNG.format(os.path.dirname(os.path.dirname(os.path.abspath(__file__)))))
     pipe = asyncio.subprocess.PIPE
@@ -463,7 +463,7 @@ async def test_the_terminal(program):
 
 
 async def test_patience_is_counted_in_seconds(program):
-    """If the machine stands still for longer than the patience, what comes after that is in time."""
+    """If the machine pauses for longer than the patience, what comes after that is in time."""
     loop = asyncio.get_running_loop()
     came = loop.create_future()
 

@@ -12,7 +12,7 @@ OPEN = "document.querySelector('#bar h2').textContent"
 
 
 async def test_where_a_button_goes_up(program):
-    """Anywhere on what was pressed it is a click, also far from where it went down. Beside that it is none."""
+    """Anywhere on what was pressed it is a click, also far from where it went down. Beside that it is no click."""
     traces.write("trace", traces.COUNT)
     async with Screen(program, "trace", "log") as screen, Browser() as browser:
         page = await browser.page(screen.link)

@@ -47,7 +47,7 @@ async def test_a_trace_that_is_read_otherwise(program):
 
 
 async def test_a_digest_that_is_the_same(program):
-    """It is compared once a page is there, and nothing is said of one that is the same."""
+    """It is compared once a page is there, and there is no message if it is the same."""
     for digest, is_said in ((None, False), ("0" * 64, True)):
         screen, outlet = served(program), Heard()
         screen.outlets.add(outlet)
@@ -87,7 +87,7 @@ async def test_a_schedule_that_is_shown_otherwise(program):
 
 
 async def test_a_check_is_of_one_moment(program):
-    """If another analyst changes the schedule meanwhile, it is shown again; a difference is one that stays."""
+    """If another analyst changes the schedule during the check, it is shown again; a difference is one that stays."""
     traces.write("trace", traces.COUNT)
     await session(program, 1, "new A\nadd A 0\n")
     bench = Bench(program, Trace("trace").read_at_once(), "log", 1)

@@ -238,7 +238,7 @@ async def test_two_tabs_of_one_analyst(program):
 
 
 async def test_a_new_link_in_the_same_tab(program):
-    """It differs from the page behind the `#` alone, so the browser itself would do nothing."""
+    """It differs from the page in the fragment alone, so the browser itself would do nothing."""
     traces.write("trace", traces.COUNT)
     async with Screen(program, "trace", "log") as screen, Browser() as browser:
         page = await browser.page(screen.link)
@@ -369,7 +369,7 @@ async def test_older_entries_stay_if_the_connection_comes_back(program):
 
 
 async def test_the_newest_entries_again(program):
-    """After older ones `newest` shows as many as at first, and what came meanwhile. There `older` goes on."""
+    """After older ones `newest` shows as many as at first, and what came since then. There `older` goes on."""
     traces.write("trace", SEVERAL)
     await session(program, 2, "new A\n" + "new B\ndrop B\n" * 500)
     async with Screen(program, "trace", "log") as screen, Browser() as browser:

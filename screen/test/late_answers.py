@@ -124,7 +124,7 @@ async def test_one_list_is_asked_for_at_a_time(program):
 
 
 async def test_rows_come_while_more_are_asked_for(program):
-    """Rows that were asked for before the latest are drawn, if they come before."""
+    """Rows that were requested before the latest are drawn, if they come before."""
     write("trace", "".join(f"T{at % 2}|w(a{at % 2})|a:{at}\n" for at in range(800)))
     await session(program, 2, "new A\nadd A 0\nadd A 1\n")
     async with Screen(program, "trace", "log") as screen, Browser() as browser:

@@ -80,7 +80,7 @@ async def test_no_more_connections_than_there_are_places(program):
 
 
 async def test_a_ticket_that_does_not_come(program):
-    """Who says that a ticket follows, and sends none, is told so."""
+    """Who announces a ticket and sends none gets a message."""
     patience, server.PATIENCE = server.PATIENCE, 0.3
     try:
         async with begun(program) as screen:
@@ -193,7 +193,7 @@ def test_links_that_were_never_opened(program):
 
 
 async def test_windows_have_a_most(program):
-    """However much is asked for, an answer has no more rows, entries, races or events to come than it may."""
+    """A larger request gets an answer with no more rows, entries, races or events to come than the limit."""
     lines = [f"T{at % 2}|w(a{at % 2})|{at % 2}.c:{at}\n" for at in range(600)]
     lines += [f"T{thread}|w(v{at})|{thread}.c:{at}\n" for thread in (2, 3) for at in range(210)]
     traces.write("trace", "".join(lines))

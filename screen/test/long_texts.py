@@ -23,7 +23,7 @@ async def bench_of(program, text):
 
 
 async def test_a_witness_that_fits_no_line(program):
-    """It is entered by batches, and the next undo takes all of them back. As a proposal it is not sent."""
+    """It is entered by batches, and the next undo takes all batches back. As a proposal it is not sent."""
     bench = await bench_of(program, "".join(f"T1|w(a{at % 9})|a:{at}\n" for at in range(300)) + "T2|w(a2)|b:1\n")
     line, steps.LINE = steps.LINE, 500
     events = Trace("trace").read_at_once().events_of[0]
@@ -43,7 +43,7 @@ async def test_a_witness_that_fits_no_line(program):
 
 
 async def test_a_run_that_goes_on(program):
-    """Many events are added at once, and the page is told how many are left."""
+    """Many events are added at once, and the page shows how many are left."""
     bench = await bench_of(program, "".join(f"T1|w(a{at % 9})|a:{at}\n" for at in range(300)))
     most, steps.MOST = steps.MOST, 130
     try:
@@ -60,7 +60,7 @@ async def test_a_run_that_goes_on(program):
 
 
 async def test_an_explanation_of_many_lines(program):
-    """The first ones are shown, and how the others are seen is said."""
+    """The first ones are shown, and how to see the others."""
     bench = await bench_of(program, traces.COUNT)
     more = "and {} more: racebench explain TRACE 7 12"
     for number, rest in ((500, [more.format("100 lines")]), (401, [more.format("1 line")]), (400, []), (9, [])):

@@ -1,4 +1,4 @@
-"""Windows with little room: what is asked for comes in sight, and places keep their file and line."""
+"""Windows with little room: what was opened comes in sight, and places keep their file and line."""
 
 import os
 
@@ -228,7 +228,7 @@ async def test_keys_say_why_they_do_nothing(program):
 
 
 async def test_fields_let_go_by_keys(program):
-    """F6 leads from a field to the next pane, and a name that is none is asked for again."""
+    """F6 leads from a field to the next pane. After a name that cannot be one, the field stays open."""
     traces.write("trace", traces.COUNT)
     async with Screen(program, "trace", "log") as screen, Browser() as browser:
         page = await browser.page(screen.link)
@@ -299,7 +299,7 @@ async def test_a_place_without_a_source(program):
         is_clean(page, screen)
 
 
-# What is in sight of these, and stands out of the window or is cut.
+# Elements that lie outside of the window, or are cut.
 OUTSIDE = """(() => [...document.querySelectorAll(
   "button, .what, .reason, .access, .access > .place, .pair-title, .title, dialog[open], .key")].filter((one) => {
     const box = one.getBoundingClientRect();
@@ -309,7 +309,7 @@ OUTSIDE = """(() => [...document.querySelectorAll(
 
 
 async def test_a_window_as_narrow_as_a_page_that_is_enlarged(program):
-    """In 320 pixels a race is found, its schedule rebuilt and proposed; nothing stands outside."""
+    """In 320 pixels a race is found, its schedule rebuilt and proposed; nothing lies outside."""
     traces.write("trace", traces.COUNT)
     async with Screen(program, "trace", "log") as screen, Browser() as browser:
         page = await browser.page(screen.link, 320, 640)
@@ -339,7 +339,7 @@ async def test_a_window_as_narrow_as_a_page_that_is_enlarged(program):
 
 
 async def test_lines_that_belong_together(program):
-    """Where there is little room the accesses come right below their title. A button does not touch a field."""
+    """With little room the accesses come right below their title. A button does not touch a field."""
     traces.write("trace", traces.COUNT)
     below = (
         "document.querySelector('.accesses').getBoundingClientRect().top - "
@@ -390,7 +390,7 @@ LONG_NAMES = """(() => {
 
 
 async def test_long_names_of_clients(program):
-    """They are cut, and not what the clients did. Their titles have all of them."""
+    """They are cut, and not what the clients did. Their titles have the full names."""
     traces.write("trace", traces.COUNT)
     traces.write("log.names", "1 Ada\n2 " + "W" * 40 + "\n")
     await session(program, 2, f"new B\npropose 7 12 0 2 3 4 5 6 1 8 9 10 11\nnew {'C' * 64}\n")
@@ -416,7 +416,7 @@ MARKS = """[...document.querySelectorAll('.away-line .who')].map((mark) => {
 
 
 async def test_clients_whose_names_look_alike(program):
-    """Before a name that may be cut stands its number, and before one that another client has too."""
+    """A name that may be cut has its number first, and so has one that another client has too."""
     traces.write("trace", traces.COUNT)
     long = "Engineer Alexandra Sm"
     names = {2: f"{long}ith", 3: f"{long}ythe", 4: "Sam", 5: "Sam", 6: "4", 7: "you", 8: "Catherine"}
@@ -522,7 +522,7 @@ async def test_paper_is_light(program):
 
 
 async def test_colours_of_the_system(program):
-    """What is chosen, and what is news, is told without colours of the page."""
+    """What is chosen, and what is news, is visible without colours of the page."""
     traces.write("trace", traces.COUNT)
     await session(program, 1, "new A\nnew B\n")
     async with Screen(program, "trace", "log") as screen, Browser() as browser:

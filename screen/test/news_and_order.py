@@ -1,4 +1,4 @@
-"""What an analyst notices: what is blue, the order of lists, where rows and the cursor are, what is said."""
+"""What an analyst notices: what is blue, the order of lists, where rows and the cursor are, what is announced."""
 
 import traces
 from browser import ALT, Browser
@@ -105,7 +105,7 @@ FRESH = (
 
 
 async def test_own_schedules_are_no_news(program):
-    """What this analyst did after the news of others is none of them."""
+    """What this analyst did after the news of others is no news."""
     traces.write("trace", FREE)
     await session(program, 1, "new A\n")
     async with Screen(program, "trace", "log") as screen, Browser() as browser:
@@ -180,13 +180,13 @@ AFTER_THE_END = (
 
 
 async def test_answers_that_are_lost_with_the_connection(program):
-    """What was drawn before stays, though the page had asked for more."""
+    """What was drawn before stays, though the page had requested more."""
     traces.write("trace", FREE)
     async with Screen(program, "trace", "log") as screen, Browser() as browser:
         page = await deaf(browser, screen, 3, script=DEAF.replace("Boolean(told.push) || ", ""))
         await page.run("hold()")
         await session(program, 2, "add A 5\n")
-        await page.until(f"{LENGTH} === '4 events'")  # rows and the list are asked for, and the answers held
+        await page.until(f"{LENGTH} === '4 events'")  # rows and the list are requested, and the answers held
         same(await page.run(AFTER_THE_END), [3, 5])
         await page.run("letGo()")
         await shows(page, 4)
@@ -361,7 +361,7 @@ async def test_a_group_of_many_threads(program):
 
 
 async def test_news_begin_where_the_last_look_ended(program):
-    """What comes to a group of entries that were seen is news, and stands above the line."""
+    """What comes to a group of entries that were seen is news, and is above the line."""
     traces.write("trace", FREE)
     await session(program, 2, "new A\nadd A 0\nadd A 1\n")
     fresh = "[...document.querySelectorAll('.entry.fresh .at')].map((e) => e.textContent).join()"
@@ -464,7 +464,7 @@ async def test_a_run_that_is_not_over(program):
         is_clean(page, screen)
 
 
-# What the page tells the server that it showed; and whether the page is hidden by another tab.
+# What the page reports to the server as shown; and whether another tab hides the page.
 TELLS = """{
   const send = WebSocket.prototype.send;
   window.told = [];
@@ -479,7 +479,7 @@ document.dispatchEvent(new Event("visibilitychange")); window.told.at(-1)"""
 
 
 async def test_news_that_come_while_the_page_is_hidden(program):
-    """What was shown before is seen, and what comes meanwhile is not until the page is there again."""
+    """What was shown before is seen, and what comes while the page is hidden is not until it is back."""
     traces.write("trace", FREE)
     counted = "document.getElementById('feed-count').textContent === '{}'"
     async with Screen(program, "trace", "log") as screen, Browser() as browser:
@@ -539,7 +539,7 @@ async def test_how_far_a_run_to_an_event_goes(program):
 
 
 async def test_why_a_read_of_the_pair_may_not_come_next(program):
-    """It is said, unless what the read would miss is the other one of the pair."""
+    """The page shows it, unless the other access of the pair is what the read would miss."""
     traces.write("trace", "T1|w(x)|a:1\nT1|w(x)|a:2\nT2|r(x)|b:1\n")
     pair = "[...document.querySelectorAll('#pair .access > .num')].map((e) => e.textContent).join()"
     but = "[...document.querySelectorAll('#pair .but')].map((e) => e.textContent).join()"

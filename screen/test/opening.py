@@ -95,7 +95,7 @@ async def test_what_others_did_is_counted_once(program):
 
 
 def test_the_page_asks_for_its_modules_at_once(program):
-    """Else each would be asked for as soon as the one that imports it was read."""
+    """Else each would be requested as soon as the one that imports it was read."""
     with open(os.path.join(STATIC, "index.html"), encoding="utf-8") as file:
         asked = re.findall(r'(?:modulepreload" href|script type="module" src)="/([a-z]+\.js)"', file.read())
     same(sorted(asked), sorted(name for name in os.listdir(STATIC) if name.endswith(".js")))

@@ -1,4 +1,4 @@
-"""As a hand does: what is pressed is what is meant, whatever others do until the button goes up."""
+"""As a hand does: what is pressed is what is meant, also if others change the page until the button goes up."""
 
 import time
 
@@ -227,14 +227,14 @@ async def test_keys_are_for_the_schedule_that_they_see(program):
 
 
 async def test_double_clicks(program):
-    """The second click hits what came under the hand meanwhile, and does not do that."""
+    """The second click hits what came under the hand after the first, and does not do that."""
     traces.write("trace", traces.COUNT)
     async with Screen(program, "trace", "log") as screen, Browser() as browser:
         page = await browser.page(screen.link)
         await page.until("document.querySelectorAll('.race').length === 1")
         await page.click(".race", times=2)
         await page.until(f"{OPEN} === 'Witness'")
-        await page.click("#bar button", 1, times=2)  # start empty; then the two buttons of a schedule stand there
+        await page.click("#bar button", 1, times=2)  # start empty; then the two buttons of a schedule are there
         await page.until(f"{OPEN} === 'r7-12' && {NEXT_LENGTH} === '0'")
         await page.click(".next", times=2)
         await page.until(f"{ROWS} === 2 && {NEXT_LENGTH} === '2'")
@@ -262,7 +262,7 @@ async def touch(page, x, y, when):
 
 
 async def test_double_taps(program):
-    """The second tap of a finger hits what came under it meanwhile, and does not do that. A later one does."""
+    """The second tap of a finger hits what came under it after the first, and does not do that. A later one does."""
     traces.write("trace", traces.COUNT)
     async with Screen(program, "trace", "log") as screen, Browser() as browser:
         page = await browser.page(screen.link)

@@ -1,4 +1,4 @@
-"""A program that answers questions is asked them, and one that does not is asked by batches; the page is the same."""
+"""A program that answers questions gets questions, and another one gets batches; the page is the same."""
 
 import os
 
@@ -53,7 +53,7 @@ async def test_questions_and_batches_say_the_same(program):
     del os.environ["WITNESS"]
     os.rename("log", "some.log")
     os.remove("asked")
-    os.environ["QUESTIONS"] = "unknown"  # one that answers none: it is asked by batches that are refused
+    os.environ["QUESTIONS"] = "unknown"  # one that answers none: it gets batches that are refused
     same(await walked(ASKING), plain)
     del os.environ["QUESTIONS"]
     with open("asked", encoding="ascii") as file:

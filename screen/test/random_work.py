@@ -54,7 +54,7 @@ TARGETS = """[...(document.querySelector("dialog[open]") ?? document.body).query
 
 
 class Program:
-    """What the program says of the log. It is asked as a client that makes no entry."""
+    """The program's answers about the log, by a client that makes no entry."""
 
     def __init__(self, program):
         words = [program, "session", "trace", "log", "--client", "31"]

@@ -23,7 +23,7 @@ NAMES = ["A", "B", "C", "D"]
 WITNESS = "7 12 0 2 3 4 5 6 1 8 9 10 11"
 
 
-# Lines as the format allows them, and the canonical text that they stand for.
+# Lines as the format allows them, and their canonical text.
 ODD = b"""  T1 |\tw( x )| a:1 \r
 
 T1|begin(start)|a:0
@@ -61,7 +61,7 @@ def test_a_trace_with_odd_lines(program):
     same([list(own) for own in trace.events_of], [[0, 2, 5, 7], [1], [3, 4], [6], [8]])
     same(trace.fork_of, {3: 5})
     told = subprocess.run([program, "info", "odd"], capture_output=True)
-    if told.returncode or told.stdout:  # a stand-in of the program says nothing
+    if told.returncode or told.stdout:  # a fake program prints nothing
         assert b"events 9" in told.stdout, told
 
 
@@ -303,7 +303,7 @@ def test_windows_are_parts_of_the_whole(program):
 
 
 def test_the_reads_of_a_write_that_are_named(program):
-    """As many as a line has room for; the page is told whether there are others."""
+    """As many as a line has room for; the page shows whether there are others."""
     traces.write("reads", "T0|w(x)|a:0\n" + "".join(f"T{at}|r(x)|b:{at}\n" for at in range(1, 27)))
     for reads, others in ((0, False), (1, False), (24, False), (25, True), (26, True)):
         sheet = Sheet(Trace("reads").read_at_once())

@@ -10,7 +10,7 @@ from comparing import same
 
 # As many characters as a text of a followed race has; a name of a trace has at most 255 bytes.
 LONG = 10_000
-# A path that looks like markup and like the words of a shell, and that is read from right to left.
+# A path that looks like markup and like a shell command, and that is read from right to left.
 PATH = "\u202e'; <b onload=x>&\"$(x).std"
 # The elements of a page in their order, each with the names of its attributes.
 OUTLINE = "[...document.querySelectorAll('*')].map((e) => [e.tagName, ...e.getAttributeNames().sort()].join(' '))"

@@ -1,5 +1,5 @@
 #!/usr/bin/python3
-"""Tests the screen: run.py PROGRAM [NAME..] by all tests, or those whose names have one of the words.
+"""Tests the screen: run.py PROGRAM [NAME..] by all tests, or those whose names contain a NAME.
 
 Each test runs in its own folder. One that fails is tried once more, when all others have ended; a test that
 passes then is a defect to be mended, and the last line names it. The last line is `N passed, M failed` otherwise.
@@ -96,8 +96,8 @@ async def end_browser():
 async def outcomes_of(program, cases):
     """Runs tests, and then those that failed once more: drawing and processes depend on what else the machine does.
 
-    Gives how many passed and how many failed, and the names of those that passed at their second try. Each of them is
-    a defect to be mended, of the page or of the test, which waits for less than its next step needs.
+    Returns how many passed and how many failed, and the names that passed at their second try. Each is a defect to be
+    mended, of the page or of the test, which waits for less than its next step needs.
     """
     number, failed, second = 0, [], []
     for name, test in cases:

@@ -1,4 +1,4 @@
-"""What stays in sight: answers are held back, and meanwhile somebody scrolls, the window changes, more news come."""
+"""What stays in sight: answers are held back while somebody scrolls, the window changes, more news come."""
 
 import contextlib
 import os
@@ -9,7 +9,7 @@ from two_analysts import session
 from stage import FRAMES, LENGTH, NEXT, Screen, focus, is_clean, press_at_once, settled
 from traces import COUNT, write
 
-# Holds back the answers to what is asked so, from `hold()` on until `letGo()`.
+# Holds back the answers to requests of some kinds, from `hold()` on until `letGo()`.
 HOLD = """(() => {
   const kinds = ["view"];
   const rows = new Set();
@@ -101,7 +101,7 @@ async def reading_of(program, width=1440):
 
 
 async def test_scrolling_up_while_rows_are_under_way(program):
-    """What was asked for while the end was in sight puts nobody back to it."""
+    """An answer to a request from the end of the list puts nobody back to the end."""
     async with reading_of(program) as reading:
         page = reading.page
         for by in (10 * ROW, 150 * ROW):  # to rows that are there, and to rows that must be fetched
@@ -124,7 +124,7 @@ async def test_scrolling_up_while_rows_are_under_way(program):
 
 
 async def test_scrolling_down_while_rows_are_under_way(program):
-    """Who comes to the end meanwhile stays there."""
+    """Who comes to the end before the answer does stays there."""
     async with reading_of(program) as reading:
         page = reading.page
         await page.run(f"{SCROLLED} = 900")

@@ -155,7 +155,7 @@ async def test_how_far_the_look_for_races_is(program):
 
 
 async def test_files_that_are_none(program):
-    """Pipes in place of the small files beside the log and the trace are passed over: nobody waits for a writer."""
+    """Pipes with the names of the small files beside log and trace are passed over: nobody waits for a writer."""
     for name in ("x\u202ey.std", "z" * 200):
         traces.write(name, traces.COUNT)
         for path in ("log.names", name + ".confirmed"):
@@ -452,7 +452,7 @@ async def test_keys_beyond_what_was_fetched(program):
 
 
 async def test_an_undo_of_very_many_entries(program):
-    """More come back at once than the page is told: what it has of them is not shown as if it stood."""
+    """More come back at once than the page gets: it does not show a part as if it were all."""
     traces.write("trace", "".join(f"T1|w(a{at % 9})|a:{at}\n" for at in range(60_000)))
     async with Screen(program, "trace", "log") as screen, Browser() as browser:
         page = await browser.page(screen.link)
@@ -484,7 +484,7 @@ PROPOSALS = "[...document.querySelectorAll('.proposal')].map((p) => p.textConten
 
 
 async def test_proposals_of_a_long_log(program):
-    """The latest are listed, whatever the feed was scrolled to, and each can be adopted from the feed."""
+    """The latest are listed, however far the feed was scrolled, and each can be adopted from the feed."""
     traces.write("trace", traces.COUNT)
     proposal = "propose 7 12 0 2 3 4 5 6 1 8 9 10 11\n"
     await session(program, 2, proposal * 9 + "new A\n" + "add A 0\nback A\n" * 200 + proposal * 2)
@@ -514,7 +514,7 @@ async def test_proposals_of_a_long_log(program):
 
 
 async def test_proposals_while_another_does_much(program):
-    """More comes at once than the page is told: what is proposed stays listed."""
+    """More comes at once than the page gets: what is proposed stays listed."""
     traces.write("trace", traces.COUNT)
     await session(program, 2, "new A\npropose 7 12 0 2 3 4 5 6 1 8 9 10 11\n")
     async with Screen(program, "trace", "log") as screen, Browser() as browser:
@@ -527,7 +527,7 @@ async def test_proposals_while_another_does_much(program):
         is_clean(page, screen)
 
 
-# What the server tells of a log that grows to this many entries while it is looked at.
+# What the server sends of a log that grows to this many entries while the page shows it.
 GROWS = """import("/feed.js").then((feed) => {
   for (let n = 300; n <= 9000; n += 300) {
     const entry = (at) => ({ number: n - 300 + at, client: 2, kind: "new", name: "B", text: "new B" });

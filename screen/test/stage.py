@@ -1,4 +1,4 @@
-"""What the tests stand on: a screen that is started, its socket, and what its page and its log say."""
+"""What the tests need: a screen that is started, its socket, and what its page and its log have."""
 
 import asyncio
 import itertools
@@ -12,7 +12,7 @@ from comparing import same, within
 
 SCREEN = os.path.join(os.path.dirname(os.path.dirname(os.path.abspath(__file__))), "screen")
 HEAD = 81
-# How long what takes seconds may take, and a process that is told to end.
+# How long what takes seconds may take, and a process after a request to end.
 PATIENCE, GRACE = 600, 300
 # With this code a socket is closed that named no key in time.
 LATE = 4408
@@ -124,8 +124,8 @@ async def comes(condition, seconds=PATIENCE):
 
 
 def logged():
-    """The calls in the log: its lines up to the first whose gate is closed. What a session that was killed left behind
-    that does not count, though each of its other lines has an open gate."""
+    """The calls in the log: its lines up to the first whose gate is closed. What a killed session left after that does
+    not count, though each of its other lines has an open gate."""
     with open("log", "rb") as file:
         lines = file.read()[HEAD:].split(b"\n")
     return [line[1:].decode() for line in itertools.takewhile(lambda line: line.startswith(b" "), lines)]

@@ -62,7 +62,7 @@ IN_THE_WAY = (
     (["batch back A ; back A", "add A 4"], (1, 1), 5),
     (["swap A 0"], (2, -1), 5),
     (["drop A", "new A", "add A 0", "add A 1", "add A 2", "add A 3"], "back", 10),
-    (["drop A", "new A", "add A 0"], (2, 1), 6),  # none of them put an event there
+    (["drop A", "new A", "add A 0"], (2, 1), 6),  # neither entry put an event there
 )
 
 
@@ -115,7 +115,7 @@ async def test_own_steps_are_no_others(program):
     """What the page did since then is as it was meant, among what others did elsewhere."""
     async with Alone(program) as alone:
         await alone.bench.say("swap A 2", "add A 4")
-        told = await steps.back(alone.shown([5]))  # it does not say that the second of them is its own
+        told = await steps.back(alone.shown([5]))  # it does not name the second entry as its own
         same(told["changed"], {"entry": 6, "client": 1, "name": "A"})
         await alone.other("swap A 1")
         told = await steps.back(alone.shown([5, 6]))
@@ -151,7 +151,7 @@ async def test_what_another_does_after_the_step(program):
 
 
 async def test_a_step_that_does_not_say_what_it_saw(program):
-    """It is for the schedule as it is when the step is asked for."""
+    """It is for the schedule as it is when the step comes."""
     async with Alone(program) as alone:
         await alone.other("add A 4")
         same(await steps.back(Shown(alone.bench, "A", None)), {"answer": "6: done", "made": [6]})
@@ -177,7 +177,7 @@ async def test_a_step_after_more_changes_than_are_kept(program):
 
 
 async def test_a_step_that_is_taken_back(program):
-    """Its entry and that of the undo are told, and whether it stays."""
+    """The answer has its entry and that of the undo, and whether it stays."""
     for does, more, made in (({}, {"made": 6}, [6, 7]), ({"undo_6": "add A 5"}, {"made": 6, "stays": True}, [6])):
         async with Alone(between(program, back_A="add A 4", **does)) as alone:
             told = await steps.back(alone.shown())
@@ -210,7 +210,7 @@ ORDERED = "T1|w(a)|a:0\nT1|w(a)|a:1\nT2|w(b)|b:0\nT2|w(c)|b:1\nT3|w(d)|c:0\n"
 
 
 async def test_how_far_a_move_goes(program):
-    """As far as the program lets it, and what stands in its way is told."""
+    """As far as the program lets it; the answer has the event in the way."""
     calls = ("new A", *(f"add A {event}" for event in range(5)))
     for what, moved, stop, events in (
         ((4, -4), 4, None, [4, 0, 1, 2, 3]),
@@ -227,7 +227,7 @@ async def test_how_far_a_move_goes(program):
             found = told.get("stop") and (told["stop"]["position"], told["stop"]["with"]["event"])
             same((what, told["moved"], found, alone.events()), (what, moved, stop, events))
             same(told["made"], [6] if moved else [])
-    async with Alone(program, (*calls, "swap A 3"), ORDERED) as alone:  # T3 stands between the two of T2
+    async with Alone(program, (*calls, "swap A 3"), ORDERED) as alone:  # T3 is between the two of T2
         told = await steps.move(alone.shown(length=7), 4, -3)
         same((told["moved"], told["made"], told["stop"]["position"], alone.events()), (1, [7], 2, [0, 1, 2, 3, 4]))
         told = await steps.move(alone.shown([7], length=7), 2, 2)
@@ -239,7 +239,7 @@ async def test_how_far_a_move_goes(program):
 
 
 async def test_how_far_a_run_goes(program):
-    """Up to the first event that may not come, which is told; and what several undos take back."""
+    """Up to the first event that may not come, which the answer has; and what several undos take back."""
     text = "T1|w(a)|a:0\nT2|w(b)|b:0\nT2|r(a)|b:1\nT2|w(b)|b:2\n"
     async with Alone(program, ("new A",), text) as alone:
         told = await steps.Run(alone.bench, "A").to(1, None)
@@ -252,19 +252,19 @@ async def test_how_far_a_run_goes(program):
         told = await steps.Run(alone.bench, "A").to(1, 2)
         same(told, {"added": 1, "entries": [3], "answer": "3: done"})
         await alone.other("new B")
-        told = await steps.undo(alone.bench, [4, 3])  # of several answers the refusal is told
+        told = await steps.undo(alone.bench, [4, 3])  # of several answers the refusal counts
         same((told["undone"], told["made"], "rests" in told), (1, [5], False))
         same(told["answer"].startswith("refused 58 "), True)
         told = await steps.undo(alone.bench, [1])
         same((told["undone"], told["made"], told["rests"]["entry"]["number"], told["rests"]["name"]), (0, [], 2, "A"))
         told = await steps.undo(alone.bench, [])
         same((told["answer"], told["undone"], told["made"]), ("6: undone 2", 1, [6]))
-        told = await steps.undo(alone.bench, [1, 0])  # of several answers the last is told
+        told = await steps.undo(alone.bench, [1, 0])  # of several answers the last counts
         same(told, {"answer": "8: undone 0", "undone": 2, "made": [7, 8]})
 
 
 async def test_a_missed_write_that_is_there(program):
-    """Another write came after it. No run of one thread helps, so none is told."""
+    """Another write came after it. No run of one thread helps, so the answer has none."""
     calls = ("new A", "add A 0", "add A 2")
     async with Alone(program, calls, "T0|w(x)|a:0\nT2|r(x)|c:0\nT1|w(x)|b:0\n") as alone:
         why = (await steps.add(alone.bench, "A", 1))["why"]
@@ -281,7 +281,7 @@ async def test_a_run_while_another_drops_the_schedule(program):
 
 
 async def test_a_move_while_another_drops_the_schedule(program):
-    """The part of it that may be made is refused too, and that is told."""
+    """The part of it that may be made is refused too, and the answer has the refusal."""
     calls = ("new A", "add A 0", "add A 1", "add A 2", "add A 4", "add A 3")
     async with Alone(between(program, swap_A_3="drop A"), calls, ORDERED) as alone:
         told = await steps.move(alone.shown(length=6), 4, -3)
@@ -290,7 +290,7 @@ async def test_a_move_while_another_drops_the_schedule(program):
 
 
 async def test_a_witness_that_is_entered(program):
-    """It is proposed and adopted in one batch, or the refusal is told."""
+    """It is proposed and adopted in one batch, or the answer has the refusal."""
     async with Alone(program, ("new A",), "T1|w(x)|a:0\nT2|w(x)|b:0\n") as alone:
         events = alone.bench.trace.events_of[0][:0]
         same(await steps.enter(alone.bench, "B", events, (0, 1)), {"answer": "2: done"})

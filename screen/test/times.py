@@ -1,8 +1,8 @@
 #!/usr/bin/python3
 """Times of the screen, as a browser sees them: times.py PROGRAM [BIG]. BIG is a trace of 1,048,576 events.
 
-It is no test: it prints figures, with the load of the machine, and the goal beside each. On a busy machine the
-processor time that is printed too tells more: that of screen, of the session, and of the page's main thread.
+It is no test: it prints figures, with the load of the machine, and the goal beside each. On a busy machine look at the
+processor time, which is printed too: that of screen, of the session, and of the page's main thread.
 """
 
 import asyncio
@@ -169,7 +169,7 @@ LENGTHS = """(() => { const cards = [...document.querySelectorAll('.race')];
 
 
 async def of_a_witness(page, screen):
-    """Opens the race with the longest witness of those in sight."""
+    """Opens the race in sight that has the longest witness."""
     began = time.monotonic()
     await page.until("document.querySelectorAll('.race').length > 0", 900)
     say("1,048,576 events: races after that", f"{time.monotonic() - began:.1f} s", "none")

@@ -1,4 +1,4 @@
-"""The runner of these tests: which tests it tries twice, what it counts, and what it prints."""
+"""The runner of the tests: which tests it tries twice, what it counts, and what it prints."""
 
 import contextlib
 import io

@@ -128,7 +128,7 @@ async def test_what_others_did_meanwhile(program):
 def children(process):
     """The sessions that a screen started. Each process says whose child it is, which all systems tell."""
     for child in filter(str.isdigit, os.listdir("/proc")):
-        with contextlib.suppress(OSError):  # it may end meanwhile
+        with contextlib.suppress(OSError):  # it may end before
             with open(f"/proc/{child}/stat", "rb") as file:
                 parent = int(file.read().rpartition(b")")[2].split()[1])
             with open(f"/proc/{child}/cmdline", "rb") as file:
@@ -247,7 +247,7 @@ async def test_a_trace_that_is_refused(program):
     raise AssertionError("the screen began on a trace that the program refuses")
 
 
-# On a machine that is very busy a page may name its key too late. What the page said meanwhile is kept in `lives`.
+# On a machine that is very busy a page may name its key too late. `lives` keeps the page's messages from before.
 LATE = (
     "const send = WebSocket.prototype.send; let first = null; window.lives = ''; "
     "WebSocket.prototype.send = function (text) { first ??= this; if (this !== first) send.call(this, text); }; "

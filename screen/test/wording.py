@@ -12,7 +12,7 @@ PROPOSAL = "propose 7 12 0 2 3 4 5 6 1 8 9 10 11\n"
 
 
 async def test_news_of_each_kind(program):
-    """What others did since the last look is said by analyst and schedule, the latest first, six lines at most."""
+    """News since the last look are listed by analyst and schedule, the latest first, six lines at most."""
     traces.write("trace", traces.COUNT)
     await session(program, 1, "new A\nnew B\nnew C\n")
     await session(program, 2, PROPOSAL)
@@ -40,7 +40,7 @@ async def test_news_of_each_kind(program):
 
 
 async def test_names_that_are_taken_or_gone(program):
-    """The program's refusals are said as a person says them, with its own words beside them."""
+    """Refusals are shown in plain words, with the program's text beside them."""
     traces.write("trace", traces.COUNT)
     async with Screen(program, "trace", "log") as screen, Browser() as browser:
         page = await browser.page(screen.link)
@@ -149,7 +149,7 @@ async def test_who_reads_whom(program):
 
 
 async def test_a_write_of_many_reads(program):
-    """Not all of them are named, and the page says so."""
+    """Not all reads are named, and the page says so."""
     traces.write("trace", "T0|w(x)|a:0\n" + "".join(f"T{at}|r(x)|b:{at}\n" for at in range(1, 26)))
     await session(program, 1, "new A\n" + "".join(f"add A {event}\n" for event in range(26)))
     async with Screen(program, "trace", "log") as screen, Browser() as browser:
@@ -199,7 +199,7 @@ BEYOND = """(() => {
 
 
 async def test_more_locks_at_once_than_have_room(program):
-    """From the third on they stand at one place, right of the first two."""
+    """From the third on they share one place, right of the first two."""
     traces.write("trace", "".join(f"T1|acq(l{at})|a:{at}\n" for at in range(4)) + "T1|w(x)|a:4\n")
     await session(program, 1, "new A\n" + "".join(f"add A {event}\n" for event in range(5)))
     async with Screen(program, "trace", "log") as screen, Browser() as browser:

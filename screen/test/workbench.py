@@ -44,7 +44,7 @@ async def test_races_filter_kinds_and_a_witness(program):
         await page.until("document.querySelectorAll('.race').length === 3")
         await page.click(".chip", 0)
         await page.until("document.querySelectorAll('.race').length === 1")
-        await page.click(".race")  # the pair that is apart: the explanation stands there
+        await page.click(".race")  # the pair that is apart: the explanation appears
         await page.until("document.querySelector('#note .explained')?.textContent.includes('apart')")
         title = await page.run("document.querySelector('#bar .line').textContent")
         assert title.startswith("No schedule shows this pairproved: "), title
@@ -345,7 +345,7 @@ async def test_many_threads(program):
         await new(page, 201)
         await press(page, "r")
         await page.until("document.querySelectorAll('.next.yes').length === 200")
-        await page.until(IN_SIGHT)  # the thread that has to wait stands behind the others now
+        await page.until(IN_SIGHT)  # the thread that has to wait comes after the others now
         for _ in range(10):  # a worker to its end, and the main thread to the next join
             await press(page, "f", "r")
         await page.until(f"{LENGTH} === '250 events'")

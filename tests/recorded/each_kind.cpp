@@ -1,4 +1,4 @@
-// The same with what C++ has of its own. One race is in it: the two lines at RACE.
+// The same with what C++ itself has. One race is in it: the two lines at RACE.
 #include <atomic>
 #include <condition_variable>
 #include <cstdio>

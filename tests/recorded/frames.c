@@ -35,7 +35,7 @@ static void share(struct job *job) {
     pthread_join(thread, NULL);
 }
 
-/* Each call has variables of its own, although they are at one address. */
+/* Each call has other variables, although they are at one address. */
 CALLED int round_of(int count) {
     int sum = 0, row[count];
     pthread_mutex_t lock = PTHREAD_MUTEX_INITIALIZER;

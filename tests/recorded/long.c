@@ -1,4 +1,4 @@
-/* Two threads count N times each without a lock, and sleep so many microseconds between: long COUNT PAUSE. */
+/* Two threads count N times each without a lock, and sleep PAUSE microseconds between: long COUNT PAUSE. */
 #include <pthread.h>
 #include <stdlib.h>
 #include <unistd.h>

@@ -1,5 +1,5 @@
 /* Threads that meet at one barrier again and again: who leaves a meeting late is not ordered with who comes to the next
- * one. So what both do between two meetings is a race, and what they do on both sides of a meeting is none. */
+ * one. So what both do between two meetings is a race, and what they do on both sides of a meeting is no race. */
 #include <pthread.h>
 static pthread_barrier_t all;
 static int racy, by_first, by_other;

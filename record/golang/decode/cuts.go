@@ -49,8 +49,8 @@ func (o *open) change(s *spanned, by int) {
 	}
 }
 
-// cut finds the parts, and which of them are shared: by two threads, and with a write. It returns how many of those
-// no line of the chosen files accesses: these are left out.
+// cut finds the parts, and which parts are shared: by two threads, and with a write. It returns the number of shared
+// parts that no line of the chosen files accesses: these are left out.
 func (c *cuts) cut() int {
 	begins, ends := map[uint64][]*spanned{}, map[uint64][]*spanned{}
 	for s, u := range c.spans {

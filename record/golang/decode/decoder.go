@@ -33,7 +33,7 @@ type place struct {
 	offset uint64
 }
 
-// Where an access is: its place of code, and the calls that led there.
+// The place of an access in the code, and the calls that led there.
 type spot struct {
 	pc    uint64
 	stack uint32

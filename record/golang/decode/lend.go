@@ -100,7 +100,7 @@ func (l *lender) isSeen(number int32, seen []uint32) bool {
 	return int(number) < len(seen) && seen[number] >= l.turns[number]
 }
 
-// So many finished goroutines are looked at for one that may lend its number.
+// At most this many finished goroutines are looked at for one that may lend its number.
 const mostLenders = 4096
 
 // pick returns the place of a number that may be lent, or -1; a free one adds no order.

@@ -59,7 +59,7 @@ func (m *memory) page(at uint64) *page {
 	return p
 }
 
-// allocate puts a block in place of what was there. A large block fills whole pages, as Go's allocator gives it.
+// allocate replaces what was there by a block. A large block fills whole pages, as Go's allocator gives it.
 func (m *memory) allocate(r *record) {
 	id := int32(m.next)
 	m.next++

@@ -81,7 +81,7 @@ func (o *origin) word() string {
 	return "heap"
 }
 
-// The name of a block: a variable of the program, or where the block was allocated and how many were before it.
+// The name of a block: a variable of the program, or the place of its allocation and how many were before it.
 func (n *naming) whole(id int32) string {
 	if name := n.names[id]; name != "" {
 		return name
@@ -175,7 +175,7 @@ func underlying(t dwarf.Type) dwarf.Type {
 	}
 }
 
-// Members of these are not named: a mutex has the name of its variable.
+// Members of these types are not named: a mutex has the name of its variable.
 var whole = map[string]bool{"sync.Mutex": true, "sync.RWMutex": true, "sync.WaitGroup": true, "runtime.hmap": true,
 	"runtime.hchan": true, "string": true}
 
@@ -199,7 +199,7 @@ func member(t dwarf.Type, offset int64) string {
 	return plus(offset)
 }
 
-// The words for functions of the runtime that a location names.
+// The text for functions of the runtime that a location names.
 var insides = map[string]string{
 	"chansend": "send", "chansend1": "send", "chanrecv": "receive", "chanrecv1": "receive", "chanrecv2": "receive",
 	"closechan": "close", "selectgo": "select", "selectnbsend": "send", "selectnbrecv": "receive",
@@ -269,7 +269,7 @@ func (n *naming) location(pc uint64, stack uint32, most int) string {
 	return strings.Join(l.parts, " < ")
 }
 
-// Whether the line of an access is in one of these files.
+// Whether the line of an access is in one of the files.
 func (n *naming) isIn(pc uint64, stack uint32, files []string) bool {
 	in := func(pc uint64) (bool, bool) {
 		for _, f := range n.at(pc) {

@@ -47,7 +47,7 @@ type forked struct {
 	parent, child uint32
 }
 
-// needs makes two passes: which objects several threads use, and which threads have lines of these.
+// needs makes two passes: which objects several threads use, and which threads have lines about such objects.
 func (d *decoder) needs() *needed {
 	n := &needed{last: map[uint32]int{}}
 	nothing := func(int32) {}

@@ -147,7 +147,7 @@ func startsWith(name string, starts ...string) bool {
 	return false
 }
 
-// Whether an atomic operation is of a lock, which has records of its own.
+// Whether an atomic operation is of a lock, which has separate records.
 func (p *places) insideLock(pc uint64) bool {
 	if known, there := p.inside[pc]; there {
 		return known

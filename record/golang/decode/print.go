@@ -12,7 +12,7 @@ import (
 
 type facts map[string]int
 
-// An acquire that stands at the beginning of a trace that leaves out its events before.
+// An acquire at the beginning of a trace that leaves out its events before.
 type heldLine struct {
 	event int
 	text  string

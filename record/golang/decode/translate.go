@@ -132,7 +132,7 @@ func (t *translation) section(r *record, of pair, reads, writes bool) {
 	t.line(r, opRelease, of.lock)
 }
 
-// newPass writes a release with a lock and a variable of its own.
+// newPass writes a release with a new lock and a new variable.
 func (t *translation) newPass(r *record, key passKey) passed {
 	t.number++
 	whole := objectKey{key.place, t.number, key.what}

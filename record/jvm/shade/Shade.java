@@ -15,8 +15,9 @@ import org.objectweb.asm.ClassWriter;
 import org.objectweb.asm.commons.ClassRemapper;
 import org.objectweb.asm.commons.Remapper;
 
-/** Shade OUT.jar CLASSES ASM.jar TABLE NAMES: makes the jar of the agent, which may have one of these names. ASM gets names of the agent in it, so a program that
- * has an ASM itself keeps that. */
+/** Shade OUT.jar CLASSES ASM.jar TABLE NAMES: makes the jar of the agent, which may have any of the NAMES.
+ *
+ * ASM gets names of the agent in it, so a program that has an ASM itself keeps that. */
 public final class Shade {
     private static final String ASM = "org/objectweb/asm/", OWN = "planecarmine/asm/";
     private static final long TIME = 946684800000L;

@@ -115,7 +115,7 @@ public class Classics {
         System.out.println("done");
     }
 
-    /** Producers and consumers around a buffer of wait and notify: clean but for the count of what was made. */
+    /** Producers and consumers around a buffer of wait and notify: clean except for the count of what was made. */
     static class Buffer {
         final Object[] slots = new Object[3];
         int in, out, size;

@@ -10,7 +10,7 @@ import java.util.concurrent.Executors;
 import java.util.concurrent.Future;
 import java.util.concurrent.TimeUnit;
 
-/** Clean but for `lost`: an executor, futures, a latch, a map, a queue, CompletableFuture. */
+/** Clean except for `lost`: an executor, futures, a latch, a map, a queue, CompletableFuture. */
 public class Pool {
     static int lost;
     static final ConcurrentHashMap<Integer, int[]> map = new ConcurrentHashMap<>();

@@ -1,5 +1,5 @@
 // Streams of C++ that threads read: two that read one stream without a lock race, and so do two of which one changes
-// what the other reads into. Behind a lock, and by the standard streams, there is no race.
+// what the other reads into. After a lock, and by the standard streams, there is no race.
 #include <atomic>
 #include <cstdio>
 #include <fstream>

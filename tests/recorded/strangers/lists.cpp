@@ -20,14 +20,14 @@ static void turns() {
     turned.reverse(); // RACE reverse
 }
 
-// Heads change their nodes: the sizes change too, and so do the nodes behind the heads.
+// Heads change their nodes: the sizes change too, and so do the nodes after the heads.
 static void swaps(int k) {
     std::shared_lock<std::shared_mutex> reading(m);
     if (k == 3) left.swap(right), full.swap(empty); // RACE swap
     if (k == 4 && left.front() + *std::prev(full.end()) == 9) std::puts("nine"); // RACE swap
 }
 
-// The nodes have the other head behind them.
+// The nodes have the other head after them.
 static void follows(int k) {
     static std::list<int> one{1}, two{2};
     static const auto first = two.begin();

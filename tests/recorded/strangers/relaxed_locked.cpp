@@ -1,4 +1,4 @@
-// Relaxed atomics whose order a lock gives: what was written before the lock was let go is there behind it.
+// Relaxed atomics whose order a lock gives: what was written before the lock was released is there after it is taken.
 #include <atomic>
 #include <cstdio>
 #include <mutex>

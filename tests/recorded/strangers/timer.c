@@ -1,4 +1,4 @@
-/* A timer whose function the C library calls in a thread of its own. */
+/* A timer whose function the C library calls in a new thread. */
 #include <pthread.h>
 #include <semaphore.h>
 #include <signal.h>

@@ -1,5 +1,5 @@
 /* Each way to lock for writing keeps writers and readers apart, and orders nothing else: what is written before one
- * section and behind another is a race, whichever came first. Readers are not kept apart. */
+ * section and after another is a race, whichever came first. Readers are not kept apart. */
 #define _GNU_SOURCE
 #include <pthread.h>
 #include <sched.h>

@@ -77,7 +77,7 @@ public final class Bridge {
         call.row.threw(call);
     }
 
-    /** What goes to the library in place of work that the program gives it. */
+    /** What the library gets instead of work that the program gives it. */
     public static Object wrap(Call call, Object work) { return wrap(call, work, false); }
     public static Object wrapOfTwo(Call call, Object work) { return wrap(call, work, true); }
 

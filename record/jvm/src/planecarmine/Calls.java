@@ -7,7 +7,7 @@ import java.util.ArrayList;
 final class Calls {
     private Calls() { }
 
-    /** At most so many nodes; calls beyond are those of their callers. */
+    /** The most nodes; calls beyond are those of their callers. */
     private static final int MOST = 1 << 22;
     private static long[] keys = new long[1 << 12];
     private static int[] methodOf = new int[1 << 12], values = new int[1 << 12];

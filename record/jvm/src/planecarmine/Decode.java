@@ -13,7 +13,7 @@ import java.util.List;
 public final class Decode {
     private Decode() { }
 
-    /** The words of the command. */
+    /** The arguments of the command. */
     static final class Given {
         String out = "-", raw;
         boolean isKilled;

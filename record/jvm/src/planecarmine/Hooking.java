@@ -102,7 +102,7 @@ final class Hooking extends ClassVisitor {
         m.visitInsn(does);
     }
 
-    /** Puts the arguments of a method on the stack; the local variable behind them. */
+    /** Puts the arguments of a method on the stack; the local variable after them. */
     static int arguments(MethodVisitor m, String receiver, String d) {
         int at = 0;
         if (receiver != null) m.visitVarInsn(ALOAD, at++);
@@ -133,7 +133,7 @@ final class Hooking extends ClassVisitor {
         }
     }
 
-    // ---- bridges, and methods in place of references
+    // ---- bridges, and methods that replace references
 
     /** The bridge for a method of the library. */
     BridgeMethod bridge(int opcode, String owner, String n, String d, boolean itf) {
@@ -146,7 +146,7 @@ final class Hooking extends ClassVisitor {
         return known;
     }
 
-    /** The name of a method that makes the call which a reference such as `latch::countDown` stands for. */
+    /** The name of a method that makes the call of a reference such as `latch::countDown`. */
     String reference(int opcode, String owner, String n, String d, boolean itf, int line) {
         String made = "rec$reference$" + references.size();
         String whole = BridgeMethod.withReceiver(opcode, owner, d);

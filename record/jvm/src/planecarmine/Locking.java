@@ -107,7 +107,7 @@ final class Locking {
     private static int kindIn(Things.Thing lock) { return lock.isReadWrite ? Kinds.WRITER_IN : Kinds.ACQUIRE; }
     private static int kindOut(Things.Thing lock) { return lock.isReadWrite ? Kinds.WRITER_OUT : Kinds.RELEASE; }
 
-    /** `Object.wait`: the monitor of the JVM has to be free too, so the thread waits there, and looks. */
+    /** `Object.wait`: the monitor of the JVM must be free too, so the thread waits there, and looks. */
     static void waitOn(Object o, long ms, int site) throws InterruptedException {
         Turns.T t = Turns.keep();
         Things.Thing m = t == null ? null : Things.of(t, o);

@@ -53,7 +53,7 @@ final class Naming {
                 : at(files.of(raw.files.get(site)), raw.lines.get(site));
     }
 
-    /** Whether a place is in one of these files, which are ends of paths. */
+    /** Whether a place is in a file of the list, which has ends of paths. */
     static boolean isIn(Raw raw, int site, List<String> only) {
         String path = site <= 0 || site >= raw.files.size() ? null : raw.files.get(site);
         for (String file : only) if (path != null && (path.equals(file) || path.endsWith("/" + file))) return true;

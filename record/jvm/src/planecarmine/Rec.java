@@ -354,7 +354,7 @@ public final class Rec {
 
     // ---- arrays that the library goes over
 
-    /** At most so many elements of a call are recorded. */
+    /** The most elements that are recorded for a call. */
     private static final int MOST_ELEMENTS = 1 << 12;
 
     public static void elements(Object a, int from, int to, boolean writes, int site) {

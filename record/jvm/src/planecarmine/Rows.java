@@ -193,7 +193,7 @@ final class Rows {
         }
     }
 
-    /** Each meeting at a barrier is an order of its own. */
+    /** Each meeting at a barrier is a separate order. */
     private static final class Barrier extends Row {
         @Override
         boolean before(Bridge.Call c) {

@@ -6,7 +6,7 @@ import java.util.HashSet;
 import java.util.Map;
 import java.util.Set;
 
-/** Names with as much of the package as tells them apart: `Config`, or `net.Config` and `disk.Config`. */
+/** Names with as much of the package as makes them differ: `Config`, or `net.Config` and `disk.Config`. */
 final class Short {
     private final char between;
     private final Map<String, Set<String>> ends = new HashMap<>();

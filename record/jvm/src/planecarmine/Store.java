@@ -10,13 +10,13 @@ import java.nio.charset.StandardCharsets;
 
 /** The raw file: chunks of records and chunks of names, written as the program runs.
  *
- * A chunk is written as zeros first, so a full disk is found here, and mapped then. So whatever ends the program, the
- * file has all records up to there. */
+ * A chunk is written as zeros first, so a full disk is found here, and mapped then. So the file has all records up to
+ * the end of the program, however it ends. */
 final class Store {
     private Store() { }
 
     private static final Object FILE = new Object(), NAMES = new Object();
-    /** So many chunks are written before the free space of the disk matters. */
+    /** How many chunks are written before the free space of the disk matters. */
     private static final int UNWATCHED = 64;
     private static String path;
     private static int chunks;

@@ -48,7 +48,7 @@ final class Turns {
         }
     }
 
-    /** A turn that came to no line that is new for its thread makes the next one twice as long, up to so many times. */
+    /** A turn that came to no line that is new for its thread makes the next one twice as long, up to LONGEST times. */
     private static final int LONGEST = 16;
     private static final boolean[] seen = new boolean[1 << 16];
     static final Object LOCK = new Object();
@@ -157,7 +157,7 @@ final class Turns {
         return t.needs == null || t.needs.owner == null;
     }
 
-    /** One of those in line who can go on, by chance; null if there is none. */
+    /** A thread in line that can go on, by chance; null if no thread can. */
     private static T choose() {
         int can = 0;
         for (T t : waiting) if (canGo(t)) can++;
@@ -306,7 +306,7 @@ final class Turns {
         }
     }
 
-    /** Takes the turn from a thread that made no progress meanwhile. */
+    /** Takes the turn from a thread that made no progress since it was seen. */
     static void force(T from, long seen) {
         synchronized (LOCK) {
             if (holder == from && progress == seen && !waiting.isEmpty()) {

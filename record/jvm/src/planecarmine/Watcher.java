@@ -2,10 +2,10 @@ package planecarmine;
 
 /** Takes the turn from a thread that waits in code without hooks. */
 final class Watcher extends Thread {
-    /** So many milliseconds are between two looks. */
+    /** Milliseconds between two looks. */
     private static final int LOOK = 5;
-    /** So many looks without progress pass before a thread that waits loses its turn; one that computes loses it after
-     * so many nanoseconds of processor time. */
+    /** Looks without progress until a thread that waits loses its turn; one that computes loses it after COMPUTES
+     * nanoseconds of processor time. */
     private static final int WAITS = 4;
     private static final long COMPUTES = 1_000_000_000;
 
