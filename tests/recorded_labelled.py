@@ -36,7 +36,7 @@ GROUPS = {
     "files and libraries": "file_lock.c opened_library.c",
     "short threads": "short_check.c hidden_by_lock.c",
 }
-# What only the pass of gcc sees.
+# What only our pass sees.
 OF_PASS = {"structs that calls return, and assembly": "struct_returned.c assembly.c"}
 
 
@@ -64,6 +64,6 @@ def judge_judge(racebench: str) -> None:
 
 
 def cases(racebench: str) -> list[tuple[str, object, tuple[str, ...]]]:
-    wanted = GROUPS | (OF_PASS if recorded_pass.has_headers() else {})
+    wanted = GROUPS | (OF_PASS if recorded_pass.has_headers("gcc") else {})
     groups = [(f"labelled: {name}", judge_group, (racebench, programs)) for name, programs in wanted.items()]
     return [*groups, ("labelled: what is missed", judge_judge, (racebench,))]

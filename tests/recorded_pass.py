@@ -1,4 +1,4 @@
-"""Judges the pass of gcc, which adds hooks where ThreadSanitizer puts none.
+"""Judges our passes of gcc and clang, which add hooks where ThreadSanitizer puts none.
 
 What no other judge sees: a write without a hook under a lock, by which triage turns sections of the lock round, and an
 access of a line of assembly that hides a race.
@@ -8,19 +8,22 @@ from __future__ import annotations
 
 import os
 import re
-import subprocess
+import sys
 
 from judging import Wrong
 from recorded_places import RECORD, TOP, ran
 
 SOURCE = os.path.join(TOP, "tests", "recorded", "handed_over.c")
 SEEDS = (1, 2)
+OPTIONS = ("-O0", "-O1", "-O2")
 
 
-def has_headers() -> bool:
-    """Whether gcc's headers for plugins are here."""
-    folder = subprocess.run(["gcc", "-print-file-name=plugin"], capture_output=True, text=True, check=False).stdout
-    return os.path.isfile(os.path.join(folder.strip(), "include", "gcc-plugin.h"))
+def has_headers(c: str) -> bool:
+    """Whether a compiler's headers for plugins are here."""
+    sys.path.insert(0, RECORD)
+    import plugins
+
+    return plugins.headers_of(plugins.CLANG if c == "clang" else plugins.GCC, c) is not None
 
 
 def lines_of_hands() -> set[str]:
@@ -38,9 +41,9 @@ def races(racebench: str, seed: int) -> set[tuple[str, str]]:
     return set(zip(places[::2], places[1::2]))
 
 
-def judge_hands(racebench: str, option: str) -> None:
+def judge_hands(racebench: str, c: str, option: str) -> None:
     """What is handed over under a lock is no race. What is written after that is one."""
-    environment = dict(os.environ, RECORD_CC="gcc")
+    environment = dict(os.environ, RECORD_CC=c)
     for twin, wanted in (([], set()), (["-DRACY"], {(place, place) for place in lines_of_hands()})):
         ran([os.path.join(RECORD, "cc"), option, *twin, SOURCE, "-o", "program"], env=environment)
         for seed in SEEDS:
@@ -50,9 +53,7 @@ def judge_hands(racebench: str, option: str) -> None:
 
 
 def cases(racebench: str, c: str) -> list[tuple[str, object, tuple[str, ...]]]:
-    if c != "gcc":
+    if not has_headers(c):
+        print(f"record/: our pass is not tested with {c}, since its headers for plugins are not here")
         return []
-    if not has_headers():
-        print("record/: the pass of gcc is not tested, since gcc's headers for plugins are not here")
-        return []
-    return [(f"what the pass of gcc adds, {option}", judge_hands, (racebench, option)) for option in ("-O0", "-O1", "-O2")]
+    return [(f"what our pass adds, {c} {option}", judge_hands, (racebench, c, option)) for option in OPTIONS]

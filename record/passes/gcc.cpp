@@ -19,8 +19,7 @@
 #include "asan.h"
 #include "plugin-version.h"
 #include <cstring>
-#include <initializer_list>
-#include <string>
+#include "instructions.hpp"
 
 int plugin_is_GPL_compatible;
 
@@ -110,49 +109,6 @@ void change_call(gimple_stmt_iterator *at, gcall *call) {
     split_result(at, call);
 }
 
-/* The instructions that are known here are those of x86-64. */
-#if defined __x86_64__
-const bool is_known_processor = true;
-#else
-const bool is_known_processor = false;
-#endif
-
-/* What the instructions of a template do. Moves are loads and stores; others, as prefetches, access nothing. */
-struct Instructions {
-    bool is_atomic = false, are_moves = true, access_nothing = true;
-
-    explicit Instructions(const std::string &text) {
-        for (size_t at = 0; at < text.size();) {
-            size_t end = text.find_first_of(";\n", at);
-            add(text.substr(at, end == std::string::npos ? end : end - at));
-            at = end == std::string::npos ? text.size() : end + 1;
-        }
-    }
-
-private:
-    static bool begins(const std::string &text, std::initializer_list<const char *> words) {
-        for (const char *word : words)
-            if (!text.compare(0, strlen(word), word)) return true;
-        return false;
-    }
-
-    static std::string without_blanks(const std::string &text) {
-        size_t first = text.find_first_not_of(" \t");
-        return first == std::string::npos ? "" : text.substr(first);
-    }
-
-    void add(const std::string &line) {
-        std::string text = without_blanks(line);
-        size_t label = text.find(':');
-        if (label != std::string::npos && text.find_first_of(" \t") > label)
-            text = without_blanks(text.substr(label + 1));
-        if (text.empty() || begins(text, {"#", "."})) return;
-        is_atomic |= begins(text, {"lock", "xchg"});
-        are_moves &= begins(text, {"mov"});
-        access_nothing &= begins(text, {"prefetch", "clflush", "clwb", "lea", "nop", "pause", "invlpg"});
-    }
-};
-
 /* Puts the hooks of a line of assembly before it. */
 class Hooks {
 public:
@@ -202,7 +158,7 @@ bool clobbers_memory(gasm *line) {
  * which the compiler moves no other access is an atomic load or store. */
 void hook_assembly(gimple_stmt_iterator *at, gasm *line) {
     Instructions all(gimple_asm_string(line));
-    if (!is_known_processor || all.access_nothing) return;
+    if (all.access_nothing) return;
     bool orders = all.are_moves && clobbers_memory(line);
     const char *update = all.is_atomic ? "__tsan_assembly_update" : NULL;
     Hooks hooks(at);

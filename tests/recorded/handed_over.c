@@ -1,5 +1,5 @@
 /* A thread hands data over by a write under a lock. The compiler puts no hook at the write, or none at what reads it,
- * so a pass of ours does. With RACY the data is written after the lock: each HAND is a race with itself. */
+ * so our pass does. With RACY the data is written after the lock: each HAND is a race with itself. */
 #include <pthread.h>
 #include <string.h>
 
