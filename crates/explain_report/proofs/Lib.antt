@@ -1,4 +1,5 @@
 pub mod AccessLemmas
+pub mod CauseLemmas
 pub mod HeldLemmas
 pub mod IndentLemmas
 pub mod LineLemmas
@@ -6,4 +7,3 @@ pub mod PieceLemmas
 pub mod RacedLemmas
 pub mod SectionLemmas
 pub mod StepLemmas
-pub mod ToldLemmas

@@ -131,21 +131,3 @@ abbrev pub cause_text : Recording → ℕ → Chain → List ℕ → List ℕ
 cause_text r d c words =
     indent_text d ++ codes "for " ++ thread_name r c.last ++ words ++ lock_name r c.first ++ codes " at " ++ decimal c.last
     ++ codes ", and that section began before:\n"
-
--- a chain is appended, after what it is for
-abbrev pub AddsCaused : Recording → ℕ → Chain → List ℕ → List ℕ → Type 0
-AddsCaused r deeper c old new =
-    (d : ℕ) × (takes : Bool) × (new ≡ old ++ (cause_text r d c (holding takes) ++ chain_text r deeper c))
-
--- The text has the lines of chains of this list: first those of the first chain, then those of others, each after
--- what it is for.
-pub data AreTold (r : Recording) (cs : List Chain) : List ℕ → Type 0 where
-  none : slice_get cs 0 ≡ None → AreTold r cs []
-  first : (c : Chain) → slice_get cs 0 ≡ Some c → AreTold r cs (chain_text r 0 c)
-  more :
-      (i d deeper : ℕ) (c : Chain) (takes : Bool) (m : List ℕ) → slice_get cs i ≡ Some c → AreTold r cs m
-      → AreTold r cs (m ++ (cause_text r d c (holding takes) ++ chain_text r deeper c))
-
--- `text` continues a text of these chains
-abbrev pub GoesOn : Recording → List Chain → List ℕ → Type 0
-GoesOn r cs text = (m : List ℕ) → AreTold r cs m → AreTold r cs (m ++ text)

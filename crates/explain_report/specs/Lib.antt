@@ -3,6 +3,7 @@ pub mod Witnesses
 pub mod Verdicts
 pub mod Accesses
 pub mod Chains
+pub mod Causes
 pub mod Sections
 pub mod Told
 pub mod findings

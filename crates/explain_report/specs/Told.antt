@@ -4,7 +4,7 @@ use Rattle.std.specs.Prelude.{◌≡◌, ℕ, List, ◌++◌, length, codes}
 use Rattle.rapid_text.specs.Recording.{Recording}
 use Rattle.must_order.specs.declared.chains.Chain.{Chain}
 use Rattle.explain_report.specs.Accesses.{pair_text}
-use Rattle.explain_report.specs.Chains.{AreTold}
+use Rattle.explain_report.specs.Causes.{AreTold}
 use Rattle.explain_report.specs.Sections.{IsSectionTold}
 use Rattle.explain_report.specs.Verdicts.{count_text, forced_head, guarded_head, race_head, undecided_head}
 use Rattle.explain_report.specs.declared.verdict.How.{How}

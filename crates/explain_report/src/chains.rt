@@ -1,11 +1,13 @@
 //! Prints chains of steps from event to event.
-ghost use Rattle.std.specs.Prelude.{◌≡◌, ◌++◌, Bool, Some, None, OnOk, IfOk};
-ghost use Rattle.explain_report.specs.Chains.{AddsCaused, AreTold, GoesOn, GoesTo, cause_text, chain_text, ended_text, holding, is_later, later_text, reason_text, step_text, steps_text};
+ghost use Rattle.std.specs.Prelude.{◌≡◌, ◌++◌, Some, None, IfOk};
+ghost use Rattle.explain_report.specs.Causes.{AreTold};
+ghost use Rattle.explain_report.specs.Chains.{GoesTo, chain_text, ended_text, is_later, later_text, reason_text, step_text, steps_text};
 ghost use Rattle.must_order.specs.declared.chains.Reason.TheVariants.{Written};
 ghost use Rattle.rapid_text.specs.Appended.{Appended, AppendedOne};
 
-use crate::event_lines::{append_line, append_lock_of, append_thread_of, op_of};
-use crate::pieces::{append_indent, append_number, append_words};
+use crate::causes::{append_causes, waiting_for};
+use crate::event_lines::{append_line, append_lock_of};
+use crate::pieces::{append_indent, append_words};
 use crate::raced::append_race_note;
 use event_index::Indexed;
 use must_order::{Analysis, Chain, Reason, Step};
@@ -24,135 +26,15 @@ pub(crate) fn append_chains(
         return Ok(());
     };
     append_chain(out, analysis, chain, 0)?;
-    append_causes(out, analysis, chains, chain)?;
-    Ok(())
-}
-
-/// Appends the other chains below the first one, which is already printed.
-fn append_causes(
-    out: &mut Vec<u8>,
-    analysis: &Analysis<'_>,
-    chains: &[Chain],
-    first: &Chain,
-) -> Result<(), OutOfMemory>
-    ensures { AppendedOne result out.old out.new (GoesOn analysis.now chains.now) }
-{
     let alloc = *out.allocator();
-    let mut told = vec![in alloc; false; chains.len()]?;
-    let mut open: Vec<(usize, u32)> = Vec::new(alloc);
-    open_causes(&mut open, &mut told, chains, first, 1)?;
-    for _chain in 0..chains.len() {
-        let Some((at, depth)) = open.pop() else {
-            break;
-        };
-        if at >= chains.len() {
-            break;
-        }
-        append_below(out, analysis, &chains[at], depth)?;
-        let deeper = depth.saturating_add(1);
-        open_causes(&mut open, &mut told, chains, &chains[at], deeper)?;
+    match waiting_for(alloc, chains, chain.steps.as_slice()) {
+        Ok(mut waiting) => append_causes(out, analysis, chains, &mut waiting),
+        Err(refused) => Err(refused),
     }
-    Ok(())
-}
-
-/// Appends what a chain is for, one step less deep, and the chain.
-fn append_below(
-    out: &mut Vec<u8>,
-    analysis: &Analysis<'_>,
-    chain: &Chain,
-    depth: u32,
-) -> Result<(), OutOfMemory>
-    ensures { OnOk result (AddsCaused analysis.now depth chain.now out.old.items out.new.items) }
-{
-    append_cause(out, analysis.indexed(), chain, depth.saturating_sub(1))?;
-    append_chain(out, analysis, chain, depth)?;
-    Ok(())
-}
-
-/// Adds to `open` the chains that show why the sections that this chain ends began first. The first one is added
-/// last.
-fn open_causes(
-    open: &mut Vec<(usize, u32)>,
-    told: &mut Vec<bool>,
-    chains: &[Chain],
-    chain: &Chain,
-    depth: u32,
-) -> Result<(), OutOfMemory> {
-    for step in chain.steps.as_slice().iter().rev() {
-        open_cause(open, told, chains, *step, depth)?;
-    }
-    Ok(())
-}
-
-/// Adds the chain that shows why the section that the step ends began first, unless `told` has it.
-fn open_cause(
-    open: &mut Vec<(usize, u32)>,
-    told: &mut Vec<bool>,
-    chains: &[Chain],
-    step: Step,
-    depth: u32,
-) -> Result<(), OutOfMemory> {
-    let Reason::Ended(acquire) = step.reason else {
-        return Ok(());
-    };
-    for at in 0..chains.len() {
-        if chains[at].first == acquire && chains[at].last == step.to {
-            let Some(known) = told.get_mut(at) else {
-                return Ok(());
-            };
-            if !*known {
-                *known = true;
-                open.push((at, depth))?;
-            }
-            return Ok(());
-        }
-    }
-    Ok(())
-}
-
-/// Appends what the chain is for: the section where it begins began before the one where it ends.
-fn append_cause(
-    out: &mut Vec<u8>,
-    indexed: &Indexed,
-    chain: &Chain,
-    depth: u32,
-) -> Result<(), OutOfMemory>
-    ensures { OnOk result ((takes : Bool) × (out.new.items ≡ out.old.items ++ cause_text indexed.now depth chain.now (holding takes))) }
-{
-    let takes = op_of(indexed, chain.last) == op_of(indexed, chain.first);
-    append_holding(out, indexed, chain, depth, takes)?;
-    Ok(())
-}
-
-/// The same if it is known whether the chain's last event acquires the lock.
-fn append_holding(
-    out: &mut Vec<u8>,
-    indexed: &Indexed,
-    chain: &Chain,
-    depth: u32,
-    takes: bool,
-) -> Result<(), OutOfMemory>
-    ensures { Appended result out.old out.new (cause_text indexed.now depth chain.now (holding takes)) }
-{
-    append_indent(out, depth)?;
-    append_words(out, b"for ")?;
-    append_thread_of(out, indexed, chain.last)?;
-    append_words(out, holding_of(takes))?;
-    append_lock_of(out, indexed, chain.first)?;
-    append_words(out, b" at ")?;
-    append_number(out, u64::from(chain.last))?;
-    append_words(out, b", and that section began before:\n")?;
-    Ok(())
-}
-
-fn holding_of(takes: bool) -> &'static [u8]
-    ensures { result.now ≡ holding takes }
-{
-    if takes { b" takes " } else { b" holds " }
 }
 
 /// Appends a chain at this depth: the event where it begins, and its steps.
-fn append_chain(
+pub(crate) fn append_chain(
     out: &mut Vec<u8>,
     analysis: &Analysis<'_>,
     chain: &Chain,

@@ -4,6 +4,7 @@
 
 mod accesses;
 mod apart;
+mod causes;
 mod chains;
 mod event_lines;
 pub mod findings;
