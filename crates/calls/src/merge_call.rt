@@ -15,8 +15,7 @@ use std::alloc::Global;
 /// Reads a whole file and takes in its parts: those of a merged report, or one part, which gets this name. `file` is
 /// the number of the file, counted from 1.
 ///
-/// The faults are 94, 96, 103, 104 and 114 (docs/FORMATS.md). After a fault, some parts of the file may have been taken
-/// in.
+/// The faults are 94, 96, 103, 104 and 114 (docs/FORMATS.md).
 pub fn read_part<S: Source>(
     alloc: Global,
     parts: &mut Parts,

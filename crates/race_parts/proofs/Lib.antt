@@ -10,4 +10,5 @@ pub mod QuoteLemmas
 pub mod ReadLemmas
 pub mod ScanLemmas
 pub mod SortLemmas
+pub mod UndoLemmas
 pub mod UnionLemmas

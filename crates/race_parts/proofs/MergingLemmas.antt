@@ -10,7 +10,7 @@ use Rattle.serde_json.specs.declared.value.Value.{Value}
 use Rattle.serde_json.specs.View.{view}
 use Rattle.serde_json.specs.Data.{Data}
 use Rattle.race_parts.specs.Lines.{AreLines, IsUnread}
-use Rattle.race_parts.specs.Merging.{IsPartRefused, IsRefused, IsReportRefused, IsUnsound, is_merged, is_merged_head, IsClash, IsLineRefused, IsPartText, IsSound, IsUnputOr, IsUntaken, ListsReport, ClashesIn, told_of}
+use Rattle.race_parts.specs.Merging.{IsPartRefused, IsRefused, IsReportRefused, IsUnsound, is_merged, is_merged_head, IsClash, IsLineRefused, IsPartText, IsSound, IsUnputOr, IsUntaken, ListsReport, ClashesIn, text_told, told_of}
 use Rattle.race_parts.specs.Parts.{AreThere, HasOther, HasPart, IfClash, IsPutFault, held_at, held_from, joined, single, text_at, told_in}
 use Rattle.race_parts.specs.declared.lines.PartRefusal.{PartRefusal}
 use Rattle.race_parts.specs.declared.lines.PartRefusal.TheVariants.{Line, Version, Clash, OutOfMemory}
@@ -25,6 +25,7 @@ pub record IsTaking (old now : Named) (file : ℕ) (lines left : List Value) (pl
   pub each : (q : Vec ℕ Global) → joined (text_at now q) (told_in (map told_of left) q.items) ≡ joined (text_at old q) (told_in (map told_of lines) q.items)
   pub parts : All (λ p. IsPartText p.1) (map told_of left) → All (λ p. IsPartText p.1) (map told_of lines)
   pub done : List Value
+  pub taken : All (λ v. IsPartText (text_told v)) done
   pub all : lines ≡ done ++ left
   pub place_is : place ≡ length done + 1
   pub held : (q : Vec ℕ Global) → held_at now q ≡ option_or (held_at old q) (held_from file (told_in (map told_of done) q.items))
@@ -35,6 +36,7 @@ taking_begins old file lines = record {
   each = λ q. refl;
   parts = λ all. all;
   done = [];
+  taken = All-nil (λ (v : Value). IsPartText (text_told v));
   all = refl;
   place_is = refl;
   held = λ q. sym (or-none (held_at old q));
@@ -77,6 +79,7 @@ pub taking_goes_on : (old now new : Named) (file : ℕ) (lines left behind : Lis
     → next ≡ length lines - length behind + 1
     → IsTaking old new file lines behind next
 taking_goes_on old now new file lines left behind v place next taking cut one took holds puts next_is =
+    let is_part : Value → Type 0 = λ e. IsPartText (text_told e) in
     let first : map told_of left ≡ told_of v ∷ map told_of behind = ap (map told_of) cut in
     let all : lines ≡ (taking.done ++ v ∷ []) ++ behind =
     taking.all ∙ ap (λ (vs : List Value). taking.done ++ vs) cut ∙ sym (append_assoc taking.done (v ∷ []) behind) in
@@ -90,6 +93,7 @@ taking_goes_on old now new file lines left behind v place next taking cut one to
           ∙ taking.each q;
       parts = λ rest. taking.parts (subst (λ (es : List (List ℕ × List ℕ)). All (λ p. IsPartText p.1) es) (sym first) (All-cons (λ (p : List ℕ × List ℕ). IsPartText p.1) (told_of v) (map told_of behind) one rest));
       done = taking.done ++ v ∷ [];
+      taken = All-append is_part taking.done (v ∷ []) taking.taken (All-cons is_part v [] one (All-nil is_part));
       all = all;
       place_is = omega (arith, long, next_is);
       held = λ q.
@@ -121,6 +125,7 @@ taking_stops old now file lines left behind v place (Line line) taking cut refus
   behind = behind;
   all = taking.all ∙ ap (λ (vs : List Value). taking.done ++ vs) cut;
   line_is = refused.0 ∙ taking.place_is;
+  before = taking.taken;
   why = refused.1.0;
   refused = refused.1.1;
 }

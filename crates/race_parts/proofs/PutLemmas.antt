@@ -22,7 +22,7 @@ equal_is Greater h = absurd (false≢true h)
 same_bytes : (xs ys : List ℕ) → is_at (bytes_cmp xs) ys ≡ true → xs ≡ ys
 same_bytes xs ys h = exact_bytes xs ys (equal_is (bytes_cmp xs ys) h)
 
-at_itself : (xs : List ℕ) → is_at (bytes_cmp xs) xs ≡ true
+pub at_itself : (xs : List ℕ) → is_at (bytes_cmp xs) xs ≡ true
 at_itself xs = ap is_eq (tied_itself nat_list_cmp_total xs)
 
 single-here : (name text q : List ℕ) → is_at (bytes_cmp q) name ≡ true → single name text q ≡ Some text

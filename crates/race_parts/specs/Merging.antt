@@ -155,14 +155,15 @@ IsLineRefused text number Version = ⊥
 IsLineRefused text number (Clash file) = ⊤
 IsLineRefused text number OutOfMemory = ⊤
 
--- One of these lines has a text that is not a part. The lines begin with the second line of the file, and the index
--- is the one in the file.
+-- This is the first of these lines whose text is not a part. The lines begin with the second line of the file, and the
+-- index is the one in the file.
 pub record IsNoPartIn (lines : List Value) (line : ℕ) : Type 0 where
   pub done : List Value
   pub value : Value
   pub behind : List Value
   pub all : lines ≡ done ++ value ∷ behind
   pub line_is : line ≡ length done + 1
+  pub before : All (λ v. IsPartText (text_told v)) done
   pub why : PartRefusal
   pub refused : IsPartRefused (said_text (codes "text") (view value)) why
 

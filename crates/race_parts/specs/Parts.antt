@@ -1,11 +1,11 @@
 -- Parts, stored by name, and how they are joined. All notions here are this project's own.
-use Rattle.std.specs.Prelude.{◌≡◌, ◌≢◌, ℕ, cond, All, List, Vec, Option, Some, None, option_map, Result, IfErr, ⊤}
+use Rattle.std.specs.Prelude.{◌≡◌, ◌≢◌, ℕ, Bool, true, false, cond, All, List, [], ◌∷◌, ◌++◌, map, Vec, Option, Some, None, is_some, option_map, Result, IfErr, ⊤}
 use Rattle.std.specs.declared.alloc.Global.{Global}
 use Rattle.std.specs.declared.cmp.Ordering.{Ordering}
-use Rattle.std.specs.BTreeMap.{BTreeMap, get, is_at}
+use Rattle.std.specs.BTreeMap.{BTreeMap, IsUnchanged, get, get_by, is_at}
 use Rattle.std.specs.Cmp.Lexicographic.{slice_cmp}
 use Rattle.std.specs.Ordering.{nat_cmp}
-use Rattle.std.specs.Map.{lookup}
+use Rattle.std.specs.Map.{lookup, remove_entry}
 use Rattle.std.specs.Option.{option_or}
 use Rattle.race_parts.specs.declared.lines.PartRefusal.{PartRefusal}
 use Rattle.race_parts.specs.declared.lines.PartRefusal.TheVariants.{Line, Version, Clash, OutOfMemory}
@@ -59,6 +59,36 @@ HasPart parts p = (key : Vec ℕ Global) → key.items ≡ p.0 → text_at parts
 -- each of these names has its text among the parts
 abbrev pub AreThere : BTreeMap (Vec ℕ Global) Part → List (List ℕ × List ℕ) → Type 0
 AreThere parts given = All (HasPart parts) given
+
+-- whether the name has a part
+abbrev pub has_name : BTreeMap (Vec ℕ Global) Part → List ℕ → Bool
+has_name parts name = is_some (get_by (λ k. bytes_cmp name k.items) parts)
+
+-- the entries but the one of this name
+abbrev pub without : List ℕ → List (Vec ℕ Global × Part) → List (Vec ℕ Global × Part)
+without name es = remove_entry (is_at (λ k. bytes_cmp name k.items)) es
+
+-- the entries without these names
+abbrev pub without_all : List (List ℕ) → List (Vec ℕ Global × Part) → List (Vec ℕ Global × Part)
+without_all [] es = es
+without_all (name ∷ names) es = without name (without_all names es)
+
+-- If the name had a part, the parts are as before. If not, they are so without this name.
+abbrev pub AddsOnly : BTreeMap (Vec ℕ Global) Part → BTreeMap (Vec ℕ Global) Part → List ℕ → Type 0
+AddsOnly old new name =
+    (has_name old name ≡ true → IsUnchanged old new) × (has_name old name ≡ false → without name new.entries ≡ old.entries)
+
+-- the texts of these byte vectors
+abbrev pub names_in : Vec (Vec ℕ Global) Global → List (List ℕ)
+names_in names = map (λ name. name.items) names.items
+
+-- without the added names, the new parts are the old ones
+abbrev pub IsUndone : BTreeMap (Vec ℕ Global) Part → BTreeMap (Vec ℕ Global) Part → Vec (Vec ℕ Global) Global → Type 0
+IsUndone old new added = without_all (names_in added) new.entries ≡ old.entries
+
+-- the name was added to these names, unless it has a part
+abbrev pub IsNoted : BTreeMap (Vec ℕ Global) Part → List ℕ → Vec (Vec ℕ Global) Global → Vec (Vec ℕ Global) Global → Type 0
+IsNoted parts name old new = names_in new ≡ names_in old ++ cond (has_name parts name) [] (name ∷ [])
 
 -- adding a part fails only because of a clash, or if memory runs out
 abbrev pub IsPutFault : PartRefusal → Type 0

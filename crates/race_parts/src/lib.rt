@@ -21,6 +21,7 @@ mod rows;
 mod scan;
 mod sharing;
 mod text;
+mod undoing;
 
 pub use cells::{Cell, Row, cells_of, event_in, rows_of};
 pub use counting::races_in;

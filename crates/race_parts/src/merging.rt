@@ -1,5 +1,6 @@
 //! Adds a file to the parts: a part, or a merged report with the parts in it.
-ghost use Rattle.std.specs.Prelude.{◌≡◌, ◌<◌, ◌∷◌, None, IfErr, IfOk, OnOk, length, map, not, position, true};
+ghost use Rattle.std.specs.Prelude.{◌≡◌, ◌<◌, ◌∷◌, [], None, IfErr, IfOk, OnErr, OnOk, length, map, not, position, true};
+ghost use Rattle.std.specs.BTreeMap.{IsUnchanged};
 ghost use Rattle.serde_json.specs.View.{view};
 ghost use Rattle.race_parts.specs.Kept.{AreKept};
 ghost use Rattle.race_parts.specs.Lines.{IsReadOn};
@@ -7,7 +8,7 @@ ghost use Rattle.race_parts.specs.Merging.{AreTextsAdded, Gives, GivesReport, Is
 ghost use Rattle.race_parts.specs.Merging.{AreWrongIn, IsLineRefused, IsPartRefused, IsRefused, IsReportRefused, IsSound, IsUnsound, IsUnputOr, IsUntaken};
 ghost use Rattle.race_parts.specs.Merging.{ClashesBy, ClashesIn, HasOtherIn, HasOtherLine, HasOtherPart, IsClash, ListsReport};
 ghost use Rattle.race_parts.specs.Merging.{is_foreign, is_merged_head, is_part_line, name_told, one_behind, part_lines, text_told, told_of, told_parts, wrong_behind_head, wrong_merged};
-ghost use Rattle.race_parts.specs.Parts.{AreMerged, AreMergedFrom, AreThere, HasOther, HasPart, IsPutFault, OnClash, held_at, single, told_in};
+ghost use Rattle.race_parts.specs.Parts.{AddsOnly, AreMerged, AreMergedFrom, AreThere, HasOther, HasPart, IsPutFault, IsUndone, OnClash, held_at, single, told_in};
 
 use crate::kept::KeptRow;
 use crate::lines::{Begun, PartRefusal, ReadRows, begin, lines_in, rows_in};
@@ -15,13 +16,14 @@ use crate::members::{has_number, has_text, is_kind, number_of, text_of};
 use crate::parts::{Part, Parts};
 use crate::putting::put;
 use crate::rows::{is_other_version, wrong_line};
+use crate::undoing::{note_new, take_out};
 use rapid_text::OutOfMemory;
 use serde_json::Value;
 use std::alloc::Global;
 
 /// Adds a file: a part, which gets this name, or a merged report, whose parts have names of their own. If the call
-/// fails, some parts of the file may already have been added. A `Clash` gives the number of the file that the other
-/// part came from. The other part was there before, or comes earlier in this file.
+/// fails, the parts are as before. A `Clash` gives the number of the file that the other part came from. The other part
+/// was there before, or comes earlier in this file.
 pub fn take_file(
     alloc: Global,
     parts: &mut Parts,
@@ -32,6 +34,7 @@ pub fn take_file(
     ensures ok { OnOk result (IsFileAdded parts.old parts.new (Gives name.now text.now)) }
     ensures held { OnOk result (IsFileAddedFrom file parts.old parts.new (Gives name.now text.now)) }
     ensures there { OnOk result (IsFileThere parts.new (Gives name.now text.now)) }
+    ensures unchanged { OnErr result (IsUnchanged parts.old parts.new) }
     ensures err { IfErr result (IsRefused text.now) }
     ensures clash { OnClash result (ClashesIn parts.old name.now text.now file) }
 {
@@ -73,6 +76,7 @@ fn take_part(
     ensures ok { OnOk result (IsPartAdded parts.old parts.new name.now text.now (view begun.entry.head)) }
     ensures held { OnOk result (AreMergedFrom file parts.old parts.new (single name.now text.now)) }
     ensures there { OnOk result (HasPart parts.new (name.now, text.now)) }
+    ensures unchanged { OnErr result (IsUnchanged parts.old parts.new) }
     ensures err { IfErr result (IsUnputOr (IsUnsound text.now (view begun.entry.head))) }
     ensures clash { OnClash result (HasOtherPart parts.old name.now text.now (view begun.entry.head)) }
 {
@@ -93,6 +97,8 @@ fn put_copy(
     ensures ok { OnOk result (AreMerged parts.old parts.new (single name.now text.now)) }
     ensures held { OnOk result (AreMergedFrom file parts.old parts.new (single name.now text.now)) }
     ensures there { OnOk result (HasPart parts.new (name.now, text.now)) }
+    ensures added { OnOk result (AddsOnly parts.old parts.new name.now) }
+    ensures unchanged { OnErr result (IsUnchanged parts.old parts.new) }
     ensures why { IfErr result IsPutFault }
     ensures clash { OnClash result (HasOther (held_at parts.old) name.now text.now) }
 {
@@ -194,6 +200,8 @@ fn take_line(
     ensures ok { OnOk result (IsLineAdded parts.old parts.new line.now) }
     ensures held { OnOk result (AreMergedFrom file parts.old parts.new (single (name_told line.now) (text_told line.now))) }
     ensures there { OnOk result (HasPart parts.new (told_of line.now)) }
+    ensures added { OnOk result (AddsOnly parts.old parts.new (name_told line.now)) }
+    ensures unchanged { OnErr result (IsUnchanged parts.old parts.new) }
     ensures err { IfErr result (IsLineRefused (text_told line.now) place) }
     ensures clash { OnClash result (HasOtherLine parts.old line.now) }
 {
@@ -213,7 +221,8 @@ fn first_line(lines: &[Value]) -> (&Value, &[Value])
     (&lines[0], &lines[1..])
 }
 
-/// Adds the parts in these lines. They begin with the second line of the file.
+/// Adds the parts in these lines. They begin with the second line of the file. If the call fails, the parts are as
+/// before.
 fn take_told(
     alloc: Global,
     parts: &mut Parts,
@@ -223,6 +232,34 @@ fn take_told(
     ensures ok { OnOk result (AreTextsAdded parts.old parts.new (map told_of lines.now)) }
     ensures held { OnOk result (AreMergedFrom file parts.old parts.new (told_in (map told_of lines.now))) }
     ensures there { OnOk result (AreThere parts.new (map told_of lines.now)) }
+    ensures unchanged { OnErr result (IsUnchanged parts.old parts.new) }
+    ensures err { IfErr result (IsUntaken lines.now) }
+    ensures clash { OnClash result (IsClash parts.old file (map told_of lines.now)) }
+{
+    let mut added = Vec::new(alloc);
+    match take_each(alloc, parts, lines, file, &mut added) {
+        Ok(()) => Ok(()),
+        Err(why) => {
+            take_out(parts, added);
+            Err(why)
+        }
+    }
+}
+
+/// The same, but if the call fails, the parts of some lines may have been added. `added` gets the new names, so that
+/// without these the parts are as before.
+fn take_each(
+    alloc: Global,
+    parts: &mut Parts,
+    lines: &[Value],
+    file: u32,
+    added: &mut Vec<Vec<u8>>,
+) -> Result<(), PartRefusal>
+    requires { added.old.items ≡ [] }
+    ensures ok { OnOk result (AreTextsAdded parts.old parts.new (map told_of lines.now)) }
+    ensures held { OnOk result (AreMergedFrom file parts.old parts.new (told_in (map told_of lines.now))) }
+    ensures there { OnOk result (AreThere parts.new (map told_of lines.now)) }
+    ensures undone { IsUndone parts.old parts.new added.new }
     ensures err { IfErr result (IsUntaken lines.now) }
     ensures clash { OnClash result (IsClash parts.old file (map told_of lines.now)) }
 {
@@ -230,6 +267,7 @@ fn take_told(
     let mut place = 1;
     'lines: while !left.is_empty() {
         let (line, behind) = first_line(left);
+        note_new(alloc, parts, text_of(line, "name"), added)?;
         take_line(alloc, parts, line, place, file)?;
         left = behind;
         place = lines.len().saturating_sub(behind.len()) + 1;
@@ -247,6 +285,7 @@ fn take_merged(
     ensures ok { OnOk result (IsReportAdded parts.old parts.new lines.now) }
     ensures held { OnOk result (AreMergedFrom file parts.old parts.new (told_in (told_parts lines.now))) }
     ensures there { OnOk result (AreThere parts.new (told_parts lines.now)) }
+    ensures unchanged { OnErr result (IsUnchanged parts.old parts.new) }
     ensures err { IfErr result (AreWrongIn lines.now) }
     ensures clash { OnClash result (HasOtherIn parts.old file lines.now) }
 {
@@ -280,6 +319,7 @@ fn take_report(
     ensures ok { OnOk result (IsFileAdded parts.old parts.new (GivesReport text.now)) }
     ensures held { OnOk result (IsFileAddedFrom file parts.old parts.new (GivesReport text.now)) }
     ensures there { OnOk result (IsFileThere parts.new (GivesReport text.now)) }
+    ensures unchanged { OnErr result (IsUnchanged parts.old parts.new) }
     ensures err { IfErr result (IsReportRefused text.now) }
     ensures clash { OnClash result (ClashesBy parts.old (ListsReport text.now) file) }
 {

@@ -1,6 +1,7 @@
 //! Adds a part to the others.
-ghost use Rattle.std.specs.Prelude.{IfErr, OnOk};
-ghost use Rattle.race_parts.specs.Parts.{AreMerged, AreMergedFrom, HasOther, HasPart, IsPutFault, OnClash, held_at, single};
+ghost use Rattle.std.specs.Prelude.{IfErr, OnErr, OnOk};
+ghost use Rattle.std.specs.BTreeMap.{IsUnchanged};
+ghost use Rattle.race_parts.specs.Parts.{AddsOnly, AreMerged, AreMergedFrom, HasOther, HasPart, IsPutFault, OnClash, held_at, single};
 
 use crate::lines::PartRefusal;
 use crate::parts::{Part, Parts};
@@ -11,6 +12,8 @@ pub(crate) fn put(parts: &mut Parts, name: Vec<u8>, part: Part) -> Result<(), Pa
     ensures ok { OnOk result (AreMerged parts.old parts.new (single name.items part.text.items)) }
     ensures held { OnOk result (AreMergedFrom part.file parts.old parts.new (single name.items part.text.items)) }
     ensures there { OnOk result (HasPart parts.new (name.items, part.text.items)) }
+    ensures added { OnOk result (AddsOnly parts.old parts.new name.items) }
+    ensures unchanged { OnErr result (IsUnchanged parts.old parts.new) }
     ensures why { IfErr result IsPutFault }
     ensures clash { OnClash result (HasOther (held_at parts.old) name.items part.text.items) }
 {

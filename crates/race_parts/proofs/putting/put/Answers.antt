@@ -1,5 +1,6 @@
 use Rattle.std.proofs.Common.{refl, rules}
 use Rattle.race_parts.proofs.PutLemmas.{added, added_there, held_added, held_kept, kept, kept_there}
+use Rattle.race_parts.proofs.UndoLemmas.{adds-kept, adds-new}
 use Rattle.race_parts.proofs.putting.put.Goals as goal
 
 pub returns-then-eq-clause-ok : goal.returns-then-eq-clause-ok
@@ -24,3 +25,9 @@ returns-in-Ok-clause-held c q = held_added c.args.parts.now c.insert.new.self c.
 
 pub returns-in-Ok-clause-there : goal.returns-in-Ok-clause-there
 returns-in-Ok-clause-there c key same = added_there c.args.parts.now c.insert.new.self c.args.name c.args.part c.in-Ok.ensures.updates key same
+
+pub returns-then-eq-clause-added : goal.returns-then-eq-clause-added
+returns-then-eq-clause-added c = adds-kept c.args.parts.now c.args.parts.now c.args.name.items refl
+
+pub returns-in-Ok-clause-added : goal.returns-in-Ok-clause-added
+returns-in-Ok-clause-added c = adds-new c.args.parts.now c.insert.new.self c.args.name c.args.part (search rules) c.in-Ok.ensures.entries
