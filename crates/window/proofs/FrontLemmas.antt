@@ -9,7 +9,8 @@ use Rattle.rapid_text.specs.Refusals.{no_memory as no_text}
 use Rattle.trace_rules.specs.Rules.{IsDisciplined, IsFirstBreach, no_memory}
 use Rattle.trace_rules.specs.declared.refusal.RuleCause.TheVariants.{OutOfMemory}
 use Rattle.trace_rules.specs.declared.refusal.RuleRefusal.{RuleRefusal}
-use Rattle.window.specs.Fronts.{HasTooManyEvents}
+use Rattle.window.specs.Fronts.{HasTooManyEvents, IsLongest, IsLongestBy, IsOver, KeepsOn}
+use Rattle.window.specs.declared.cutting.Window.{Window}
 use Rattle.window.specs.Heads.{IsReadAfter}
 use Rattle.window.specs.Tables.{found_name, has_fork, has_join, has_thread}
 use Rattle.window.specs.Streams.{IsFirstRefused, IsFront, IsHeldText, IsPast, IsUnrefused, IsKept, IsWhole, Past, Stands, Stream, feeds, fork_uses, join_uses, long_trace, no_past, own_uses, said_in}
@@ -22,7 +23,7 @@ use Rattle.std.proofs.lemmas.Cmp.{nat_list_eq_equiv}
 use Rattle.std.proofs.lemmas.Map.Made.{length-le_from_is_member}
 use Rattle.window.proofs.KnownLemmas.{next_is}
 use Rattle.window.proofs.RefusalLemmas.{feeds-append, none_behind, unrefused-append, refuses_law, too_large}
-use Rattle.window.proofs.StreamLemmas.{begins_law, breaks_law, read_is, said-append}
+use Rattle.window.proofs.StreamLemmas.{begins_law, breaks_law, read_is, rules_law, said-append}
 use Rattle.window.proofs.SummaryLemmas.{goes_law, long_piece, summary-size}
 
 pub whole-none : (text : List ℕ) → length text ≡ 0 → IsWhole text
@@ -186,3 +187,15 @@ threads_are read past all is each same =
     noted : (x : List ℕ) → ((has (own_uses (said_in read)) x || has (fork_uses (said_in read)) x) || has (join_uses (said_in read)) x) ≡ true
         → ((has past.seen x || has past.forked x) || has past.joined x) ≡ true
     noted x some = sym (ap₂ (λ a b. a || b) (ap₂ (λ a b. a || b) (is.seen x) (is.forked x)) (is.joined x)) ∙ some
+
+-- what was read and a piece that keeps the rules after a head
+pub keeps_on : (read head more : List ℕ) → IsUnrefused read → Stands read head more → IsKept (head ++ more) → KeepsOn read more
+keeps_on read head more own stands (r, reads, rules) = (
+  rules_law read head more r stands reads rules,
+  unrefused-append read more stands.whole own (none_behind head more r stands.ends reads),
+)
+
+-- the longest window after one head
+pub longest_on : (read head more : List ℕ) (most : ℕ) (w : Window) → Stands read head more → IsLongestBy (IsOver head more) more most w → IsLongest read more most w
+longest_on read head more most w stands (inl all) = inl all
+longest_on read head more most w stands (inr part) = inr (part.0, part.1, part.2, (head, stands, part.3))

@@ -1,5 +1,5 @@
 -- What is kept after a piece, and the windows after a head.
-use Rattle.std.proofs.Common.{◌≡◌, ℕ, ◌+◌, ◌-◌, ◌<◌, ◌≤◌, ◌||◌, List, [], ◌∷◌, ◌++◌, flat_map, All, Ok, codes, length, drop, take, cond, inl, inr, refl, sym, ap, ap₂, ◌∙◌, subst, arith}
+use Rattle.std.proofs.Common.{◌≡◌, ℕ, ◌+◌, ◌-◌, ◌/◌, ◌<◌, ◌≤◌, ◌||◌, nat_lt, List, [], ◌∷◌, ◌++◌, flat_map, All, Ok, codes, length, drop, take, cond, inl, inr, refl, sym, ap, ap₂, ◌∙◌, subst, arith}
 use Rattle.std.proofs.Math.Seq.{drop-append_seam}
 use Rattle.std.proofs.lemmas.Bool.{cases_lt, lt-ltb, le-ltb}
 use Rattle.std.proofs.lemmas.List.{length-append, length-map, take-append-le}
@@ -16,6 +16,8 @@ use Rattle.trace_rules.specs.Rules.{IsDisciplined, hold_count}
 use Rattle.window.specs.declared.cutting.Window.{Window}
 use Rattle.window.specs.Cuts.{IsCutAs, IsCutAt, last_end, prologue_size, with_name}
 use Rattle.window.specs.CutLaws.{IsWindowText}
+use Rattle.window.specs.Fronts.{IsLongestBy, IsOver, asked_of}
+use Rattle.rapid_text.specs.Limits.{event_limit}
 use Rattle.window.proofs.CutLemmas.{cut_at_law, cut_part}
 use Rattle.window.proofs.ReadLemmas.{long_said}
 use Rattle.window.specs.Renamed.{renamed}
@@ -221,3 +223,54 @@ window_place r q k most w lies =
     let ends = lies.cut.ends in
     let le : lies.cut.end ≤ k + most = last_most r k most lies.cut.end ends.within in
     (lies.from_is, omega (arith, lies.to_is, ends.some), omega (arith, lies.to_is, ends.some, le))
+
+last_is : (n k p most : ℕ) → n ≡ k + p → cond (nat_lt n (k + most)) n (k + most) ≡ k + cond (nat_lt p most) p most
+last_is n k p most long =
+    elim (cases_lt p most) [
+      | inl lt ↦
+          omega (
+            arith,
+            long,
+            ap (λ b. cond b n (k + most)) (lt-ltb n (k + most) (omega (arith, long, lt))),
+            ap (λ b. cond b p most) (lt-ltb p most lt),
+          )
+      | inr high ↦
+          omega (
+            arith,
+            ap (λ b. cond b n (k + most)) (le-ltb n (k + most) (omega (arith, long, high))),
+            ap (λ b. cond b p most) (le-ltb p most high),
+          )
+    ]
+
+-- half of nothing is no event
+half_some : (k m j : ℕ) → k < m → m - k ≡ (j - k) / 2 → k < j
+half_some k m j some half =
+    elim (cases_lt k j) [
+      | inl lt ↦ lt
+      | inr high ↦
+          let none : j - k ≡ 0 = omega (arith, high) in
+          let zero : (j - k) / 2 ≡ 0 = ap (λ (d : ℕ). d / 2) none in
+          absurd (omega (arith, some, half, zero))
+    ]
+
+-- the window has all events that are asked for, or twice as many do not fit
+pub window_longest : (head more : List ℕ) (r : Recording) (q k most : ℕ) (w : Window) → IsWhole head → reading_of (head ++ more) ≡ Ok r → k ≡ length (said_in head)
+    → IsCutAs r q k most w → IsLongestBy (IsOver head more) more most w
+window_longest head more r q k most w whole reads size lies =
+    let ends = lies.cut.ends in
+    let long : length r.events ≡ k + length (said_in more) = omega (arith, long_piece head more r whole reads, size) in
+    let last : last_end r k most ≡ k + asked_of more most = last_is (length r.events) k (length (said_in more)) most long in
+    elim ends.longest [
+      | inl all ↦ inl (omega (arith, all, last, lies.to_is, lies.from_is))
+      | inr part ↦
+          let j : ℕ = part.0 in
+          let after : k < j = half_some k lies.cut.end j ends.some part.1 in
+          let place : k + (j - k) ≡ j = omega (arith, after) in
+          let over : event_limit < prologue_size r k (k + (j - k)) + (j - k) = subst (λ (i : ℕ). event_limit < prologue_size r k i + (j - k)) (sym place) part.2 in
+          inr (
+            j - k,
+            omega (arith, part.3, last),
+            omega (arith, lies.to_is, lies.from_is, part.1),
+            (r, reads, subst (λ (i : ℕ). event_limit < prologue_size r i (i + (j - k)) + (j - k)) size over),
+          )
+    ]

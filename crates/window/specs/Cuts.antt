@@ -109,7 +109,9 @@ pub record IsEnd (r : Recording) (k most m : ℕ) : Type 0 where
   pub some : k < m
   pub within : m ≤ last_end r k most
   pub fits : Fits r k m
-  pub longest : (m ≡ last_end r k most) ⊎ ((j : ℕ) × (m - k ≡ (j - k) / 2) × (event_limit < prologue_size r k j + (j - k)))
+  pub longest :
+      (m ≡ last_end r k most)
+      ⊎ ((j : ℕ) × (m - k ≡ (j - k) / 2) × (event_limit < prologue_size r k j + (j - k)) × (j ≤ last_end r k most))
 
 -- The text is the window of the trace at k, with at most `most` events.
 pub record IsCut (r : Recording) (k most : ℕ) (text : List ℕ) : Type 0 where

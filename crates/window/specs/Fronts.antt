@@ -1,13 +1,14 @@
 -- Why a piece of a long trace is refused after the pieces before it.
-use Rattle.std.specs.Prelude.{◌≡◌, ◌⊎◌, ⊤, ℕ, ◌+◌, ◌^◌, ◌≤◌, List, [], ◌++◌, length, Err, Ok}
+use Rattle.std.specs.Prelude.{◌≡◌, ◌⊎◌, ⊤, ℕ, ◌+◌, ◌/◌, ◌^◌, ◌<◌, ◌≤◌, nat_lt, if◌then◌else◌, List, [], ◌++◌, length, Err, Ok}
+use Rattle.rapid_text.specs.Limits.{event_limit}
 use Rattle.rapid_text.specs.Reading.{reading_of}
 use Rattle.rapid_text.specs.Recording.{Recording}
 use Rattle.rapid_text.specs.declared.refusal.TextCause.TheVariants.{TooManyEvents, TooManyNames}
 use Rattle.rapid_text.specs.declared.refusal.TextRefusal.{TextRefusal}
 use Rattle.trace_rules.specs.Rules.{IsDisciplined, IsFirstBreach}
-use Rattle.window.specs.Cuts.{HasNoNewName}
+use Rattle.window.specs.Cuts.{HasNoNewName, prologue_size}
 use Rattle.window.specs.HeadText.{all_of, head_text}
-use Rattle.window.specs.Streams.{IsFirstRefused, IsKept, IsWhole, IsWindowAt, Stands, Stream, feeds, long_trace, said_in}
+use Rattle.window.specs.Streams.{IsFirstRefused, IsKept, IsUnrefused, IsWhole, IsWindowAt, Stands, Stream, feeds, long_trace, said_in}
 use Rattle.window.specs.declared.cutting.Window.{Window}
 use Rattle.window.specs.declared.fault.FrontFault.{FrontFault}
 use Rattle.window.specs.declared.fault.FrontFault.TheVariants.{Text, Rule, Unended, NoSuchEvent, NoName, TooManyThreads, TooLong, OutOfMemory}
@@ -66,3 +67,28 @@ IsWindowBehind head more number w =
     → number ≡ length (said_in front)
     → IsDisciplined (long_trace (front ++ (more ++ later)))
     → IsWindowAt (front ++ (more ++ later)) number w.to w.prologue w.text.items
+
+-- what was read and the piece after it keep the rules, and none of their lines is refused
+abbrev pub KeepsOn : List ℕ → List ℕ → Type 0
+KeepsOn read more = IsDisciplined (long_trace (read ++ more)) × IsUnrefused (read ++ more)
+
+-- the number of requested events: at most `most`, and no more than the piece has
+abbrev pub asked_of : List ℕ → ℕ → ℕ
+asked_of more most = if nat_lt (length (said_in more)) most then length (said_in more) else most
+
+-- after this head, a window of the piece's next j events is longer than a trace may be
+abbrev pub IsOver : List ℕ → List ℕ → ℕ → Type 0
+IsOver head more j =
+    (r : Recording) × (reading_of (head ++ more) ≡ Ok r)
+    × (event_limit < prologue_size r (length (said_in head)) (length (said_in head) + j) + j)
+
+-- The window has all requested events, or half of j events of which P holds.
+abbrev pub IsLongestBy : (ℕ → Type 0) → List ℕ → ℕ → Window → Type 0
+IsLongestBy P more most w =
+    (w.to ≡ w.from + asked_of more most) ⊎ ((j : ℕ) × (j ≤ asked_of more most) × (w.to ≡ w.from + j / 2) × P j)
+
+-- The window has all requested events, unless a window with twice as many events as this one would be longer
+-- than a trace may be.
+abbrev pub IsLongest : List ℕ → List ℕ → ℕ → Window → Type 0
+IsLongest read more most w =
+    IsLongestBy (λ j. (head : List ℕ) × Stands read head more × IsOver head more j) more most w

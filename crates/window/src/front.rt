@@ -3,7 +3,7 @@ ghost use Rattle.std.specs.Prelude.{◌≡◌, ◌+◌, ◌-◌, ◌<◌, ◌≤
 ghost use Rattle.rapid_text.specs.Appended.{IfFound};
 ghost use Rattle.rapid_text.specs.Limits.{event_limit};
 ghost use Rattle.rapid_text.specs.Reading.{first_uses, reading_of, thread_uses};
-ghost use Rattle.window.specs.Fronts.{IsFrontFault, IsHead, IsWindowAfter};
+ghost use Rattle.window.specs.Fronts.{IsFrontFault, IsHead, IsLongest, IsWindowAfter, KeepsOn};
 ghost use Rattle.window.specs.HeadText.{all_of, head_text};
 ghost use Rattle.window.specs.Heads.{IsReadAfter};
 ghost use Rattle.window.specs.Streams.{IsKept, IsPast, IsPieceFault, IsWhole, Stands, feeds, held_size, nothing_read, said_in};
@@ -119,6 +119,11 @@ impl Front {
         requires { 0 < most }
         ensures from { IfOk result (λ w. w.from ≡ length (said_in self.now.read)) }
         ensures most { IfOk result (λ w. (w.from < w.to) × (w.to ≤ w.from + most)) }
+        // It has `most` events, or all those of `more` if they are fewer. It has fewer only if a window with twice as
+        // many events as this one would be longer than a trace may be.
+        ensures to { IfOk result (IsLongest self.now.read more.now most) }
+        // What was read and all of `more` keep the rules, and none of their lines is refused.
+        ensures kept { IfOk result (λ w. KeepsOn self.now.read more.now) }
         // Whatever comes later, this is a window of the whole trace.
         ensures window { IfOk result (IsWindowAfter self.now.read more.now) }
         ensures fault { IfErr result (IsFrontFault self.now more.now) }
@@ -193,6 +198,8 @@ impl Front {
         requires most { 0 < most }
         ensures from { IfFound result (λ w. w.from ≡ length (said_in self.now.read)) }
         ensures most { IfFound result (λ w. (w.from < w.to) × (w.to ≤ w.from + most)) }
+        ensures to { IfFound result (IsLongest self.now.read more.now most) }
+        ensures kept { IfFound result (λ w. KeepsOn self.now.read more.now) }
         ensures window { IfFound result (IsWindowAfter self.now.read more.now) }
     {
         let Some(head) = self.whole_head(alloc)? else {
@@ -218,6 +225,8 @@ impl Front {
         requires size { head.now.size ≡ length (said_in head.now.text.items) }
         ensures from { IfOk result (λ w. w.from ≡ length (said_in self.now.read)) }
         ensures most { IfOk result (λ w. (w.from < w.to) × (w.to ≤ w.from + most)) }
+        ensures to { IfOk result (IsLongest self.now.read more.now most) }
+        ensures kept { IfOk result (λ w. KeepsOn self.now.read more.now) }
         ensures window { IfOk result (IsWindowAfter self.now.read more.now) }
         ensures err { IfErr result (IsPieceFault (head.now.text.items ++ more.now) head.now.size) }
     {

@@ -3,8 +3,8 @@ ghost use Rattle.std.specs.Prelude.{◌≡◌, ◌+◌, ◌<◌, ◌≤◌, ◌+
 ghost use Rattle.rapid_text.specs.Appended.{IfFound};
 ghost use Rattle.rapid_text.specs.Reading.{reading_of};
 ghost use Rattle.trace_rules.specs.Rules.{IsDisciplined};
-ghost use Rattle.window.specs.Fronts.{HasTooManyThreads, IsWindowBehind};
-ghost use Rattle.window.specs.Streams.{IsKept, IsPieceFault, IsRuleFault, said_in};
+ghost use Rattle.window.specs.Fronts.{HasTooManyThreads, IsLongestBy, IsOver, IsWindowBehind};
+ghost use Rattle.window.specs.Streams.{IsKept, IsPieceFault, IsRuleFault, IsWhole, said_in};
 
 use crate::cutting::{Window, cut_at};
 use crate::fault::CutFault;
@@ -133,12 +133,16 @@ pub(crate) fn window_after(
     number: u64,
     most: u32,
 ) -> Result<Window, PieceFault>
+    requires whole { IsWhole head.now }
     requires size { size ≡ length (said_in head.now) }
     requires number { number < 1000000000000000000 }
     requires most { 0 < most }
     ensures from { IfOk result (λ w. (w.from ≡ number) × (number < w.to) × (w.to ≤ number + most)) }
     // Whatever the head replaces, and whatever comes later, this is a window of the whole trace.
     ensures window { IfOk result (IsWindowBehind head.now more.now number) }
+    // It has all requested events, if they fit, and no line breaks a rule.
+    ensures longest { IfOk result (IsLongestBy (IsOver head.now more.now) more.now most) }
+    ensures kept { IfOk result (λ w. IsKept (head.now ++ more.now)) }
     ensures err { IfErr result (IsPieceFault (head.now ++ more.now) size) }
 {
     let trace = match piece(alloc, head, more) {

@@ -11,5 +11,8 @@ invariant-shorter l =
     record {
       some : l.from < l.to;
       within : l.to ≤ last_end l.trace l.from l.most;
-      longest : (l.to ≡ last_end l.trace l.from l.most) ⊎ ((j : ℕ) × (l.to - l.from ≡ (j - l.from) / 2) × (event_limit < prologue_size l.trace l.from j + (j - l.from)));
+      longest :
+          (l.to ≡ last_end l.trace l.from l.most)
+          ⊎ ((j : ℕ) × (l.to - l.from ≡ (j - l.from) / 2) × (event_limit < prologue_size l.trace l.from j + (j - l.from))
+          × (j ≤ last_end l.trace l.from l.most));
     }
