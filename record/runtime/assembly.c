@@ -1,6 +1,6 @@
 /* Lines of assembly, which have hooks if our pass finds memory among their operands. Interposes nothing; the pass puts
- * the calls in. Must give the token before the first operand only: another thread's access would come between the
- * records and the instructions. */
+ * the calls in. Gives the token before the first operand only, and must not give it later: another thread's access would
+ * come between the records and the instructions. */
 #include "accesses.h"
 #include "atomics.h"
 #include "callers.h"
