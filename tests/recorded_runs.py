@@ -377,12 +377,15 @@ def judge_once(c):
         )
         for name, record in (("first", RECORD), ("second", "clone"))
     ]
-    said = sorted(call.communicate(timeout=PATIENCE)[1] for call in calls)
-    if said != ["", COMPILED_ONCE] or any(call.returncode for call in calls):
-        raise Wrong(f"two calls of record/cc say {said}")
-    kept = os.listdir(os.path.join("cache", "racebench"))
-    if len(kept) != 1 or not re.match(r"recorder-[0-9a-f]+\.o$", kept[0]):
+    lines = [line for call in calls for line in call.communicate(timeout=PATIENCE)[1].splitlines()]
+    kept = sorted(os.listdir(os.path.join("cache", "racebench")))
+    forms = [re.sub(r"-[0-9a-f]+\.", ".", name) for name in kept]
+    passes = [name.removesuffix("_pass.so") for name in forms if name.endswith("_pass.so")]
+    if forms != [*(f"{name}_pass.so" for name in passes), "recorder.o"] or passes not in ([], ["gcc"], ["clang"]):
         raise Wrong(f"the recorder was not kept: {kept}")
+    wanted = sorted([COMPILED_ONCE.strip(), *(f"record: the pass of {name} is compiled, once" for name in passes)])
+    if sorted(lines) != wanted or any(call.returncode for call in calls):
+        raise Wrong(f"two calls of record/cc say {lines}")
 
 
 JUDGES = [
