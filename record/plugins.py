@@ -63,7 +63,7 @@ def compile_to(plugin: Plugin, compiler: str, path: str) -> int:
 
 
 def words_for(compiler: str, version: str) -> list[str]:
-    """The words by which a compiler of this version takes its plugin; none if there is no plugin for it."""
+    """The options by which a compiler of this version takes its plugin; none if there is no plugin for it."""
     plugin = CLANG if "clang" in version else GCC
     if built.folder() is None:
         return []

@@ -26,7 +26,7 @@ public:
         return size.isScalable() ? 0 : size.getFixedSize();
     }
 
-    /* A call of the hook of this name for so many bytes at an address. */
+    /* A call of the hook of this name for this many bytes at an address. */
     void put(Instruction *before, StringRef name, Value *address, uint64_t bytes, std::vector<int> more = {}) {
         IRBuilder<> maker(before);
         std::vector<Value *> arguments = {maker.CreatePointerCast(address, maker.getInt8PtrTy()),

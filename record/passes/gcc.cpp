@@ -78,7 +78,7 @@ void split_arguments(gimple_stmt_iterator *at, gcall *call) {
     }
 }
 
-/* The functions that gcc may put code in place of: a call of another function of the same name has hooks. */
+/* The functions that gcc may replace by code: a call of another function of the same name has hooks. */
 const char *name_of(enum built_in_function code) {
     switch (code) {
     case BUILT_IN_MEMCPY: return "memcpy";
