@@ -82,12 +82,20 @@ def write_words(file: IO[bytes], given: argparse.Namespace, kept: Kept, main: st
         "yield": getattr(given, "yield"),
         "room": given.room,
         "seed": given.seed,
-        "trace": kept.whole.hexdigest(),
-        "events": len(kept.lines),
+        **about_trace(kept),
         "program": digest_of(program) if program else "",
         "main": digest_of(main) if os.path.exists(main) else "",
         "go": go_root,
     }
+    write_head(file, words)
+
+
+def about_trace(kept: Kept) -> dict[str, Any]:
+    """What a clock has of the whole trace."""
+    return {"trace": kept.whole.hexdigest(), "events": len(kept.lines)}
+
+
+def write_head(file: IO[bytes], words: dict[str, Any]) -> None:
     text = json.dumps(words).encode()
     file.write(MAGIC + SIZE.pack(len(text)) + text)
 

@@ -13,13 +13,14 @@ from types import FrameType
 from typing import Dict, IO, Iterator, List, NamedTuple, Optional, Sequence, TextIO, Tuple
 
 import clocks
+import java_following
 import plans
 import raw as raw_file
 import running
 from golang import following as following_go
 
 NOT_FOLLOWING, FOLLOWING, STANDS, DEPARTED, DONE = range(5)
-OTHER_CODE, MISSED, WOULD_WAIT, HANGS, ENDED, OTHER_OUTCOME, OTHER_WORLD = range(1, 8)
+OTHER_CODE, MISSED, WOULD_WAIT, HANGS, ENDED, OTHER_OUTCOME, OTHER_WORLD, THREAD_ENDED = range(1, 9)
 
 # Freed memory is filled, and given out again late, so that its use after a free shows. Allocated memory is filled too.
 FILLED_HEAP = "glibc.malloc.perturb=85:glibc.malloc.tcache_count=0"
@@ -30,7 +31,7 @@ Words = Tuple[int, int]
 
 
 class Standing(NamedTuple):
-    """A thread right before its access: what it accesses and where, with its stack."""
+    """A thread right before its access: what it accesses and where, with its stack. A Java thread has texts."""
 
     thread: int
     at: int
@@ -40,6 +41,7 @@ class Standing(NamedTuple):
     value: Optional[Words]
     after: Optional[Words]
     frames: List[Tuple[int, int]]
+    shown: Optional[java_following.Shown] = None
 
 
 class Use(NamedTuple):
@@ -96,6 +98,8 @@ class Result:
     def __init__(self, data: bytes, plan: plans.Plan, rows: List[plans.Row], status: int, timed_out: bool) -> None:
         # Whether the program hung in a deadlock after the schedule.
         self.is_deadlock = False
+        # The place where a Java program departed.
+        self.place = ""
         words = plans.HEAD.unpack_from(data)[plans.WORDS_IN :]
         self.state, self.step, self.why, self.thread = words[:4]
         self.pos, self.kind, self.pc, self.expected = words[4:8]
@@ -132,7 +136,10 @@ class Result:
 
 
 def check_program(clock: clocks.Clock, words: Sequence[str]) -> None:
-    """The program must be the one that was recorded: its code is what a run is compared by."""
+    """The program must be the one that was recorded: its code is what a run is compared by. The agent compares the
+    classes of a Java program when they are loaded."""
+    if clock.words.get("java"):
+        return
     path = clocks.program_of(words[0])
     if not path or not os.path.exists(path):
         recorded_in = clock.words.get("cwd", "")
@@ -261,6 +268,8 @@ def surroundings_of(
     """The environment of a followed run."""
     paths = [f"/proc/{os.getpid()}/fd/{file.fileno()}" for file in (records, planned)]
     words = plan.clock.words
+    if words.get("java"):
+        return dict(os.environ)
     if words.get("go"):
         return following_go.surroundings(words, seed, paths)
     found: Dict[str, str] = running.environment(
@@ -269,6 +278,31 @@ def surroundings_of(
     if filled:
         found["GLIBC_TUNABLES"] = ":".join(filter(None, (found.get("GLIBC_TUNABLES"), FILLED_HEAP)))
     return found
+
+
+@contextlib.contextmanager
+def words_of(
+    plan: plans.Plan, seed: int, records: IO[bytes], planned: IO[bytes], words: List[str]
+) -> Iterator[List[str]]:
+    """The command that runs the program: that of the settings, unless java runs it."""
+    if not plan.clock.words.get("java"):
+        yield words
+        return
+    paths = [f"/proc/{os.getpid()}/fd/{file.fileno()}" for file in (records, planned)]
+    with java_following.words_for(plan.clock.words, words, seed, paths) as found:
+        yield found
+
+
+def take_texts(result: Result, records: IO[bytes]) -> None:
+    """Takes what the agent wrote of a Java program."""
+    told = java_following.told(records)
+    if told.other_class:
+        raise OtherProgram(f"the class {told.other_class} is another than the one that was recorded")
+    if not result.stands and not result.passed and result.state == FOLLOWING:
+        where = result.plan.clock.words["cwd"]
+        raise OtherProgram(f"java did not begin the program, which was recorded in {where}")
+    result.place, result.is_deadlock = told.place, told.is_deadlock
+    result.standing = [one._replace(shown=shown) for one, shown in zip(result.standing, told.shown)]
 
 
 def followed(
@@ -281,14 +315,18 @@ def followed(
         with tempfile.TemporaryFile(prefix="record") as planned:
             rows = plan.write(planned, order)
             surroundings = surroundings_of(plan, seed, records, planned, settings.filled_heap)
-            status, timed_out = runner.run(surroundings, out, settings)
+            with words_of(plan, seed, records, planned, settings.words) as words:
+                status, timed_out = runner.run(surroundings, out, settings._replace(words=words))
             if not os.fstat(records.fileno()).st_size:
                 raise OtherProgram(
                     f"{settings.words[0]} was not recorded: it has no recorder, or there is no room in TMPDIR"
                 )
             planned.seek(0)
             result = Result(planned.read(), plan, rows, status, timed_out)
-            result.is_deadlock = raw_file.words_of(records).deadlock > 0
+            if plan.clock.words.get("java"):
+                take_texts(result, records)
+            else:
+                result.is_deadlock = raw_file.words_of(records).deadlock > 0
             return result
     finally:
         if records is not settings.records:

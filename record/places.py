@@ -6,8 +6,16 @@ import subprocess
 import sys
 import tempfile
 from collections.abc import Sequence
+from typing import Protocol
 
 import decoders
+
+
+class Answers(Protocol):
+    """What answers where places of code are."""
+
+    def frames(self, address: int) -> list[tuple[str, str]]:
+        ...
 
 
 class Places:
@@ -59,3 +67,14 @@ class Places:
             function, _, place = line.rstrip("\n").partition(" ")
             found.append((function, place))
         return found
+
+
+class Named:
+    """Places of a Java program, which the clock has by their numbers."""
+
+    def __init__(self, names: dict[str, str]) -> None:
+        self.names = names
+
+    def frames(self, address: int) -> list[tuple[str, str]]:
+        name = self.names.get(f"{address:x}")
+        return [("", name)] if name else []

@@ -9,7 +9,7 @@ import following
 import places
 import raw as raw_file
 from golang import following as following_go
-from following import DEPARTED, HANGS, MISSED, OTHER_CODE, OTHER_OUTCOME, OTHER_WORLD, WOULD_WAIT
+from following import DEPARTED, HANGS, MISSED, OTHER_CODE, OTHER_OUTCOME, OTHER_WORLD, THREAD_ENDED, WOULD_WAIT
 
 # Kinds that have other names than in the header.
 KIND_WORDS = {
@@ -36,7 +36,9 @@ class Telling:
     def __init__(self, clock: clocks.Clock) -> None:
         self.clock = clock
         words = following_go.places_words(clock) if clock.words.get("go") else []
-        self.places = places.Places(clock.raw[: clock.head.words_at], words)
+        self.places: places.Answers = places.Places(clock.raw[: clock.head.words_at], words)
+        if clock.words.get("java"):
+            self.places = places.Named(clock.words["java"]["places"])
 
     def line(self, *addresses: int) -> str:
         """The line of the first of the addresses that has one."""
@@ -62,6 +64,8 @@ class Telling:
 
     def frames(self, standing: following.Standing) -> list[str]:
         """The stack of a thread at its access, the innermost frame first."""
+        if standing.shown:
+            return standing.shown.calls
         addresses = [standing.pc, *(site for _, site in standing.frames)]
         found = [frame for address in addresses for frame in self.places.frames(address)]
         return [f"{function} {place}" for function, place in found]
@@ -70,16 +74,13 @@ class Telling:
         """The lines of both threads at their accesses."""
         yield self.title(result)
         for letter, one in zip("AB", result.standing):
-            size = "1 byte" if one.size == 1 else f"{one.size} bytes"
-            text = f"  {letter}: T{one.thread}, {self.kind(one.kind)} of {size} at {one.at:x}"
-            text += f", which hold {value_of(one.value, one.size)}" if one.value else ""
-            yield text + (f", afterwards {value_of(one.after, one.size)}" if one.after else "")
+            yield f"  {letter}: T{one.thread}, {self.kind(one.kind)} of {accessed_by(one)}"
             yield from (f"    #{number} {frame}" for number, frame in enumerate(self.frames(one)))
         if not result.is_same_memory:
             yield "the two accesses are of different memory here"
 
     def reason(self, result: following.Result) -> str:
-        where, thread = self.line(result.pc), f"T{result.thread}"
+        where, thread = result.place or self.line(result.pc), f"T{result.thread}"
         if result.timed_out:
             return "the program did not come so far in time (--timeout)"
         expected = result.expected
@@ -89,6 +90,7 @@ class Telling:
             MISSED: f"{thread} went past it, at {where}",
             WOULD_WAIT: f"{thread} has to wait at {self.line(result.pc, result.last_pc)}",
             HANGS: f"nothing happened for {result.plan.patience} ms, and {thread} did not come",
+            THREAD_ENDED: f"{thread} ended",
             OTHER_OUTCOME: f"{thread}: a compare-and-swap at {where} came out otherwise",
             OTHER_WORLD: f"{thread}: a call at {where} that waits for the world was not answered as in the recording",
         }.get(result.why, "the program ended")
@@ -121,6 +123,18 @@ class Telling:
             yield f"{result.spurious} waits woke without a signal, as the schedule wants"
         if result.early:
             yield f"{result.early} events came earlier than in the schedule, which nothing forbids"
+
+
+def accessed_by(standing: following.Standing) -> str:
+    """What a thread accesses, and the value there before both accesses and after both."""
+    if standing.shown:
+        what, holds, after = standing.shown.accessed, standing.shown.before, standing.shown.after
+        text = what + (f", which holds {holds}" if holds is not None else "")
+        return text + (f", afterwards {after}" if after is not None else "")
+    size = "1 byte" if standing.size == 1 else f"{standing.size} bytes"
+    text = f"{size} at {standing.at:x}"
+    text += f", which hold {value_of(standing.value, standing.size)}" if standing.value else ""
+    return text + (f", afterwards {value_of(standing.after, standing.size)}" if standing.after else "")
 
 
 def value_of(words: tuple[int, int], size: int) -> str:

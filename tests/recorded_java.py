@@ -171,9 +171,10 @@ def cases(racebench: str) -> list[Case]:
 
 def all_cases(racebench: str) -> list[Case]:
     import recorded_java_ends
+    import recorded_java_followed
 
     found = cases(racebench)
-    return found + recorded_java_ends.cases(racebench) if found else []
+    return [*found, *recorded_java_ends.cases(racebench), *recorded_java_followed.cases(racebench)] if found else []
 
 
 def main() -> int:

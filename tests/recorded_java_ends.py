@@ -128,7 +128,6 @@ def judge_options() -> None:
 def judge_refused() -> None:
     """Wrong options and missing tools are refused with one line."""
     for words, text in (
-        (["--clock", "x", "-cp", ".", "Main"], "nothing follows a schedule of a Java program yet"),
         (["--no-free", "-cp", ".", "Main"], "a Java program frees nothing"),
         (["--all", "Main"], "--all is not there for Java: the trace leaves out no access"),
         (["--ordered", "to", "Main"], "--ordered is not there for Java: the trace leaves out no access"),

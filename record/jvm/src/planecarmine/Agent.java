@@ -62,7 +62,8 @@ public final class Agent implements ClassFileTransformer {
         by.addTransformer(new Agent(), true);
         by.retransformClasses(LibraryHooks.classes());
         if (given.out != null) Runtime.getRuntime().addShutdownHook(new AtEnd(given));
-        Turns.T main = Turns.register(Thread.currentThread());
+        Follow.begin(given);
+        Turns.T main = Turns.register(Thread.currentThread(), Follow.on ? 0 : -1);
         Turns.holder = main;
         main.go = true;
         Turns.on = true;
@@ -73,7 +74,7 @@ public final class Agent implements ClassFileTransformer {
     private static void loadOwn() throws ClassNotFoundException {
         for (String name : new String[] {"Rec", "Things", "Things$Thing", "Calls", "Calls$Cache", "Store", "Turns",
             "Turns$T", "Bridge", "Bridge$Call", "Work", "Work$Job",
-            "Work$JobOfOne", "Work$JobOfTwo", "Locking", "Row", "Rows"})
+            "Work$JobOfOne", "Work$JobOfTwo", "Locking", "Row", "Rows", "Follow", "Plan", "Places", "Standing"})
             Class.forName("planecarmine." + name).getDeclaredMethods();
     }
 
@@ -135,6 +136,7 @@ public final class Agent implements ClassFileTransformer {
             if (LibraryHooks.has(name)) return LibraryHooks.hooked(name, code);
             if (loader == null || Classes.isLibrary(name) || redefined != null) return null;
             if (loader == ClassLoader.getPlatformClassLoader()) return null;
+            note(loader, name, domain, code);
             byte[] made = hooked(loader, name, code);
             String keep = System.getProperty("planecarmine.keep");
             if (keep != null) Files.write(java.nio.file.Path.of(keep, name.replace('/', '.') + ".class"), made);
@@ -144,6 +146,16 @@ public final class Agent implements ClassFileTransformer {
             if (System.getProperty("planecarmine.debug") != null) e.printStackTrace();
             return null;
         }
+    }
+
+    /** Notes which file a class is of. A followed run ends if the recording had another one. */
+    private static void note(ClassLoader loader, String name, ProtectionDomain domain, byte[] code) {
+        if (domain == null || domain.getCodeSource() == null || domain.getCodeSource().getLocation() == null) return;
+        String digest = Long.toHexString(Places.digest(code));
+        Store.name(Kinds.LOADED, 0, 0, 0, name + " " + digest);
+        if (Follow.isRecorded(name, digest) || loader.getResource(name + ".class") == null) return;
+        Store.name(Kinds.FACT, 0, 0, 0, "other " + name.replace('/', '.'));
+        Runtime.getRuntime().halt(1);
     }
 
     /** The class with the hooks. A method that gets too large has none. */

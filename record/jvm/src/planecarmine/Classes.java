@@ -34,6 +34,7 @@ final class Classes {
 
     private static final Map<String, Integer> sites = new HashMap<>(), fields = new HashMap<>(), classes = new HashMap<>(),
             methods = new HashMap<>();
+    private static volatile long[] places = new long[1 << 10];
     private static final Map<Object, Map<String, Info>> infos = new java.util.WeakHashMap<>();
     private static final Info NONE = new Info();
 
@@ -51,7 +52,40 @@ final class Classes {
     }
 
     /** A line of a file; the file has the folders of its package. */
-    static int site(String file, int line) { return number(sites, Kinds.SITE, line, file); }
+    static int site(String file, int line) {
+        int site = number(sites, Kinds.SITE, line, file);
+        synchronized (sites) {
+            if (site >= places.length) places = java.util.Arrays.copyOf(places, 2 * site);
+            places[site] = Places.of(file, line);
+        }
+        return site;
+    }
+
+    /** The place of a site, which is the same in each run; 0 without one. */
+    static long place(int site) { return site > 0 && site < places.length ? places[site] : 0; }
+
+    static String textOf(int site) {
+        synchronized (sites) {
+            for (Map.Entry<String, Integer> one : sites.entrySet()) if (one.getValue() == site) return nameOf(one.getKey());
+        }
+        return "?";
+    }
+
+    /** `File.java:LINE` of the key of a site, which begins with the line. */
+    private static String nameOf(String key) {
+        int end = 0;
+        while (end < key.length() && Character.isDigit(key.charAt(end))) end++;
+        String line = key.substring(0, end), file = key.substring(Math.max(end, key.lastIndexOf('/') + 1));
+        return line.equals("0") ? file : file + ":" + line;
+    }
+
+    static String fieldName(int field) {
+        synchronized (fields) {
+            for (Map.Entry<String, Integer> one : fields.entrySet())
+                if (one.getValue() == field) return one.getKey().substring(1);
+        }
+        return null;
+    }
 
     static int method(String name) { return number(methods, Kinds.METHOD, 0, name); }
 

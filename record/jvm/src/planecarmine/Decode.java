@@ -16,6 +16,8 @@ public final class Decode {
     /** The arguments of the command. */
     static final class Given {
         String out = "-", raw;
+        /** For a clock: the files for the records, for the events and for the names. */
+        String records, events, names;
         boolean isKilled;
         long most = Long.MAX_VALUE, from;
         int frames = 8, mostThreads = Integer.MAX_VALUE;
@@ -31,6 +33,9 @@ public final class Decode {
                     case "--threads": mostThreads = Integer.parseInt(words[++k]); break;
                     case "--killed": isKilled = true; break;
                     case "--only": only.add(words[++k]); break;
+                    case "--records": records = words[++k]; break;
+                    case "--events": events = words[++k]; break;
+                    case "--names": names = words[++k]; break;
                     default: raw = words[k];
                 }
         }
@@ -64,12 +69,27 @@ public final class Decode {
         try (OutputStream out = opened(given.out)) {
             trace = new Trace(variables, naming, out, given);
             trace.mark(Losses.BEGIN);
-            trace.write(raw);
+            write(given, raw, trace, naming);
             losses = losses(given, raw, variables, trace);
             trace.mark(losses.end());
         }
         if (given.out.equals("-")) tell(raw, trace, losses);
         else tellInShort(raw, trace, losses);
+    }
+
+    /** Writes the events, and the parts of a clock if they are wanted. */
+    private static void write(Given given, Raw raw, Trace trace, Naming naming) throws IOException {
+        if (given.records == null) {
+            trace.write(raw);
+            return;
+        }
+        try (OutputStream records = opened(given.records); OutputStream events = opened(given.events);
+                OutputStream names = opened(given.names)) {
+            trace.clock = new Clock(raw, records, events);
+            trace.write(raw);
+            trace.clock.writeNames(naming, names);
+        }
+        if (trace.clock.hasTooMany) fact("no_clock", 1);
     }
 
     private static Losses losses(Given given, Raw raw, Variables variables, Trace trace) {

@@ -18,11 +18,20 @@ final class Kinds {
     /** A thread waits for a lock that another one has: so the lock is one of both. */
     static final int WANTED = 20;
 
-    /** Parts of an object that are no field and no element. */
-    static final int WHOLE = -1, LOCK = -2, ORDER = -3;
+    /** Parts of an object that are no field and no element. A lock that a thread has again is LATE if the time of its
+     * wait was over. */
+    static final int WHOLE = -1, LOCK = -2, ORDER = -3, LATE = -4;
+
+    /** Whether a record is a tick of its thread's clock. The others depend on what other threads did. */
+    static boolean isTick(int kind) { return kind <= JOIN; }
 
     /** Entries of the names. */
     static final int FIELD = 1, CLASS = 2, METHOD = 3, SITE = 4, CALL = 5, FACT = 6, NO_HOOKS = 7, UNKNOWN_THREAD = 8;
+    /** A class that has hooks, with a digest of its file. */
+    static final int LOADED = 9;
+    /** Of a followed run: a call of a thread right before its access, what it accesses, the value there, and the place
+     * where the run departs. */
+    static final int FRAME = 10, ACCESSED = 11, VALUE = 12, PLACE = 13;
 
     /** The two sorts of chunks of the raw file, and how each begins. */
     static final int MAGIC = 0x4a434c50, RECORDS = 1, NAMES = 2;

@@ -68,7 +68,7 @@ final class Locking {
         final int count, site;
         final long until;
         final Object mark = new Object();
-        boolean interrupted;
+        boolean interrupted, isLate;
 
         Waiting(Turns.T t, Things.Thing lock, Things.Thing queue, long nanos, int site) {
             this.t = t;
@@ -85,12 +85,16 @@ final class Locking {
             if (queue.waiters == null) queue.waiters = new ArrayList<>();
             queue.waiters.add(t);
             t.needs = lock;
+            t.waits = true;
+            t.isTimed = until != 0;
             Turns.parkWithout(t, mark);
         }
 
         /** If the time is over or the thread was interrupted, it waits for the lock alone. */
         void look() {
-            if ((interrupted || isOver()) && t.parkedAt == mark) Turns.unparkOne(t);
+            if (!interrupted && !isOver() || t.parkedAt != mark) return;
+            isLate = !interrupted;
+            Turns.unparkOne(t);
         }
 
         boolean isOver() { return until != 0 && System.nanoTime() - until > 0; }
@@ -98,9 +102,11 @@ final class Locking {
         void end() {
             queue.waiters.remove(t);
             t.needs = null;
+            t.waits = t.isTimed = false;
+            t.wasLate = Follow.on ? Follow.isLate(t) : isLate;
             lock.owner = t;
             lock.count = count;
-            if (Turns.on) Store.put(t, kindIn(lock), lock.number, Kinds.LOCK, site);
+            if (Turns.on) Store.put(t, kindIn(lock), lock.number, t.wasLate ? Kinds.LATE : Kinds.LOCK, site);
         }
     }
 
@@ -152,9 +158,13 @@ final class Locking {
 
     static void wake(Things.Thing queue, boolean all) {
         while (queue.waiters != null && !queue.waiters.isEmpty()) {
-            Turns.unparkOne(queue.waiters.remove(all ? 0 : Turns.draw(queue.waiters.size())));
+            Turns.unparkOne(queue.waiters.remove(all ? 0 : chosen(queue.waiters)));
             if (!all) return;
         }
+    }
+
+    private static int chosen(ArrayList<Turns.T> waiters) {
+        return Follow.on ? Follow.firstOf(waiters) : Turns.draw(waiters.size());
     }
 
     // ---- conditions

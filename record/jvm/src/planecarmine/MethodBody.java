@@ -184,13 +184,14 @@ final class MethodBody extends MethodVisitor {
         String hook = (reads ? "read" : "write") + (isStatic ? "Static" : "") + ((flags & ACC_VOLATILE) != 0 ? "Volatile" : "");
         int field = Classes.field(of.name, f);
         if (isStatic) {
-            super.visitLdcInsn(site());
-            hook("comes", "(I)V");
-            super.visitFieldInsn(opcode, owner, f, d);
+            // A first look makes the class, before the hook.
+            super.visitFieldInsn(GETSTATIC, owner, f, d);
+            super.visitInsn(d.equals("J") || d.equals("D") ? POP2 : POP);
             super.visitLdcInsn(field);
             super.visitLdcInsn(of.hasMaking ? Classes.making(of.name) : 0);
             super.visitLdcInsn(site());
             hook(hook, "(III)V");
+            super.visitFieldInsn(opcode, owner, f, d);
             return;
         }
         copyReceiver(opcode, d);

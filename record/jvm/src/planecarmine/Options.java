@@ -5,6 +5,8 @@ import java.io.File;
 /** The options of the agent: out=FILE writes the trace as the program ends, raw=FILE only the records. */
 final class Options {
     String out, raw;
+    /** Of a followed run: the plan, and the classes of the recording with the digests of their files. */
+    String follow, classes;
     long seed = 1, room = Long.MAX_VALUE;
     int oneIn = 40;
     double seconds;
@@ -30,6 +32,8 @@ final class Options {
         switch (name) {
             case "out": out = value; break;
             case "raw": raw = value; break;
+            case "follow": follow = value; break;
+            case "classes": classes = value; break;
             case "seed": seed = Long.parseUnsignedLong(value); break;
             case "yield": oneIn = Integer.parseInt(value); break;
             case "room": room = Long.parseLong(value); break;

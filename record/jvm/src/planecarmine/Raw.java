@@ -25,6 +25,7 @@ final class Raw implements AutoCloseable {
     /** The names by their numbers. */
     final List<String> fields = new ArrayList<>(), classes = new ArrayList<>(), methods = new ArrayList<>();
     final List<String> files = new ArrayList<>(), noHooks = new ArrayList<>(), unknownThreads = new ArrayList<>();
+    final List<String> loaded = new ArrayList<>();
     final List<Integer> lines = new ArrayList<>();
     final List<int[]> calls = new ArrayList<>();
     String stopped = "";
@@ -86,6 +87,7 @@ final class Raw implements AutoCloseable {
             case Kinds.CALL: calls.add(new int[] {a, b, c}); break;
             case Kinds.NO_HOOKS: noHooks.add(text); break;
             case Kinds.UNKNOWN_THREAD: unknownThreads.add(text); break;
+            case Kinds.LOADED: loaded.add(text); break;
             case Kinds.FACT:
                 if (text.startsWith("stopped ")) stopped = text.substring(8);
                 else cut += a;

@@ -49,7 +49,7 @@ public final class Rec {
         Store.put(t, kind, thing, field, site);
     }
 
-    /* After the access: the class is made then. The hook before gave the turn away, if it was to. */
+    /* The class is made by now: the method looks at the static before it calls the hook. */
     public static void readStatic(int field, int making, int site) { ofClass(Kinds.READ, field, making, site); }
     public static void writeStatic(int field, int making, int site) { ofClass(Kinds.WRITE, field, making, site); }
 
@@ -62,16 +62,13 @@ public final class Rec {
     }
 
     private static void ofClass(int kind, int field, int making, int site) {
-        Turns.T t = Turns.keep();
+        Turns.T t = Turns.comes(site);
         if (t == null) return;
         if (making != 0) uses(t, making, site);
         if (kind == Kinds.READ || kind == Kinds.ATOMIC_READ) Turns.reads(t, -field, site);
         else t.readSite = t.readSite2 = 0;
         Store.put(t, kind, 0, field, site);
     }
-
-    /** Before an access of a static: another thread may come first. */
-    public static void comes(int site) { Turns.comes(site); }
 
     public static void readElement(Object a, int i, int site) { element(Kinds.READ, a, i, site); }
     public static void writeElement(Object a, int i, int site) { element(Kinds.WRITE, a, i, site); }
@@ -193,7 +190,10 @@ public final class Rec {
 
     public static long awaitNanos(Condition c, long nanos, int site) throws InterruptedException {
         long from = System.nanoTime();
-        if (Locking.awaits(c, Math.max(nanos, 1), true, site)) return nanos - (System.nanoTime() - from);
+        if (Locking.awaits(c, Math.max(nanos, 1), true, site)) {
+            long left = nanos - (System.nanoTime() - from);
+            return Turns.me().wasLate ? Math.min(left, 0) : Math.max(left, 1);
+        }
         return without(() -> c.awaitNanos(nanos));
     }
 
@@ -221,7 +221,7 @@ public final class Rec {
         if (known == null || Turns.known(child) != null || child.getState() != Thread.State.NEW) return;
         Turns.T t = Turns.keep();
         if (t == null) return;
-        Turns.T c = Turns.register(child);
+        Turns.T c = Turns.register(child, Follow.childOf(t));
         c.isOfLibrary = !Agent.runsProgram(child);
         Store.put(t, Kinds.FORK, c.number, 0, t.site);
         if (!c.isOfLibrary) Turns.comesLater(c);
@@ -232,6 +232,7 @@ public final class Rec {
         Turns.T t = Turns.known(thread);
         if (t == null) return;
         Turns.take(t);
+        if (Follow.on) Follow.arriveAtEnd(t);
         t.ended = true;
         if (Turns.on) {
             Things.Thing own = Things.of(t, thread);
@@ -293,6 +294,10 @@ public final class Rec {
 
     public static boolean isAlive(Thread u, int site) {
         Turns.T t = Turns.comes(site), x = t == null ? null : Turns.known(u);
+        if (x != null && Follow.on) {
+            if (!Follow.isNext(t, Kinds.JOIN)) return u.getState() != Thread.State.NEW;
+            Turns.parkUntil(t, x, () -> x.ended);
+        }
         if (x == null || !x.ended) return u.isAlive();
         Store.put(t, Kinds.JOIN, x.number, 0, site);
         return false;

@@ -251,7 +251,11 @@ final class Rows {
     }
 
     private static final class Atomic extends Row {
-        @Override boolean before(Bridge.Call c) { return true; }
+        @Override
+        boolean before(Bridge.Call c) {
+            if (Follow.on) Follow.beforeAtomic(c.t, c.thing().number, Kinds.WHOLE, c.site);
+            return true;
+        }
 
         @Override
         void after(Bridge.Call c, Object result, boolean isTrue) {
@@ -262,7 +266,14 @@ final class Rows {
 
     /** An updater of a field, or a VarHandle: the field of the first argument, if it is known, else itself. */
     private static final class Updater extends Row {
-        @Override boolean before(Bridge.Call c) { return true; }
+        @Override
+        boolean before(Bridge.Call c) {
+            if (!Follow.on || c.on instanceof Class) return true;
+            int field = c.thing().field;
+            if (field > 0 && c.first != null) Follow.beforeAtomic(c.t, Things.of(c.t, c.first).number, field, c.site);
+            else Follow.beforeAtomic(c.t, field < 0 ? 0 : c.thing().number, field < 0 ? -field : Kinds.WHOLE, c.site);
+            return true;
+        }
 
         @Override
         void after(Bridge.Call c, Object result, boolean isTrue) {

@@ -42,12 +42,20 @@ final class Store {
 
     /** Writes a record; the caller has the turn. */
     static void put(Turns.T t, int kind, int thing, int part, int site) {
+        boolean isTick = Kinds.isTick(kind);
+        t.lastSite = site;
+        if (isTick && Follow.on) Follow.before(t, kind, thing, part, site);
         if (t.node != t.writtenNode) {
             t.writtenNode = t.node;
             write(Kinds.NODE, t.number, t.node, 0, 0);
         }
         write(kind, t.number, thing, part, site);
+        if (!isTick) return;
+        t.ticks++;
+        if (Follow.on) Follow.passed(t, kind, site);
     }
+
+    static long written() { return written; }
 
     private static void write(int kind, int thread, int thing, int part, int site) {
         if (at == Kinds.CHUNK && !nextRecords()) return;

@@ -69,6 +69,12 @@ final class Things {
         return found;
     }
 
+    /** The thing with a number, if its object is there. */
+    static Thing numbered(int number) {
+        for (Thing first : table) for (Thing t = first; t != null; t = t.next) if (t.number == number) return t;
+        return null;
+    }
+
     /** An object was made by the program, at a place. */
     static void allocated(Turns.T t, Object o, int site) {
         Thing found = found(o);

@@ -21,6 +21,8 @@ final class Trace {
     long events, written, before, leftOut, bytes;
     int threadCount;
     boolean tooManyThreads, hasThreads;
+    /** What is written for a clock; null without a clock. */
+    Clock clock;
     private boolean begun;
     private IOException failed;
 
@@ -41,6 +43,7 @@ final class Trace {
 
     private boolean take(Raw.Record r) {
         try {
+            if (clock != null) clock.take(r);
             print(r);
         } catch (IOException e) {
             failed = e;
@@ -137,7 +140,10 @@ final class Trace {
         String text = "T" + r.thread + "|" + word + "(" + name + ")|" + naming.location(r.site, r.node) + "\n";
         if (begun) {
             if (written >= most || isThreadTooMany(r, word)) leftOut++;
-            else write(text);
+            else {
+                if (clock != null) clock.event();
+                write(text);
+            }
             return;
         }
         before++;

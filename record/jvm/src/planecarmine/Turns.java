@@ -40,6 +40,12 @@ final class Turns {
         boolean[] uses = new boolean[64];
         Object firstObject, secondObject;
         Things.Thing firstThing, secondThing;
+        /** Its clock: how many records it has made. A followed run lets it pass the record with this clock early. */
+        long ticks, mayPass;
+        /** The place of its last record. */
+        int lastSite;
+        /** It is at its end; it is in a `wait`, and in one with a time; the last one ended since its time was over. */
+        boolean atEnd, waits, isTimed, wasLate;
 
         T(int number, Thread thread, boolean isUnknown) {
             this.number = number;
@@ -69,11 +75,14 @@ final class Turns {
         return (int) (((chance * 2685821657736338717L) >>> 33) % below);
     }
 
-    /** A thread that the program starts. */
-    static T register(Thread thread) {
+    /** A thread that the program starts. In a followed run it may have a number of the plan. */
+    static T register(Thread thread, int numberInPlan) {
         synchronized (LOCK) {
             T t = threads.get(thread);
-            if (t == null) threads.put(thread, t = new T(known++, thread, false));
+            if (t != null) return t;
+            known = Math.max(known, Follow.threads());
+            threads.put(thread, t = new T(numberInPlan >= 0 ? numberInPlan : known++, thread, false));
+            Follow.isThere(t);
             return t;
         }
     }
@@ -105,12 +114,14 @@ final class Turns {
     static T keep() {
         if (!on) return null;
         T t = me();
-        if (holder == t) return t;
-        if (t.isUnknown) {
-            Agent.isUnknown(t.thread);
-            return null;
+        if (holder != t) {
+            if (t.isUnknown) {
+                Agent.isUnknown(t.thread);
+                return null;
+            }
+            take(t);
         }
-        take(t);
+        if (Follow.on) Follow.arrive(t);
         return on ? t : null;
     }
 
@@ -121,7 +132,7 @@ final class Turns {
         progress++;
         int k = (site ^ t.number << 20) * 0x9e3779b9 >>> 16;
         if (!seen[k]) seen[k] = t.news = true;
-        if (--t.left <= 0 && t.quiet == 0) passOn(t);
+        if (--t.left <= 0 && t.quiet == 0 && !Follow.on) passOn(t);
         return t;
     }
 
@@ -153,22 +164,28 @@ final class Turns {
         }
     }
 
-    private static boolean canGo(T t) {
+    static boolean canGo(T t) {
         return t.needs == null || t.needs.owner == null;
     }
 
-    /** A thread in line that can go on, by chance; null if no thread can. */
+    /** A thread in line that can go on, by chance or by the plan; null if no thread can. */
     private static T choose() {
+        T t = Follow.on ? Follow.choose(waiting) : drawn();
+        if (t == null) return null;
+        waiting.remove(t);
+        t.inLine = false;
+        return t;
+    }
+
+    private static T drawn() {
         int can = 0;
-        for (T t : waiting) if (canGo(t)) can++;
+        for (T t : waiting) if (canGo(t) && !Follow.holdsBack(t)) can++;
+        Follow.lookAtHeldBack(can);
+        can = 0;
+        for (T t : waiting) if (canGo(t) && !Follow.holdsBack(t)) can++;
         if (can == 0) return null;
         int k = draw(can);
-        for (T t : waiting)
-            if (canGo(t) && k-- == 0) {
-                waiting.remove(t);
-                t.inLine = false;
-                return t;
-            }
+        for (T t : waiting) if (canGo(t) && !Follow.holdsBack(t) && k-- == 0) return t;
         return null;
     }
 
@@ -195,7 +212,7 @@ final class Turns {
     static void take(T t) {
         synchronized (LOCK) {
             if (holder == t) return;
-            if (holder == null && !t.inLine) {
+            if (holder == null && !t.inLine && !Follow.on) {
                 t.go = true;
                 holder = t;
             } else {
@@ -225,14 +242,39 @@ final class Turns {
     static void give(T t) {
         synchronized (LOCK) {
             if (holder != t) return;
+            Follow.lookForEnd(t);
             t.go = false;
             handOn();
         }
     }
 
+    /** A thread of a followed run waits for its turn in the plan. */
+    static void waitInLine(T t) {
+        synchronized (LOCK) {
+            t.go = false;
+            line(t);
+            if (holder == t || holder == null) handOn();
+        }
+        await(t);
+    }
+
+    /** In a followed run: a thread wakes from a `wait` by the plan. */
+    static void wake(T t) {
+        parked.remove(t);
+        t.parkedAt = null;
+        line(t);
+    }
+
+    /** In a followed run: nobody has the turn for a while, so others than the next thread may go on. */
+    static void lookForOthers() {
+        synchronized (LOCK) {
+            if (holder == null && Follow.on) Follow.openFor(Turns::handOn);
+        }
+    }
+
     static void giveAndTake(T t) {
         synchronized (LOCK) {
-            if (holder != t || waiting.isEmpty()) return;
+            if (holder != t || waiting.isEmpty() || Follow.on) return;
             T next = choose();
             if (next == null) return;
             t.go = false;
@@ -263,7 +305,9 @@ final class Turns {
             t.go = false;
             t.parkedAt = at;
             parked.add(t);
-            if (holder == t) handOn();
+            if (holder != t) return;
+            Follow.lookForEnd(t);
+            handOn();
         }
     }
 
@@ -310,11 +354,27 @@ final class Turns {
     static void force(T from, long seen) {
         synchronized (LOCK) {
             if (holder == from && progress == seen && !waiting.isEmpty()) {
+                Follow.lookForEnd(from);
                 from.go = false;
                 forced++;
-                handOn();
+                Follow.openFor(Turns::handOn);
             }
         }
+    }
+
+    /** Whether each thread waits for another one, and none for a time, so that nothing goes on. */
+    static boolean isStuck() {
+        synchronized (LOCK) {
+            if (holder != null || !waiting.isEmpty() || parked.isEmpty()) return false;
+            for (T t : threads.values()) if (!t.ended && !waitsForever(t)) return false;
+            return true;
+        }
+    }
+
+    private static boolean waitsForever(T t) {
+        if (t.parkedAt != null) return !t.isTimed;
+        Thread.State state = t.thread.getState();
+        return state == Thread.State.WAITING || state == Thread.State.BLOCKED || state == Thread.State.TERMINATED;
     }
 
     /** Nothing more is recorded: all threads go on freely. */

@@ -34,13 +34,17 @@ final class Watcher extends Thread {
     }
 
     private void look() {
+        Follow.look();
         Turns.T h = Turns.holder;
         if (h != null && Turns.progress != seen) {
             seen = Turns.progress;
             same = 0;
             return;
         }
-        if (++same % WAITS == 0) Turns.lookAtParked();
+        if (++same % WAITS == 0) {
+            Turns.lookAtParked();
+            if (h == null) Turns.lookForOthers();
+        }
         if (h == null || h.waitsShort || same < WAITS) return;
         if (!waits(h.thread) && !computes(h.thread) || isInside(h.thread)) return;
         if (DEBUG) tell(h.thread);
