@@ -20,8 +20,8 @@ FACT, FRAME, ACCESSED, VALUE, PLACE = 6, 10, 11, 12, 13
 
 
 class Shown(NamedTuple):
-    """What the agent writes of a thread right before its access: its calls, what it accesses, and the value there,
-    before both accesses and after both, if it can be read."""
+    """What the agent writes of a thread right before its access: its calls, what it accesses, and the value. The value
+    is that before both accesses and that after both, if it can be read."""
 
     calls: list[str]
     accessed: str

@@ -186,6 +186,9 @@ def judge_thousands(racebench: str) -> None:
         raise Wrong(f"2,000 goroutines: {said}")
     if shown(racebench, "--windows"):
         raise Wrong("2,000 goroutines have a race")
+    _, with_clock = recorded("thousands", "--clock", "clock")
+    if "record/confirm can't follow it" in said or "record/confirm can't follow it" not in with_clock:
+        raise Wrong(f"2,000 goroutines with a clock: {with_clock}")
 
 
 def left_out(said: str) -> int:
@@ -361,11 +364,19 @@ def judge_command(racebench: str) -> None:
         with open(name, "w", encoding="utf-8") as file:
             file.write(text)
     go = os.path.join(RECORD, "go")
-    trace, said = ran([go, "test", "--seed", "2", "--frames", "1", "./a", "-run", "Race", "-v"])
+    words = [go, "test", "--seed", "2", "--frames", "1", "--clock", "clock"]
+    trace, said = ran([*words, "./a", "-run", "Race", "-v"])
     with open("trace.std", "w", encoding="utf-8") as file:
         file.write(trace)
     if shown(racebench) != {("a.go:5", "a.go:5")} or "PASS: TestRace" not in said or "TestOther" in said:
         raise Wrong(f"record/go test: {said}{trace}")
+    confirm = [os.path.join(RECORD, "confirm"), "--racebench", racebench]
+    table, _ = ran([*confirm, "../trace.std", "../clock"], cwd="a")
+    if "races 1, stand 1, " not in table:
+        raise Wrong(f"the program of record/go test --clock is not followed: {table}")
+    _, said = ran([*words, "--into", "traces", "./..."], 2)
+    if said != "record/go: --into writes several traces, and --clock is of one\n":
+        raise Wrong(f"--into with --clock: {said}")
     _, said = ran([go, "run", "--status", "./b", "1", "2"], 3)
     if "ended with status 3" not in said:
         raise Wrong(f"record/go run: {said}")

@@ -146,10 +146,30 @@ def build(go: building.Go, words: list[str]) -> int:
     return go_done([*build_words(go, "build"), *words])
 
 
+def clock_of(options: list[str]) -> str | None:
+    """The file that --clock names, if there is one."""
+    for k, word in enumerate(options):
+        name, equals, value = word.partition("=")
+        if name == "--clock":
+            return value if equals else options[k + 1]
+    return None
+
+
+def program_at(options: list[str], otherwise: str) -> str:
+    """Where a program is built: beside its clock, since record/follow runs it again, or else in a folder that goes."""
+    clock = clock_of(options)
+    if clock is None:
+        return otherwise
+    program = os.path.abspath(clock) + ".program"
+    print(f"record/go: {program} stays, for record/follow and record/confirm", file=sys.stderr)
+    return program
+
+
 def run(go: building.Go, words: list[str]) -> int:
     into = words_of_run(words)
     with tempfile.TemporaryDirectory(prefix="record") as folder:
-        program = os.path.join(folder, os.path.splitext(os.path.basename(into.packages[0]))[0].strip(".") or "program")
+        name = os.path.splitext(os.path.basename(into.packages[0]))[0].strip(".") or "program"
+        program = program_at(into.options, os.path.join(folder, name))
         status = go_done([*build_words(go, "build"), *into.build, "-o", program, *into.packages])
         return status or subprocess.run([RUN, *into.options, program, *into.rest], check=False).returncode
 
@@ -188,10 +208,12 @@ def test(go: building.Go, words: list[str]) -> int:
     found = packages_with_tests(go, into)
     if len(found) > 1 and not into.into:
         raise Refused(f"{len(found)} packages have tests: --into FOLDER writes a trace of each")
+    if into.into and clock_of(into.options):
+        raise Refused("--into writes several traces, and --clock is of one")
     worst, options = 0, absolute(into.options)
     with tempfile.TemporaryDirectory(prefix="record") as folder:
         for path, place in found:
-            program = os.path.join(folder, os.path.basename(path) + ".test")
+            program = program_at(options, os.path.join(folder, os.path.basename(path) + ".test"))
             status = go_done([*build_words(go, "test"), "-c", "-o", program, *into.build, path])
             worst = status or recorded_test(path, place, [RUN, *options, program, *into.test], into.into) or worst
     return worst

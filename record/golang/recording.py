@@ -234,8 +234,10 @@ def tell(given: argparse.Namespace, facts: Facts) -> None:
     counts = facts.counts
     for line in [*left_out(given, facts), *orders(counts)]:
         say(line)
-    if counts.get("short"):
+    if counts.get("short") or counts.get("threads", 0) > MOST_THREADS:
         say(f"the trace has more than {MOST_THREADS} threads: read it with `racebench triage --windows`")
+        if given.clock:
+            say(f"record/confirm can't follow it: record a part with at most {MOST_THREADS} threads, as by -test.run")
     elif counts["written"] > MOST_EVENTS or counts["bytes"] > MOST_BYTES:
         say("the trace is too long to be read at once: read it with `racebench triage --windows`")
     if not counts["written"]:

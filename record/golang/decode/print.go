@@ -51,6 +51,9 @@ func (d *decoder) print(to io.Writer, n *needed) error {
 	d.pass(p.printing(l))
 	d.facts["written"], d.facts["bytes"] = p.written, p.bytes
 	d.facts["lent_free"], d.facts["lent"] = l.free, l.by
+	if d.threads == 0 {
+		d.facts["threads"] = len(l.number)
+	}
 	if l.short {
 		d.facts["short"] = 1
 	}
