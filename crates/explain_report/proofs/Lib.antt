@@ -5,5 +5,6 @@ pub mod IndentLemmas
 pub mod LineLemmas
 pub mod PieceLemmas
 pub mod RacedLemmas
+pub mod RunLemmas
 pub mod SectionLemmas
 pub mod StepLemmas

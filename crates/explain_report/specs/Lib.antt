@@ -5,6 +5,9 @@ pub mod Accesses
 pub mod Chains
 pub mod Causes
 pub mod Sections
+pub mod Runs
+pub mod Waiting
+pub mod RunTexts
 pub mod Told
 pub mod findings
 pub mod places

@@ -1,10 +1,12 @@
 -- The text that is printed for a pair, after its verdict. `r` is a recording, `a` the earlier event, `b` the later.
 -- All notions here are this project's own.
-use Rattle.std.specs.Prelude.{◌≡◌, ℕ, List, ◌++◌, length, codes}
+use Rattle.std.specs.Prelude.{◌≡◌, ℕ, Bool, List, ◌++◌, length, codes}
 use Rattle.rapid_text.specs.Recording.{Recording}
 use Rattle.must_order.specs.declared.chains.Chain.{Chain}
 use Rattle.explain_report.specs.Accesses.{pair_text}
 use Rattle.explain_report.specs.Causes.{AreTold}
+use Rattle.explain_report.specs.RunTexts.{AreRunsTold}
+use Rattle.explain_report.specs.Runs.{run_total}
 use Rattle.explain_report.specs.Sections.{IsSectionTold}
 use Rattle.explain_report.specs.Verdicts.{count_text, forced_head, guarded_head, race_head, undecided_head}
 use Rattle.explain_report.specs.declared.verdict.How.{How}
@@ -15,9 +17,11 @@ use Rattle.explain_report.specs.declared.verdict.Verdict.TheVariants.{Race, Forc
 abbrev pub race_words : Recording → How → ℕ → ℕ → ℕ → ℕ → List ℕ
 race_words r how n runs a b = race_head how n ++ count_text runs (codes "run") ++ codes " both are next\n" ++ pair_text r a b
 
--- the same, followed by the runs of the schedule, whose layout is presentation
-abbrev pub IsRaceTold : Recording → How → ℕ → ℕ → ℕ → List ℕ → Type 0
-IsRaceTold r how n a b text = (runs : ℕ) × (rest : List ℕ) × (text ≡ race_words r how n runs a b ++ rest)
+-- a race that the schedule of these events shows: the same, with the number of its runs, and then its runs: all, or
+-- the first ones of many as one block
+abbrev pub IsRaceTold : Recording → How → List ℕ → Bool → ℕ → ℕ → List ℕ → Type 0
+IsRaceTold r how events all a b text =
+    (told : List ℕ) × AreRunsTold r events all told × (text ≡ race_words r how (length events) (run_total r events) a b ++ told)
 
 -- a comes before b by these chains: the first line, both accesses, and the chains
 abbrev pub IsForcedTold : Recording → List Chain → ℕ → ℕ → List ℕ → Type 0
@@ -34,7 +38,7 @@ IsUndecidedTold r a b text = (rest : List ℕ) × (text ≡ undecided_head ++ pa
 
 -- the text of a verdict on the pair
 abbrev pub IsTold : Recording → Verdict → ℕ → ℕ → List ℕ → Type 0
-IsTold r (Race how events all) a b text = IsRaceTold r how (length events.now) a b text
+IsTold r (Race how events all) a b text = IsRaceTold r how events.now all a b text
 IsTold r (Forced chains) a b text = IsForcedTold r chains.now a b text
 IsTold r (Guarded lock) a b text = IsGuardedTold r lock a b text
 IsTold r (Undecided events) a b text = IsUndecidedTold r a b text

@@ -1,5 +1,6 @@
 //! Prints the verdict on a pair of conflicting events, and the reason.
-ghost use Rattle.std.specs.Prelude.{◌≡◌, ◌++◌, ℕ, OnOk, OnErr, length};
+ghost use Rattle.std.specs.Prelude.{◌≡◌, OnErr, length};
+ghost use Rattle.explain_report.specs.Runs.{run_total};
 ghost use Rattle.explain_report.specs.Told.{IsRaceTold, IsTold, race_words};
 ghost use Rattle.explain_report.specs.Verdicts.{how_text, race_head, verdict_head};
 ghost use Rattle.rapid_text.specs.Appended.{Appended, AppendedOne};
@@ -10,7 +11,8 @@ use crate::apart::{
     append_undecided_head,
 };
 use crate::pieces::{append_count, append_words};
-use crate::runs::{append_runs, run_count};
+use crate::run_lines::append_runs;
+use crate::runs::run_count;
 use event_index::Indexed;
 use must_order::{Analysis, Chain};
 use rapid_text::OutOfMemory;
@@ -65,7 +67,8 @@ pub fn explain_text(
     pair: (u32, u32),
     out: &mut Vec<u8>,
 ) -> Result<(), OutOfMemory>
-    // The text has the verdict, both accesses with the locks held before them, and the reason.
+    // The text has the verdict, both accesses with the locks held before them, and the reason. A race has the number
+    // of its runs, and each run, or the first ones of many as one block.
     ensures ok { AppendedOne result out.old out.new (IsTold analysis.now verdict.now pair.0 pair.1) }
     ensures err { OnErr result (out.new.items ≡ out.old.items) }
 {
@@ -136,7 +139,7 @@ fn append_race(
     pair: (u32, u32),
 ) -> Result<(), OutOfMemory>
     ensures { AppendedOne result out.old out.new
-        (IsRaceTold analysis.now shown.0 (length events.now) pair.0 pair.1) }
+        (IsRaceTold analysis.now shown.0 events.now shown.1 pair.0 pair.1) }
 {
     append_race_words(out, analysis, shown.0, events, pair)?;
     append_runs(out, analysis.indexed(), events, shown.1)?;
@@ -151,12 +154,26 @@ fn append_race_words(
     events: &[u32],
     pair: (u32, u32),
 ) -> Result<(), OutOfMemory>
-    ensures { OnOk result ((runs : ℕ)
-        × (out.new.items ≡ out.old.items ++ race_words analysis.now how (length events.now) runs pair.0 pair.1)) }
+    ensures { Appended result out.old out.new
+        (race_words analysis.now how (length events.now) (run_total analysis.now events.now) pair.0 pair.1) }
 {
     let runs = run_count(*out.allocator(), analysis.indexed(), events)?;
-    append_race_head(out, how, events.len() as u64)?;
-    append_count(out, runs, b"run")?;
+    append_counted(out, analysis, how, (events.len() as u64, runs), pair)?;
+    Ok(())
+}
+
+/// The same, given the numbers of events and of runs.
+fn append_counted(
+    out: &mut Vec<u8>,
+    analysis: &Analysis<'_>,
+    how: How,
+    counts: (u64, u64),
+    pair: (u32, u32),
+) -> Result<(), OutOfMemory>
+    ensures { Appended result out.old out.new (race_words analysis.now how counts.0 counts.1 pair.0 pair.1) }
+{
+    append_race_head(out, how, counts.0)?;
+    append_count(out, counts.1, b"run")?;
     append_words(out, b" both are next\n")?;
     append_pair(out, analysis, pair.0, pair.1)?;
     Ok(())

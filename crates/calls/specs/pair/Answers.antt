@@ -1,6 +1,6 @@
 -- What a call on a pair answers of the bytes that it reads, and what its writer has taken. `one` and `other` name the pair, `a` is its earlier
 -- event, `b` the later. All notions here are this project's own.
-use Rattle.std.specs.Prelude.{◌≡◌, ℕ, List, ◌++◌, length, None, Option, Result, Ok, Err, ⊤}
+use Rattle.std.specs.Prelude.{◌≡◌, ℕ, Bool, List, ◌++◌, None, Option, Result, Ok, Err, ⊤}
 use Rattle.std.specs.Io.KnownBytes.{Appends}
 use Rattle.rapid_text.specs.Recording.{Recording}
 use Rattle.event_index.specs.Relations.{IsConflicting}
@@ -24,27 +24,28 @@ use Rattle.calls.specs.declared.pair.fault.PairFault.{PairFault}
 use Rattle.calls.specs.declared.pair.form.Form.{Form}
 use Rattle.calls.specs.declared.pair.fault.PairFault.TheVariants.{Replay, NoSuchPair, NotShown}
 
--- the text tells a finding on the pair: its words, both accesses with the locks that are held, and the reason
-abbrev pub IsFindingTold : Recording → Finding → ℕ → ℕ → List ℕ → Type 0
-IsFindingTold r (Race how events) a b text = IsRaceTold r how (length events) a b text
-IsFindingTold r (Forced chains) a b text = IsForcedTold r chains.items a b text
-IsFindingTold r (Guarded lock) a b text = IsGuardedTold r lock a b text
-IsFindingTold r (Undecided events) a b text = IsUndecidedTold r a b text
+-- the text tells a finding on the pair: its words, both accesses with the locks that are held, and the reason; of a race, all runs of its
+-- schedule, or the first ones of many as one block
+abbrev pub IsFindingTold : Recording → Finding → Bool → ℕ → ℕ → List ℕ → Type 0
+IsFindingTold r (Race how events) all a b text = IsRaceTold r how events all a b text
+IsFindingTold r (Forced chains) all a b text = IsForcedTold r chains.items a b text
+IsFindingTold r (Guarded lock) all a b text = IsGuardedTold r lock a b text
+IsFindingTold r (Undecided events) all a b text = IsUndecidedTold r a b text
 
 -- the text tells a right finding on a and b
-pub record IsPairTold (r : Recording) (a b : ℕ) (text : List ℕ) : Type 0 where
+pub record IsPairTold (r : Recording) (all : Bool) (a b : ℕ) (text : List ℕ) : Type 0 where
   pub finding : Finding
   pub found : IsFinding r a b finding
   pub never : IsNeverShown r.events a b finding
-  pub printed : IsFindingTold r finding a b text
+  pub printed : IsFindingTold r finding all a b text
 
 -- the two that the names mean conflict, and the text tells a right finding on the pair
-pub record IsExplanation (r : Recording) (one other : Name) (text : List ℕ) : Type 0 where
+pub record IsExplanation (r : Recording) (one other : Name) (all : Bool) (text : List ℕ) : Type 0 where
   pub a : ℕ
   pub b : ℕ
   pub pair : IsNamedPair r one other a b
   pub conflict : IsConflicting r.events a b
-  pub told : IsPairTold r a b text
+  pub told : IsPairTold r all a b text
 
 -- the text prints, in this form, a correct reordering that shows the pair
 pub record IsWitness (r : Recording) (one other : Name) (form : Form) (text : List ℕ) : Type 0 where
@@ -108,10 +109,10 @@ IsAnswered Prints Refuses bytes old new (Err NoSuchPair) =
 IsAnswered Prints Refuses bytes old new (Err (NotShown kind)) =
     (r : Recording) × IsTraceOf bytes r × IsWritten Prints Refuses r old new (Err (NotShown kind))
 
--- what `explain` answers of the pair
-abbrev pub IsExplained : List ℕ → Name → Name → Option (List ℕ) → Option (List ℕ) → Result Unit PairFault → Type 0
-IsExplained bytes one other old new result =
-    IsAnswered (λ r text. IsExplanation r one other text) (λ r fault. IsUnexplained r one other fault) bytes old new result
+-- what `explain` answers of the pair, if all runs of a schedule are wanted or not
+abbrev pub IsExplained : List ℕ → Name → Name → Bool → Option (List ℕ) → Option (List ℕ) → Result Unit PairFault → Type 0
+IsExplained bytes one other all old new result =
+    IsAnswered (λ r text. IsExplanation r one other all text) (λ r fault. IsUnexplained r one other fault) bytes old new result
 
 -- what `witness` answers of the pair, in this form
 abbrev pub IsWitnessed : List ℕ → Name → Name → Form → Option (List ℕ) → Option (List ℕ) → Result Unit PairFault → Type 0

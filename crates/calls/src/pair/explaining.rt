@@ -50,7 +50,7 @@ fn append_finding(
     pair: (u32, u32),
     all: bool,
 ) -> Result<(), OutOfMemory>
-    ensures { AppendedOne result text.old text.new (IsFindingTold analysis.now found.now pair.0 pair.1) }
+    ensures { AppendedOne result text.old text.new (IsFindingTold analysis.now found.now all pair.0 pair.1) }
 {
     match found {
         Finding::Race { how, events } => {
@@ -87,7 +87,7 @@ fn append_found(
 ) -> Result<(), OutOfMemory>
     requires finding { IsFinding analysis.now pair.0 pair.1 finding.now }
     requires never { IsNeverShown analysis.now.events pair.0 pair.1 finding.now }
-    ensures { AppendedOne result text.old text.new (IsPairTold analysis.now pair.0 pair.1) }
+    ensures { AppendedOne result text.old text.new (IsPairTold analysis.now all pair.0 pair.1) }
 {
     append_finding(text, analysis, finding, pair, all)?;
     Ok(())
@@ -102,7 +102,7 @@ fn append_explained(
 ) -> Result<(), OutOfMemory>
     requires first { pair.0 < length analysis.now.events }
     requires second { pair.1 < length analysis.now.events }
-    ensures { AppendedOne result text.old text.new (IsPairTold analysis.now pair.0 pair.1) }
+    ensures { AppendedOne result text.old text.new (IsPairTold analysis.now all pair.0 pair.1) }
 {
     match find(*text.allocator(), analysis, pair.0, pair.1) {
         Ok(finding) => append_found(text, analysis, &finding, pair, all),
@@ -119,7 +119,7 @@ fn append_explanation(
 ) -> Result<(), OutOfMemory>
     requires first { pair.0 < length indexed.now.events }
     requires second { pair.1 < length indexed.now.events }
-    ensures { AppendedOne result text.old text.new (IsPairTold indexed.now pair.0 pair.1) }
+    ensures { AppendedOne result text.old text.new (IsPairTold indexed.now all pair.0 pair.1) }
 {
     match Analysis::new(*text.allocator(), indexed) {
         Ok(analysis) => append_explained(text, &analysis, pair, all),
@@ -135,7 +135,7 @@ fn explanation_of(
     other: Name<'_>,
     all: bool,
 ) -> Result<Vec<u8>, PairFault>
-    ensures text { IfOk result (λ text. IsExplanation indexed.now one.entry other.entry text.items) }
+    ensures text { IfOk result (λ text. IsExplanation indexed.now one.entry other.entry all text.items) }
     ensures fault { IfErr result (IsUnexplained indexed.now one.entry other.entry) }
 {
     let pair = match named_pair(alloc, indexed, one, other)? {
@@ -157,7 +157,7 @@ fn write_explanation<K: Sink>(
     writer: &mut K,
 ) -> Result<(), PairFault>
     requires { K.has_failed writer.old ≡ false }
-    ensures written { IsWritten (λ r text. IsExplanation r one.entry other.entry text) (λ r fault. IsUnexplained r one.entry other.entry fault)
+    ensures written { IsWritten (λ r text. IsExplanation r one.entry other.entry all text) (λ r fault. IsUnexplained r one.entry other.entry fault)
         indexed.now (K.taken writer.old) (K.taken writer.new) result }
     ensures unread { (input : ℕ) (why : ReadCause) → result ≢ Err (Replay (Read input why)) }
     ensures failed { K.has_failed writer.new ≡ true → result ≡ Err (Replay Write) }
@@ -189,7 +189,7 @@ pub fn explain<S: Source, K: Sink>(
     // The answer comes from a text. If the type of the reader shows its bytes, it is that text.
     ensures explained { (bytes : List ℕ)
         × IfSome (S.rest reader.old) (λ told. bytes ≡ told)
-        × IsExplained bytes one.entry other.entry (K.taken writer.old) (K.taken writer.new) result }
+        × IsExplained bytes one.entry other.entry all (K.taken writer.old) (K.taken writer.new) result }
     // There is one input, so no fault names a second.
     ensures input { (why : ReadCause) → result ≢ Err (Replay (Read 2 why)) }
     // The fault is a failed read exactly if a read failed, and a failed write exactly if a write failed.
