@@ -14,7 +14,8 @@ use Rattle.race_triage.specs.declared.verdicts.Outcome.TheVariants.{Race, Undeci
 use Rattle.race_triage.specs.declared.verdicts.Verdict.{Verdict}
 use Rattle.schedule.specs.Reordering.{IsCorrectReordering}
 use Rattle.schedule.specs.Shows.{Shows}
-use Rattle.explain_report.specs.findings.Findings.{IsFinding}
+use Rattle.explain_report.specs.findings.Findings.{AreFound, IsFinding, IsShownAs}
+use Rattle.explain_report.specs.declared.verdict.How.{How}
 use Rattle.explain_report.specs.declared.findings.finding.Finding.{Finding}
 use Rattle.explain_report.specs.declared.findings.finding.Finding.TheVariants.{Race as FoundRace, Forced, Guarded, Undecided as FoundUndecided}
 use Rattle.triage_report.specs.sarif.Locations.{message}
@@ -123,9 +124,13 @@ IsNoRace (FoundUndecided events) = Unit {0}
 abbrev pub IsUnshown : Recording → ℕ → ℕ → Type 0
 IsUnshown r a b = (length r.events ≤ a) ⊎ ((length r.events ≤ b) ⊎ ((f : Finding) × IsFinding r a b f × IsNoRace f))
 
--- a correct reordering that shows the pair, and its two events after it
+-- A correct reordering that shows the pair, and its two events after it. It has the events of the list that is found for the pair, as the
+-- schedule that `witness` prints.
 pub record AreShown (r : Recording) (a b : ℕ) (steps : List ℕ) : Type 0 where
+  pub how : How
   pub schedule : List ℕ
+  pub kind : IsShownAs r a b how
+  pub found : AreFound r.events a b how schedule
   pub reordering : IsCorrectReordering r.events schedule
   pub shows : Shows r.events schedule a b
   pub behind : steps ≡ schedule ++ a ∷ b ∷ []

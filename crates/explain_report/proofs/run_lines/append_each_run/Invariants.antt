@@ -1,5 +1,5 @@
 -- What is appended so far, and the runs that are left, are the text of all.
-use Rattle.std.proofs.Common.{◌≡◌, ◌++◌, drop}
+use Rattle.std.proofs.Common.{◌≡◌, ◌++◌, ◌≤◌, drop}
 use Rattle.explain_report.specs.RunTexts.{each_run_text}
 use Rattle.explain_report.proofs.run_lines.append_each_run.Given as goal
 
