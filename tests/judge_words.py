@@ -57,8 +57,9 @@ TWICE = [
 EMPTY = "`--only` and `--hide` take a text that is not empty"
 # What goes with something else alone, or not with it, and why it is refused.
 ALONE = "`--windows` does not go with `--lines`, `--init-triage`, `--confirmed`"
+CODED = "`--source` goes with `--sarif` or `--lines`"
 GOES = [
-    *[(f"{words} --source .", "`--source` goes with `--sarif`") for words in ("triage t", "triage t --page")],
+    *[(f"{words} --source .", CODED) for words in ("triage t", "triage t --page", "triage t --json")],
     *[(f"{words} --source .", "`--source` goes with `--sarif`") for words in ("merge part", "merge part --json")],
     *[(f"{words} --today 2027-06-01", "`--today` goes with `--triage`") for words in ("triage t", "merge part")],
     *[(f"triage t {form} --confirmed c", "`--confirmed` goes with `--page`") for form in ("", "--json", "--sarif")],

@@ -103,7 +103,15 @@ fn check_triage(given: &ArgMatches<'_>) -> Result<(), Unread> {
         "page",
         "`--confirmed` goes with `--page`",
     )?;
-    check_source(given)
+    if given.get_flag("lines") {
+        return Ok(());
+    }
+    check_beside(
+        given,
+        "source",
+        "sarif",
+        "`--source` goes with `--sarif` or `--lines`",
+    )
 }
 
 /// The numbers that `triage` was given.
