@@ -1,12 +1,14 @@
 -- Each thing that is written keeps what a piece is, and what a page is.
-use Rattle.std.proofs.Common.{◌≡◌, ℕ, List, [], ◌∷◌, ◌++◌, decimal, append_assoc, ap, ◌∙◌}
+use Rattle.std.proofs.Common.{◌≡◌, ◌↔◌, IsTrue, Bool, false, sym, ℕ, List, [], ◌∷◌, ◌++◌, decimal, length, append_assoc, ap, subst, ◌∙◌}
+use Rattle.std.proofs.lemmas.Bool.{false≢true}
 use Rattle.markup.specs.Escaped.{escaped}
 use Rattle.rapid_text.specs.Recording.{Recording}
 use Rattle.schedule.specs.Reordering.{IsCorrectReordering}
 use Rattle.schedule.specs.Shows.{Shows}
 use Rattle.explain_report.specs.picture.Pictures.{IsFigure}
 use Rattle.race_page.specs.Own.{begin_text, end_text, part_text, row_text}
-use Rattle.race_page.specs.Pages.{IsDrawn, AreParts, IsPiece}
+use Rattle.race_page.specs.Pages.{IsDrawn, AreParts, IsPiece, Made, MayBePlain}
+use Rattle.race_page.specs.Told.{IsTold}
 use Rattle.race_page.specs.declared.own.Part.{Part}
 use Rattle.race_page.specs.declared.own.Tag.{Tag}
 use Rattle.race_page.specs.declared.shown.Shown.{Shown}
@@ -24,6 +26,13 @@ both_as_one old new first second e = e ∙ append_assoc old first second
 -- what is appended behind a text that was appended is appended with it
 pub one_more : (old between new first second : List ℕ) → between ≡ old ++ first → new ≡ between ++ second → new ≡ old ++ (first ++ second)
 one_more old between new first second e f = f ∙ (ap (λ (xs : List ℕ). xs ++ second) e ∙ append_assoc old first second)
+
+pub five_more :
+    (old p q s t new begin line between raced end : List ℕ) → p ≡ old ++ begin → q ≡ p ++ line → s ≡ q ++ between → t ≡ s ++ raced → new ≡ t ++ end
+    → new ≡ old ++ (begin ++ line ++ between ++ raced ++ end)
+five_more old p q s t new begin line between raced end a b c d e =
+    one_more old t new (begin ++ line ++ between ++ raced) end
+    (one_more old s t (begin ++ line ++ between) raced (one_more old q s (begin ++ line) between (one_more old p q begin line a b) c) d) e
 
 -- what is appended to nothing stands alone
 pub alone : (empty text words bytes : List ℕ) → empty ≡ [] → text ≡ empty ++ words → bytes ≡ text → bytes ≡ words
@@ -45,20 +54,30 @@ module _ (old new piece : List ℕ) (is : IsPiece old) (e : new ≡ old ++ piece
   pub with_text : (bytes : List ℕ) → piece ≡ escaped bytes → IsPiece new
   with_text bytes f = rw e (rw f (IsPiece.text bytes old is))
 
+  pub with_piece_after : (other : List ℕ) → IsPiece other → piece ≡ other → IsPiece new
+  with_piece_after other whole f = rw e (rw f (IsPiece.piece other old whole is))
+
 module _ (r : Recording) (old new added : List ℕ) (rows : List Shown) (is : AreParts r old rows) (e : new ≡ old ++ added) where
   pub with_piece : (piece : List ℕ) → IsPiece piece → added ≡ piece → AreParts r new rows
   with_piece piece whole f = rw e (rw f (AreParts.piece piece old rows whole is))
 
+-- a row with what was found, and the rest
+module _ (r : Recording) (old body told : List ℕ) (rows : List Shown) (shown : Shown) (is : AreParts r old rows) (whole : IsPiece told) (tells : IsTold r shown.verdict told) where
   pub with_row :
-      (shown : Shown) (piece : List ℕ) (after last : List Shown) → IsPiece piece → added ≡ row_text shown piece → after ≡ rows
-      → last ≡ after ++ shown ∷ [] → AreParts r new last
-  with_row shown piece after last whole f g h = rw e (rw f (rw h (rw g (AreParts.row shown piece old rows whole is))))
+      (rest : List ℕ) → MayBePlain r shown (length rows) → IsPiece rest → body ≡ told ++ rest → AreParts r (old ++ row_text shown body) (rows ++ shown ∷ [])
+  with_row rest plain end f = rw f (AreParts.row shown told rest old rows whole tells plain end is)
 
   pub with_drawn :
-      (shown : Shown) (before figure behind : List ℕ) (after last : List Shown) → IsPiece before → IsDrawn r shown.first shown.second figure → IsPiece behind
-      → added ≡ row_text shown (before ++ figure ++ behind) → after ≡ rows → last ≡ after ++ shown ∷ [] → AreParts r new last
-  with_drawn shown before figure behind after last whole drawn end f g h =
-      rw e (rw f (rw h (rw g (AreParts.drawn shown before figure behind old rows whole drawn end is))))
+      (before figure after : List ℕ) → IsPiece before → IsDrawn r shown.first shown.second figure → IsPiece after → body ≡ told ++ before ++ figure ++ after
+      → AreParts r (old ++ row_text shown body) (rows ++ shown ∷ [])
+  with_drawn before figure after first drawn last f = rw f (AreParts.drawn shown told before figure after old rows whole tells first drawn last is)
+
+-- a row that is made is added
+pub with_made :
+    (p q : Made) (new row : List ℕ) (kept last : List Shown) (shown : Shown) → p ≡ q → AreParts q.trace (q.text ++ row) (q.rows ++ shown ∷ []) → new ≡ p.text ++ row
+    → kept ≡ p.rows → last ≡ kept ++ shown ∷ [] → AreParts p.trace new last
+with_made p q new row kept last shown same is e f g =
+    rw e (rw g (rw f (subst (λ (m : Made). AreParts m.trace (m.text ++ row) (m.rows ++ shown ∷ [])) (sym same) is)))
 
 -- a picture of a schedule that shows the pair
 pub drawn_of :
@@ -70,3 +89,7 @@ drawn_of r s events a b none made text shown e f g figure same reordering shows 
   shows = rw same shows;
   figure = rw (g ∙ (f ∙ ap (λ (xs : List ℕ). xs ++ text) e)) figure;
 }
+
+-- a test that fails refutes what it decides
+pub refuted : (P : Type 0) (b : Bool) → IsTrue b ↔ P → b ≡ false → ¬ P
+refuted P b tells not_so p = false≢true (sym not_so ∙ tells.1 p)

@@ -1,5 +1,6 @@
 pub mod Counts
 pub mod Heads
+pub mod Items
 pub mod Marks
 pub mod Merged
 pub mod MergedHead
@@ -9,5 +10,7 @@ pub mod MergedTally
 pub mod Own
 pub mod Pages
 pub mod Raced
+pub mod Reasons
 pub mod Rows
 pub mod Shell
+pub mod Told

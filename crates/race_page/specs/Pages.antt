@@ -1,10 +1,13 @@
 -- What a page is made of. `r` is the recording of its trace.
-use Rattle.std.specs.Prelude.{◌≡◌, ℕ, Bool, List, [], ◌∷◌, ◌++◌, decimal, Result, OnOk, Vec}
+use Rattle.std.specs.Prelude.{◌≡◌, ◌≤◌, ◌⊎◌, ℕ, Bool, false, List, [], ◌∷◌, ◌++◌, length, decimal, None, Result, OnOk, Vec}
 use Rattle.std.specs.declared.alloc.Global.{Global}
 use Rattle.markup.specs.Escaped.{escaped}
 use Rattle.rapid_text.specs.Recording.{Recording}
 use Rattle.schedule.specs.Reordering.{IsCorrectReordering}
 use Rattle.schedule.specs.Shows.{Shows}
+use Rattle.witness_search.specs.trace_order.Orders.{IsTurned}
+use Rattle.witness_search.specs.trace_order.Refusals.{IsNeverShownInOrder}
+use Rattle.explain_report.specs.findings.Findings.{IsShownByNone}
 use Rattle.explain_report.specs.picture.Pictures.{IsFigure}
 use Rattle.race_triage.specs.Texts.{AreTotals}
 use Rattle.race_triage.specs.declared.chosen.Chosen.{Chosen}
@@ -14,12 +17,15 @@ use Rattle.race_triage.specs.declared.verdicts.Verdicts.{Verdicts}
 use Rattle.race_page.specs.Counts.{counts_text}
 use Rattle.race_page.specs.Heads.{IsFileOf, page_begin}
 use Rattle.race_page.specs.Own.{begin_text, end_text, part_text, row_text}
-use Rattle.race_page.specs.Rows.{all_rows, followed_in}
+use Rattle.race_page.specs.Rows.{all_rows, followed_in, is_sort}
+use Rattle.race_page.specs.Told.{IsTold}
 use Rattle.race_page.specs.declared.about.About.{About}
 use Rattle.race_page.specs.declared.merged_head.LeftOut.{LeftOut}
 use Rattle.race_page.specs.declared.own.Part.{Part}
 use Rattle.race_page.specs.declared.own.Tag.{Tag}
 use Rattle.race_page.specs.declared.shown.Shown.{Shown}
+use Rattle.race_page.specs.declared.shown.Sort.{Sort}
+use Rattle.race_page.specs.declared.shown.Sort.TheVariants.{Race as RaceSort}
 
 -- The text is a piece of a page: own markup of the closed list, numbers, and texts that are escaped.
 pub data IsPiece : List ℕ → Type 0 where
@@ -29,6 +35,7 @@ pub data IsPiece : List ℕ → Type 0 where
   part : (part : Part) (m : List ℕ) → IsPiece m → IsPiece (m ++ part_text part)
   number : (n : ℕ) (m : List ℕ) → IsPiece m → IsPiece (m ++ decimal n)
   text : (bytes m : List ℕ) → IsPiece m → IsPiece (m ++ escaped bytes)
+  piece : (p m : List ℕ) → IsPiece p → IsPiece m → IsPiece (m ++ p)
 
 -- The text draws a schedule of the trace, a correct reordering that shows the pair. The description of the figure lists
 -- its events if there are at most 2,000, and else counts them.
@@ -38,17 +45,43 @@ pub record IsDrawn (r : Recording) (a b : ℕ) (text : List ℕ) : Type 0 where
   pub shows : Shows r.events events a b
   pub figure : IsFigure events a b text
 
--- The text stands under the first line of a page with these rows: pieces, rows in which a piece stands, and rows in which a schedule that shows
--- the row's pair is drawn between two pieces.
+-- what contracts see of a page that is being written
+pub record Made : Type 0 where
+  pub trace : Recording
+  pub text : List ℕ
+  pub rows : List Shown
+
+-- Why no schedule of the pair is drawn: the trace has no such events; no correct reordering shows the pair; or no list in the order of the
+-- trace shows it, and a search of 1,048,576 steps found nothing.
+pub data HasNoSchedule (r : Recording) (a b : ℕ) : Type 0 where
+  outside : (length r.events ≤ a) ⊎ (length r.events ≤ b) → HasNoSchedule r a b
+  never : IsShownByNone r.events a b → HasNoSchedule r a b
+  unfound : IsNeverShownInOrder r.events a b → IsTurned r.events a b 1048576 None → HasNoSchedule r a b
+
+-- a row of this sort needs no picture behind so many rows: it is no race, or 200 rows come before it
+abbrev pub NeedsNoPicture : Sort → ℕ → Type 0
+NeedsNoPicture sort before = (is_sort sort RaceSort ≡ false) ⊎ (200 ≤ before)
+
+-- the row may have no picture
+abbrev pub MayBePlain : Recording → Shown → ℕ → Type 0
+MayBePlain r shown before = NeedsNoPicture shown.sort before ⊎ HasNoSchedule r shown.first shown.second
+
+-- The text comes after the first line of a page with these rows: pieces, rows, and rows in which a schedule that shows the row's pair is
+-- drawn between two pieces. Each row says what was found of its verdict. The first 200 races have a picture if there is a schedule.
 pub data AreParts (r : Recording) : List ℕ → List Shown → Type 0 where
   none : AreParts r [] []
   piece : (p m : List ℕ) (rows : List Shown) → IsPiece p → AreParts r m rows → AreParts r (m ++ p) rows
   row :
-      (shown : Shown) (p m : List ℕ) (rows : List Shown) → IsPiece p → AreParts r m rows
-      → AreParts r (m ++ row_text shown p) (rows ++ shown ∷ [])
+      (shown : Shown) (told p m : List ℕ) (rows : List Shown) → IsPiece told → IsTold r shown.verdict told → MayBePlain r shown (length rows) → IsPiece p
+      → AreParts r m rows → AreParts r (m ++ row_text shown (told ++ p)) (rows ++ shown ∷ [])
   drawn :
-      (shown : Shown) (before figure after m : List ℕ) (rows : List Shown) → IsPiece before → IsDrawn r shown.first shown.second figure → IsPiece after
-      → AreParts r m rows → AreParts r (m ++ row_text shown (before ++ figure ++ after)) (rows ++ shown ∷ [])
+      (shown : Shown) (told before figure after m : List ℕ) (rows : List Shown) → IsPiece told → IsTold r shown.verdict told → IsPiece before
+      → IsDrawn r shown.first shown.second figure → IsPiece after → AreParts r m rows
+      → AreParts r (m ++ row_text shown (told ++ before ++ figure ++ after)) (rows ++ shown ∷ [])
+
+-- with such a row the page has these parts
+abbrev pub IsRowOf : Made → Shown → List ℕ → Type 0
+IsRowOf page shown body = AreParts page.trace (page.text ++ row_text shown body) (page.rows ++ shown ∷ [])
 
 -- The text is the end of a page of the trace, of which these are the verdicts: the table of its counts, between two pieces.
 pub record IsEnd (r : Recording) (vs : List Verdict) (text : List ℕ) : Type 0 where
@@ -70,12 +103,6 @@ pub record IsPage (r : Recording) (vs : List Verdict) (races : ℕ) (left : Left
   pub printed : text ≡ page_begin races file left ++ parts ++ end
   pub made : AreParts r parts rows
   pub closed : IsEnd r vs end
-
--- what contracts see of a page that is being written
-pub record Made : Type 0 where
-  pub trace : Recording
-  pub text : List ℕ
-  pub rows : List Shown
 
 -- what was left out of what is told
 abbrev pub left_of : Chosen → LeftOut

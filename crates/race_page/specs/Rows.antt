@@ -77,7 +77,7 @@ seen_beside r told v = sort_seen (outcome_sort v.outcome) (seen_at r told v.firs
 -- the row of a verdict
 abbrev pub row_of : Recording → Option (List Followed) → Verdict → Shown
 row_of r told v =
-    record { sort = outcome_sort v.outcome; first = v.first; second = v.second; seen = seen_beside r told v }
+    record { sort = outcome_sort v.outcome; first = v.first; second = v.second; seen = seen_beside r told v; verdict = v }
 
 -- whether two sorts are one
 abbrev pub is_sort : Sort → Sort → Bool

@@ -1,12 +1,16 @@
 //! The table of a row's two accesses: for each its line of the trace, and the locks that its thread holds before it.
-ghost use Rattle.std.specs.Prelude.{◌<◌, length};
+ghost use Rattle.std.specs.Prelude.{◌≡◌, ◌<◌, ◌++◌, [], length, option_map, slice_get};
+ghost use Rattle.race_triage.specs.Pieces.{event_words_at};
+ghost use Rattle.race_triage.specs.Texts.{held_locks};
+ghost use Rattle.race_page.specs.Items.{Written};
+ghost use Rattle.race_page.specs.Told.{access_text, accesses_text, cells_text, line_end, line_text, lock_text, locks_text, more_locks, next_lock, table_begin};
 
 use crate::own::Tag;
 use crate::piece::{Item, Piece};
 use event_index::Indexed;
 use must_order::Analysis;
 use race_triage::append_event;
-use rapid_text::OutOfMemory;
+use rapid_text::{OutOfMemory, RawTrace};
 
 /// Writes a heading and a table of the two accesses.
 pub(crate) fn write_accesses(
@@ -14,7 +18,19 @@ pub(crate) fn write_accesses(
     analysis: &Analysis<'_>,
     first: u32,
     second: u32,
-) -> Result<(), OutOfMemory> {
+) -> Result<(), OutOfMemory>
+    ensures { Written result piece.old piece.new (accesses_text analysis.now first second) }
+{
+    begin_table(piece)?;
+    write_access(piece, analysis, first)?;
+    write_access(piece, analysis, second)?;
+    piece.write(&[Item::End(Tag::TableBody), Item::End(Tag::Table)])
+}
+
+/// Writes the heading, and the head of the table.
+fn begin_table(piece: &mut Piece) -> Result<(), OutOfMemory>
+    ensures { Written result piece.old piece.new table_begin }
+{
     piece.write(&[
         Item::Element(Tag::PartHeading, b"The two accesses"),
         Item::Begin(Tag::Table),
@@ -26,82 +42,105 @@ pub(crate) fn write_accesses(
         Item::End(Tag::Line),
         Item::End(Tag::TableHead),
         Item::Begin(Tag::TableBody),
-    ])?;
-    write_access(piece, analysis, first)?;
-    write_access(piece, analysis, second)?;
-    piece.write(&[Item::End(Tag::TableBody), Item::End(Tag::Table)])
+    ])
 }
 
 /// Writes the table line of an access. Writes nothing if the trace has no such event.
-fn write_access(piece: &mut Piece, analysis: &Analysis<'_>, event: u32) -> Result<(), OutOfMemory> {
-    if event >= analysis.indexed().len() {
-        return Ok(());
+fn write_access(piece: &mut Piece, analysis: &Analysis<'_>, event: u32) -> Result<(), OutOfMemory>
+    ensures { Written result piece.old piece.new (access_text analysis.now event) }
+{
+    if event < analysis.indexed().len() {
+        write_line(piece, analysis, event)?;
+        write_locks(piece, analysis, event)?;
+        piece.write(&[Item::End(Tag::Cell), Item::End(Tag::Line)])
+    } else {
+        Ok(())
     }
-    let mut text = Vec::new(piece.allocator());
-    write_line(piece, &mut text, analysis, event)
 }
 
-/// Writes the table line of an access. `text` is empty, and gets the event's line of the trace.
-fn write_line(
-    piece: &mut Piece,
-    text: &mut Vec<u8>,
-    analysis: &Analysis<'_>,
-    event: u32,
-) -> Result<(), OutOfMemory>
-    requires event { event < length analysis.now.events }
+/// Writes the cells of an access before that of its locks.
+fn write_line(piece: &mut Piece, analysis: &Analysis<'_>, event: u32) -> Result<(), OutOfMemory>
+    ensures { Written result piece.old piece.new (line_text analysis.now event) }
 {
-    append_event(text, analysis.indexed(), event)?;
+    let mut words = Vec::new(piece.allocator());
+    append_event(&mut words, analysis.indexed(), event)?;
+    write_words(piece, event, words.as_slice())
+}
+
+/// Writes the same, with these words as the line of the trace.
+fn write_words(piece: &mut Piece, event: u32, words: &[u8]) -> Result<(), OutOfMemory>
+    ensures { Written result piece.old piece.new (cells_text event words.now) }
+{
     piece.write(&[
         Item::Begin(Tag::Line),
         Item::Begin(Tag::LineHead),
         Item::Number(u64::from(event)),
         Item::End(Tag::LineHead),
         Item::Begin(Tag::Cell),
-        Item::Element(Tag::Code, text.as_slice()),
+        Item::Element(Tag::Code, words),
         Item::End(Tag::Cell),
         Item::Begin(Tag::Cell),
-    ])?;
-    write_locks(piece, analysis, event)
+    ])
 }
 
-/// Writes the locks that the thread holds before the event, and ends the table line.
+/// Writes the locks that the thread holds before the event.
 fn write_locks(piece: &mut Piece, analysis: &Analysis<'_>, event: u32) -> Result<(), OutOfMemory>
     requires event { event < length analysis.now.events }
+    ensures { Written result piece.old piece.new (locks_text analysis.now (held_locks analysis.now event)) }
 {
-    match analysis.locks_held(piece.allocator(), event) {
-        Ok(locks) => write_held(piece, analysis.indexed(), locks.as_slice()),
-        Err(refused) => Err(refused),
+    let locks = analysis.locks_held(piece.allocator(), event)?;
+    write_held(piece, analysis.indexed(), locks.as_slice())?;
+    Ok(())
+}
+
+/// Writes the names of these locks, or `none`.
+fn write_held(piece: &mut Piece, indexed: &Indexed, locks: &[u32]) -> Result<(), OutOfMemory>
+    ensures { Written result piece.old piece.new (locks_text indexed.now locks.now) }
+{
+    match locks.split_first() {
+        Some((first, more)) => {
+            write_lock(piece, indexed, *first)?;
+            write_more(piece, indexed, more)
+        }
+        None => piece.write(&[Item::Text(b"none")]),
     }
 }
 
-/// Writes the names of these locks, or `none`, and ends the table line.
-fn write_held(piece: &mut Piece, indexed: &Indexed, locks: &[u32]) -> Result<(), OutOfMemory> {
-    let mut between: &[u8] = b"";
+/// Writes a comma and the name, for each of these locks.
+fn write_more(piece: &mut Piece, indexed: &Indexed, locks: &[u32]) -> Result<(), OutOfMemory>
+    ensures { Written result piece.old piece.new (more_locks indexed.now locks.now) }
+{
     for lock in locks {
-        write_lock(piece, indexed, between, *lock)?;
-        between = b", ";
+        write_next(piece, indexed, *lock)?;
     }
-    let instead: &[u8] = if locks.is_empty() { b"none" } else { b"" };
-    piece.write(&[
-        Item::Text(instead),
-        Item::End(Tag::Cell),
-        Item::End(Tag::Line),
-    ])
+    Ok(())
 }
 
-/// Writes the separator, and the name of the lock if the trace has such a lock.
-fn write_lock<'a>(
-    piece: &mut Piece,
-    indexed: &'a Indexed,
-    between: &'a [u8],
-    lock: u32,
-) -> Result<(), OutOfMemory> {
-    let raw = indexed.trace().raw();
-    if lock >= raw.locks() {
-        return piece.write(&[Item::Text(between)]);
+/// Writes a comma, and the name of the lock.
+fn write_next(piece: &mut Piece, indexed: &Indexed, lock: u32) -> Result<(), OutOfMemory>
+    ensures { Written result piece.old piece.new (next_lock indexed.now lock) }
+{
+    piece.write(&[Item::Text(b", ")])?;
+    write_lock(piece, indexed, lock)
+}
+
+/// Writes the name of the lock, if the trace has such a lock.
+fn write_lock(piece: &mut Piece, indexed: &Indexed, lock: u32) -> Result<(), OutOfMemory>
+    ensures { Written result piece.old piece.new (lock_text indexed.now lock) }
+{
+    match lock_name(indexed.trace().raw(), lock) {
+        Some(name) => piece.write(&[Item::Element(Tag::Isolated, name)]),
+        None => Ok(()),
     }
-    piece.write(&[
-        Item::Text(between),
-        Item::Element(Tag::Isolated, raw.lock_name(lock)),
-    ])
+}
+
+/// The name of the lock, if the trace has such a lock.
+fn lock_name(raw: &RawTrace, lock: u32) -> Option<&[u8]>
+    ensures { option_map (λ name. name.now) result ≡ slice_get raw.now.locks lock }
+{
+    if lock < raw.locks() {
+        Some(raw.lock_name(lock))
+    } else {
+        None
+    }
 }

@@ -1,10 +1,11 @@
 //! What follows the first line of a page: pieces, and rows.
-ghost use Rattle.std.specs.Prelude.{◌≡◌, ◌++◌, ◌∷◌, [], OnOk, decimal};
+ghost use Rattle.std.specs.Prelude.{◌≡◌, ◌++◌, ◌∷◌, [], OnOk, decimal, length};
 ghost use Rattle.rapid_text.specs.Appended.{Appended};
 ghost use Rattle.schedule.specs.Reordering.{IsCorrectReordering};
 ghost use Rattle.schedule.specs.Shows.{Shows};
 ghost use Rattle.race_page.specs.Own.{row_head, row_text};
-ghost use Rattle.race_page.specs.Pages.{IsDrawn, AreParts, IsPiece};
+ghost use Rattle.race_page.specs.Pages.{IsDrawn, IsRowOf, AreParts, IsPiece, MayBePlain};
+ghost use Rattle.race_page.specs.Told.{IsTold};
 
 use crate::piece::Piece;
 use crate::shown::{Shown, row_begin_of, seen_of};
@@ -84,39 +85,43 @@ impl<'a> Page<'a> {
         Ok(())
     }
 
-    /// Writes a row with this piece in it.
-    pub(crate) fn row(&mut self, shown: Shown, piece: &Piece) -> Result<(), OutOfMemory>
+    /// How many rows the page has.
+    pub(crate) fn count(&self) -> usize
+        ensures { result ≡ length self.now.rows }
+    {
+        self.rows.len()
+    }
+
+    /// Writes a row without a picture: a beginning that says what was found, and the rest.
+    pub(crate) fn row(
+        &mut self,
+        shown: Shown,
+        told: &Piece,
+        rest: &Piece,
+    ) -> Result<(), OutOfMemory>
+        requires told { IsTold self.old.trace shown.verdict told.now }
+        requires plain { MayBePlain self.old.trace shown (length self.old.rows) }
         ensures trace { self.new.trace ≡ self.old.trace }
         ensures rows { OnOk result (self.new.rows ≡ self.old.rows ++ shown ∷ []) }
     {
-        let mut row = Vec::new(*self.text.allocator());
-        self.add_row(&mut row, shown, piece)
+        let mut body = Vec::new(*self.text.allocator());
+        append_two(&mut body, told.bytes(), rest.bytes())?;
+        self.add(shown, body.as_slice())
     }
 
-    /// Writes the row. It is made in `row` first, so that the page has no half of a row if memory runs out.
-    fn add_row(&mut self, row: &mut Vec<u8>, shown: Shown, piece: &Piece) -> Result<(), OutOfMemory>
-        requires { row.now.items ≡ [] }
-        ensures trace { self.new.trace ≡ self.old.trace }
-        ensures rows { OnOk result (self.new.rows ≡ self.old.rows ++ shown ∷ []) }
-    {
-        append_row(row, shown, piece.bytes())?;
-        self.rows.reserve(1)?;
-        self.text.extend_from_slice(row.as_slice())?;
-        self.rows.push(shown)?;
-        Ok(())
-    }
-
-    /// Writes a row with a picture of a schedule between two pieces. The schedule must be a correct reordering that
-    /// shows the row's pair.
+    /// Writes a row with a picture of a schedule: a beginning that says what was found, what comes before the picture,
+    /// and what comes after it. The schedule must be a correct reordering that shows the row's pair.
     pub(crate) fn drawn_row(
         &mut self,
         events: &[u32],
         shown: Shown,
+        told: &Piece,
         before: &Piece,
         after: &Piece,
     ) -> Result<(), OutOfMemory>
         requires reordering { IsCorrectReordering self.old.trace.events events.now }
         requires shows { Shows self.old.trace.events events.now shown.first shown.second }
+        requires told { IsTold self.old.trace shown.verdict told.now }
         ensures trace { self.new.trace ≡ self.old.trace }
         ensures rows { OnOk result (self.new.rows ≡ self.old.rows ++ shown ∷ []) }
     {
@@ -128,7 +133,7 @@ impl<'a> Page<'a> {
             shown.second,
             &mut figure,
         )?;
-        self.add_drawn(figure.as_slice(), shown, before, after)
+        self.add_drawn(figure.as_slice(), shown, told, before, after)
     }
 
     /// Writes the row with this picture in it.
@@ -136,38 +141,51 @@ impl<'a> Page<'a> {
         &mut self,
         figure: &[u8],
         shown: Shown,
+        told: &Piece,
         before: &Piece,
         after: &Piece,
     ) -> Result<(), OutOfMemory>
-        requires { IsDrawn self.old.trace shown.first shown.second figure.now }
+        requires drawn { IsDrawn self.old.trace shown.first shown.second figure.now }
+        requires told { IsTold self.old.trace shown.verdict told.now }
+        ensures trace { self.new.trace ≡ self.old.trace }
+        ensures rows { OnOk result (self.new.rows ≡ self.old.rows ++ shown ∷ []) }
+    {
+        let mut body = Vec::new(*self.text.allocator());
+        append_two(&mut body, told.bytes(), before.bytes())?;
+        append_two(&mut body, figure, after.bytes())?;
+        self.add(shown, body.as_slice())
+    }
+
+    /// Writes a row with these bytes in it. It is made first, so that the page has no half of a row if memory runs out.
+    fn add(&mut self, shown: Shown, body: &[u8]) -> Result<(), OutOfMemory>
+        requires { IsRowOf self.old shown body.now }
         ensures trace { self.new.trace ≡ self.old.trace }
         ensures rows { OnOk result (self.new.rows ≡ self.old.rows ++ shown ∷ []) }
     {
         let mut row = Vec::new(*self.text.allocator());
-        append_drawn(&mut row, shown, before.bytes(), figure, after.bytes())?;
+        append_row(&mut row, shown, body)?;
+        self.push(shown, row.as_slice())
+    }
+
+    /// Adds a row that is made.
+    fn push(&mut self, shown: Shown, row: &[u8]) -> Result<(), OutOfMemory>
+        requires { AreParts self.old.trace (self.old.text ++ row.now) (self.old.rows ++ shown ∷ []) }
+        ensures trace { self.new.trace ≡ self.old.trace }
+        ensures rows { OnOk result (self.new.rows ≡ self.old.rows ++ shown ∷ []) }
+    {
         self.rows.reserve(1)?;
-        self.text.extend_from_slice(row.as_slice())?;
+        self.text.extend_from_slice(row)?;
         self.rows.push(shown)?;
         Ok(())
     }
 }
 
-/// Appends a row with these bytes in it, one after another.
-fn append_drawn(
-    out: &mut Vec<u8>,
-    shown: Shown,
-    before: &[u8],
-    figure: &[u8],
-    after: &[u8],
-) -> Result<(), OutOfMemory>
-    requires { out.now.items ≡ [] }
-    ensures { OnOk result (out.new.items ≡ row_text shown (before.now ++ figure.now ++ after.now)) }
+/// Appends these bytes, one text after the other.
+fn append_two(out: &mut Vec<u8>, first: &[u8], second: &[u8]) -> Result<(), OutOfMemory>
+    ensures { Appended result out.old out.new (first.now ++ second.now) }
 {
-    let mut body = Vec::new(*out.allocator());
-    body.extend_from_slice(before)?;
-    body.extend_from_slice(figure)?;
-    body.extend_from_slice(after)?;
-    append_row(out, shown, body.as_slice())?;
+    out.extend_from_slice(first)?;
+    out.extend_from_slice(second)?;
     Ok(())
 }
 

@@ -1,6 +1,8 @@
 //! The only writer of a page's pieces. It writes the page's own markup, a closed list, or a number, or an escaped text.
-ghost use Rattle.std.specs.Prelude.{◌≡◌, OnErr};
+ghost use Rattle.std.specs.Prelude.{◌≡◌, ◌++◌, [], OnErr, OnOk, decimal};
 ghost use Rattle.markup.specs.Escaped.{escaped};
+ghost use Rattle.race_page.specs.Items.{Written, count_text, element_text, ending, item_text, items_text};
+ghost use Rattle.race_page.specs.Own.{begin_text, end_text, part_text};
 ghost use Rattle.race_page.specs.Pages.{IsPiece};
 ghost use Rattle.rapid_text.specs.Appended.{Appended};
 
@@ -49,7 +51,9 @@ impl Model for Piece {
 
 impl Piece {
     /// An empty piece.
-    pub(crate) fn new(alloc: Global) -> Piece {
+    pub(crate) fn new(alloc: Global) -> Piece
+        ensures { result ≡ [] }
+    {
         Piece {
             text: Vec::new(alloc),
         }
@@ -69,12 +73,16 @@ impl Piece {
     }
 
     /// Removes what was written, and keeps its memory.
-    pub(crate) fn clear(&mut self) {
+    pub(crate) fn clear(&mut self)
+        ensures { self.new ≡ [] }
+    {
         self.text.clear();
     }
 
     /// Writes these items, one after another.
-    pub(crate) fn write(&mut self, items: &[Item<'_>]) -> Result<(), OutOfMemory> {
+    pub(crate) fn write(&mut self, items: &[Item<'_>]) -> Result<(), OutOfMemory>
+        ensures { Written result self.old self.new (items_text items.now) }
+    {
         for item in items {
             self.item(*item)?;
         }
@@ -82,7 +90,9 @@ impl Piece {
     }
 
     /// Writes one item.
-    fn item(&mut self, item: Item<'_>) -> Result<(), OutOfMemory> {
+    fn item(&mut self, item: Item<'_>) -> Result<(), OutOfMemory>
+        ensures { Written result self.old self.new (item_text item.entry) }
+    {
         match item {
             Item::Begin(tag) => self.begin(tag),
             Item::End(tag) => self.end(tag),
@@ -95,25 +105,33 @@ impl Piece {
     }
 
     /// Begins an element.
-    fn begin(&mut self, tag: Tag) -> Result<(), OutOfMemory> {
+    fn begin(&mut self, tag: Tag) -> Result<(), OutOfMemory>
+        ensures { Written result self.old self.new (begin_text tag) }
+    {
         self.text.extend_from_slice(begin_of(tag))?;
         Ok(())
     }
 
     /// Ends an element.
-    fn end(&mut self, tag: Tag) -> Result<(), OutOfMemory> {
+    fn end(&mut self, tag: Tag) -> Result<(), OutOfMemory>
+        ensures { Written result self.old self.new (end_text tag) }
+    {
         self.text.extend_from_slice(end_of(tag))?;
         Ok(())
     }
 
     /// Writes a part that is always the same.
-    fn part(&mut self, part: Part) -> Result<(), OutOfMemory> {
+    fn part(&mut self, part: Part) -> Result<(), OutOfMemory>
+        ensures { Written result self.old self.new (part_text part) }
+    {
         self.text.extend_from_slice(bytes_of(part))?;
         Ok(())
     }
 
     /// Writes a number in decimal digits.
-    fn number(&mut self, number: u64) -> Result<(), OutOfMemory> {
+    fn number(&mut self, number: u64) -> Result<(), OutOfMemory>
+        ensures { Written result self.old self.new (decimal number) }
+    {
         let mut digits = Buffer::new();
         let written = digits.format(number);
         self.text.extend_from_slice(written.as_bytes())?;
@@ -121,25 +139,46 @@ impl Piece {
     }
 
     /// Writes any text, escaped.
-    fn text(&mut self, text: &[u8]) -> Result<(), OutOfMemory> {
+    fn text(&mut self, text: &[u8]) -> Result<(), OutOfMemory>
+        ensures { Written result self.old self.new (escaped text.now) }
+    {
         append_text(&mut self.text, text)?;
         Ok(())
     }
 
     /// Writes an element with a text in it.
-    fn element(&mut self, tag: Tag, text: &[u8]) -> Result<(), OutOfMemory> {
+    fn element(&mut self, tag: Tag, text: &[u8]) -> Result<(), OutOfMemory>
+        ensures { Written result self.old self.new (element_text tag text.now) }
+    {
         self.begin(tag)?;
         self.text(text)?;
         self.end(tag)
     }
 
     /// Writes a number and what is counted.
-    fn count(&mut self, number: u64, word: &[u8]) -> Result<(), OutOfMemory> {
+    fn count(&mut self, number: u64, word: &[u8]) -> Result<(), OutOfMemory>
+        ensures { Written result self.old self.new (count_text number word.now) }
+    {
         self.number(number)?;
         self.text(b" ")?;
         self.text(word)?;
-        self.text(if number == 1 { b"" } else { b"s" })
+        self.text(ending_of(number))
     }
+
+    /// Writes what another piece has.
+    pub(crate) fn append(&mut self, other: &Piece) -> Result<(), OutOfMemory>
+        ensures { Written result self.old self.new other.now }
+    {
+        self.text.extend_from_slice(other.bytes())?;
+        Ok(())
+    }
+}
+
+/// The ending of the word for things that are counted.
+fn ending_of(number: u64) -> &'static [u8]
+    ensures { result.now ≡ ending number }
+{
+    if number == 1 { b"" } else { b"s" }
 }
 
 /// Appends a text, escaped so that it is no markup.

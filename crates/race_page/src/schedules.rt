@@ -1,6 +1,8 @@
 //! The row of a race with its schedule: a picture, and the runs in words.
-ghost use Rattle.std.specs.Prelude.{◌≡◌, ◌++◌, ◌∷◌, [], OnOk};
-ghost use Rattle.explain_report.specs.findings.Findings.{IsFinding};
+ghost use Rattle.std.specs.Prelude.{◌≡◌, ◌<◌, ◌++◌, ◌∷◌, [], OnOk, length};
+ghost use Rattle.explain_report.specs.findings.Findings.{IsFinding, IsNeverShown};
+ghost use Rattle.race_page.specs.Pages.{MayBePlain};
+ghost use Rattle.race_page.specs.Told.{IsTold};
 ghost use Rattle.schedule.specs.Reordering.{IsCorrectReordering};
 ghost use Rattle.schedule.specs.Shows.{Shows};
 
@@ -24,82 +26,112 @@ const ALL_TOLD: &[u8] = b" All runs are listed in words below.";
 const LAST_TOLD: &[u8] =
     b" The last runs are listed in words below, and the command under them prints all.";
 
-/// Writes the rest of a row whose beginning is in the piece, with the schedule that shows its pair if there is one.
+/// Writes a row of which `told` is the beginning, with the schedule that shows its pair if there is one.
 pub(crate) fn write_with_schedule(
     page: &mut Page<'_>,
-    piece: &mut Piece,
+    told: &Piece,
+    rest: &mut Piece,
     word: &[u8],
     shown: Shown,
 ) -> Result<(), OutOfMemory>
+    requires told { IsTold page.old.trace shown.verdict told.now }
     ensures trace { page.new.trace ≡ page.old.trace }
     ensures rows { OnOk result (page.new.rows ≡ page.old.rows ++ shown ∷ []) }
 {
-    let indexed = page.indexed();
-    if shown.first >= indexed.len() || shown.second >= indexed.len() {
-        return write_plain(page, piece, word, shown);
+    let events = page.indexed().len();
+    if shown.first >= events {
+        write_plain(page, told, rest, word, shown)
+    } else if shown.second >= events {
+        write_plain(page, told, rest, word, shown)
+    } else {
+        write_found(page, told, rest, word, shown)
     }
+}
+
+/// Writes the same of two events of the trace.
+fn write_found(
+    page: &mut Page<'_>,
+    told: &Piece,
+    rest: &mut Piece,
+    word: &[u8],
+    shown: Shown,
+) -> Result<(), OutOfMemory>
+    requires first { shown.first < length page.old.trace.events }
+    requires second { shown.second < length page.old.trace.events }
+    requires told { IsTold page.old.trace shown.verdict told.now }
+    ensures trace { page.new.trace ≡ page.old.trace }
+    ensures rows { OnOk result (page.new.rows ≡ page.old.rows ++ shown ∷ []) }
+{
     match find(page.allocator(), page.analysis(), shown.first, shown.second) {
-        Ok(finding) => write_finding(page, piece, word, &finding, shown),
+        Ok(finding) => write_finding(page, told, rest, word, &finding, shown),
         Err(refused) => Err(refused),
     }
 }
 
-/// Writes the rest of a row without a schedule.
+/// Writes a row without a schedule, of which `told` is the beginning.
 pub(crate) fn write_plain(
     page: &mut Page<'_>,
-    piece: &mut Piece,
+    told: &Piece,
+    rest: &mut Piece,
     word: &[u8],
     shown: Shown,
 ) -> Result<(), OutOfMemory>
+    requires told { IsTold page.old.trace shown.verdict told.now }
+    requires plain { MayBePlain page.old.trace shown (length page.old.rows) }
     ensures trace { page.new.trace ≡ page.old.trace }
     ensures rows { OnOk result (page.new.rows ≡ page.old.rows ++ shown ∷ []) }
 {
-    write_commands(piece, word, shown)?;
-    page.row(shown, piece)
+    write_commands(rest, word, shown)?;
+    page.row(shown, told, rest)
 }
 
-/// Writes the rest of a row with its schedule, if the finding has one.
+/// Writes the row with its schedule, if the finding has one.
 fn write_finding(
     page: &mut Page<'_>,
-    piece: &mut Piece,
+    told: &Piece,
+    rest: &mut Piece,
     word: &[u8],
     finding: &Finding,
     shown: Shown,
 ) -> Result<(), OutOfMemory>
     requires finding { IsFinding page.old.trace shown.first shown.second finding.now }
+    requires never { IsNeverShown page.old.trace.events shown.first shown.second finding.now }
+    requires told { IsTold page.old.trace shown.verdict told.now }
     ensures trace { page.new.trace ≡ page.old.trace }
     ensures rows { OnOk result (page.new.rows ≡ page.old.rows ++ shown ∷ []) }
 {
     match finding {
         Finding::Race { how, events } => {
-            write_race(page, piece, word, *how, events.items(), shown)
+            write_race(page, told, rest, word, (*how, events.items()), shown)
         }
-        Finding::Forced { chains: _ } => write_plain(page, piece, word, shown),
-        Finding::Guarded { lock: _ } => write_plain(page, piece, word, shown),
-        Finding::Undecided { events: _ } => write_plain(page, piece, word, shown),
+        Finding::Forced { chains: _ } => write_plain(page, told, rest, word, shown),
+        Finding::Guarded { lock: _ } => write_plain(page, told, rest, word, shown),
+        Finding::Undecided { events: _ } => write_plain(page, told, rest, word, shown),
     }
 }
 
-/// Writes the rest of a row with the schedule of these events.
+/// Writes the row with this schedule: how it was found, and its events.
 fn write_race(
     page: &mut Page<'_>,
-    piece: &mut Piece,
+    told: &Piece,
+    rest: &mut Piece,
     word: &[u8],
-    how: How,
-    events: &[u32],
+    schedule: (How, &[u32]),
     shown: Shown,
 ) -> Result<(), OutOfMemory>
-    requires reordering { IsCorrectReordering page.old.trace.events events.now }
-    requires shows { Shows page.old.trace.events events.now shown.first shown.second }
+    requires reordering { IsCorrectReordering page.old.trace.events schedule.1.now }
+    requires shows { Shows page.old.trace.events schedule.1.now shown.first shown.second }
+    requires told { IsTold page.old.trace shown.verdict told.now }
     ensures trace { page.new.trace ≡ page.old.trace }
     ensures rows { OnOk result (page.new.rows ≡ page.old.rows ++ shown ∷ []) }
 {
+    let (how, events) = schedule;
     let mut words = Words::new(page.allocator());
     words.fill(page, how, events, shown)?;
-    write_caption(piece, events.len() as u64, words.is_all(), shown)?;
+    write_caption(rest, events.len() as u64, words.is_all(), shown)?;
     let mut after = Piece::new(page.allocator());
     write_after(&mut after, words.text(), word, shown)?;
-    page.drawn_row(events, shown, piece, &after)
+    page.drawn_row(events, shown, told, rest, &after)
 }
 
 /// Writes what comes before the picture, with a caption that says what the picture shows.

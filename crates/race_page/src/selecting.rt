@@ -124,6 +124,7 @@ pub(crate) fn shown_of(about: About<'_>, indexed: &Indexed, verdict: Verdict) ->
         first: verdict.first,
         second: verdict.second,
         seen: seen_of(about, indexed, verdict),
+        verdict,
     }
 }
 

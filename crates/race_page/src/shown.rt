@@ -2,6 +2,8 @@
 ghost use Rattle.std.specs.Prelude.{◌≡◌};
 ghost use Rattle.race_page.specs.Own.{row_begin, seen_text};
 
+use race_triage::Verdict;
+
 /// The sort of a row.
 #[derive(Clone, Copy, PartialEq, Eq, Debug)]
 pub enum Sort {
@@ -44,6 +46,8 @@ pub struct Shown {
     pub second: u32,
     /// The word beside the row.
     pub seen: Seen,
+    /// The verdict of which the row says what was found.
+    pub verdict: Verdict,
 }
 
 /// The beginning of a row of the sort, up to its numbers.

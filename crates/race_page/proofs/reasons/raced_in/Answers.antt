@@ -8,7 +8,7 @@ returns-in-Some c =
     let T = c.args.analysis.now.events in
     inl (
       c.in-Some.chains.items,
-      subst (λ o. IfSome o (λ cs. AreReasons T c.args.shown.first c.args.shown.second cs.items)) c.in-Some.is c.in_ok-chains.ensures.some,
+      subst (λ o. IfSome o (λ cs. AreReasons T c.args.first c.args.second cs.items)) c.in-Some.is c.in_ok-chains.ensures.some,
       c.first_raced.ensures ∙ ap (raced_step T) c.as_slice.ensures.value,
     )
 

@@ -1,18 +1,21 @@
-use Rattle.std.proofs.Common.{ap, sym, subst, ◌∙◌, ◌++◌, List, ℕ}
-use Rattle.rapid_text.specs.Recording.{Recording}
-use Rattle.race_page.specs.Own.{row_text}
-use Rattle.race_page.specs.Pages.{IsDrawn, Made}
-use Rattle.race_page.proofs.PieceLemmas.{with_drawn}
+use Rattle.std.proofs.Common.{ℕ, List, ◌++◌, ap, subst, refl, sym, append_assoc, ◌∙◌}
+use Rattle.race_page.specs.Pages.{AreParts, Made}
+use Rattle.race_page.proofs.PieceLemmas.{alone, with_drawn}
 use Rattle.race_page.proofs.page.Page.add_drawn.Goals as goal
 
-pub invariant_of-self-2 : goal.invariant_of-self-2
-invariant_of-self-2 c =
-    let shown = c.args.shown in
+pub add-requires : goal.add-requires
+add-requires c =
+    let told = c.args.told.now in
+    let before = c.args.before.now in
     let figure = c.args.figure.now in
-    let drawn = subst (λ (r : Recording). IsDrawn r shown.first shown.second figure) (sym (ap (λ (p : Made). p.trace) c.self.view_is)) c.requires in
-    with_drawn _ _ _ _ _ c.self.invariant c.in_ok-extend_from_slice.ensures.items shown _ _ _ _ _ c.bytes.ensures.piece drawn c.bytes-2.ensures.piece
+    let end = c.bytes-3.result.now in
+    let is = subst (λ (p : Made). AreParts p.trace p.text p.rows) c.self.view_is c.self.invariant in
+    with_drawn _ _ _ told _ c.args.shown is c.bytes.ensures.piece c.requires.told before figure c.args.after.now c.bytes-2.ensures.piece c.requires.drawn
+    c.bytes-3.ensures.piece
     (c.as_slice.ensures.value
-    ∙ c.in_ok-append_drawn.ensures
-    ∙ ap (λ (xs : List ℕ). row_text shown (xs ++ figure ++ c.bytes-2.result.now)) c.bytes.ensures.text
-    ∙ ap (λ (xs : List ℕ). row_text shown (c.args.before.now ++ figure ++ xs)) c.bytes-2.ensures.text)
-    c.in_ok-reserve.ensures.items c.in_ok-push.ensures.items
+    ∙ c.in_ok-append_two-2.ensures
+    ∙ sym (append_assoc _ figure end)
+    ∙ ap (λ (xs : List ℕ). xs ++ figure ++ end) (alone _ _ _ _ c.new-body.ensures.items c.in_ok-append_two.ensures refl)
+    ∙ ap (λ (xs : List ℕ). xs ++ c.bytes-2.result.now ++ figure ++ end) c.bytes.ensures.text
+    ∙ ap (λ (xs : List ℕ). told ++ xs ++ figure ++ end) c.bytes-2.ensures.text
+    ∙ ap (λ (xs : List ℕ). told ++ before ++ figure ++ xs) c.bytes-3.ensures.text)
