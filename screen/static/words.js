@@ -16,10 +16,11 @@ const END = 9;
 // Letters that are read from right to left. Parts go from left to right, so a name with such letters is one part.
 const LEFTWARD = /[\u0590-\u08ff\ufb1d-\ufdff\ufe70-\ufefc\u{10800}-\u{10fff}\u{1e800}-\u{1efff}]/u;
 
-// The last member of a variable, with the indices around it: there the names of a trace differ. It is within this many
-// letters at the end.
+// The last member of a variable, with the indices around it, or the path from the number of its object on (`#3.edge`,
+// `#T2.1.edge`): there the names of a trace differ. It is within this many letters at the end.
 const MEMBER_ROOM = 64;
-const MEMBER = /(?:\[\d+\])*[.:][^.:[\]]+(?:\[\d+\])*(?:\+\d+)?$/u;
+const NUMBERED = /#(?:\d+|T\d+(?:\.\d+)?)(?:\[\d+\]|[.:][^.:[\]#]+)*/u;
+const MEMBER = new RegExp(`(?:${NUMBERED.source})?(?:\\[\\d+\\])*[.:][^.:[\\]]+(?:\\[\\d+\\])*(?:\\+\\d+)?$`, "u");
 
 // A name that is written as its first letter is: if there is no room, its end is cut and not its beginning.
 function named(kind, text) {
