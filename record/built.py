@@ -36,19 +36,19 @@ def folder() -> str | None:
     return None
 
 
-def key_of(sources: Iterable[str], words: Iterable[str]) -> str:
+def key_of(sources: Iterable[str], arguments: Iterable[str]) -> str:
     """A number of the contents and of the arguments."""
     digest = hashlib.sha256()
     for source in sources:
         with open(source, "rb") as file:
             content = file.read()
         digest.update(b"%d\n" % len(content) + content)
-    digest.update("\0".join(words).encode("utf-8", "surrogateescape"))
+    digest.update("\0".join(arguments).encode("utf-8", "surrogateescape"))
     return digest.hexdigest()[:24]
 
 
 def built(
-    name: str, sources: Iterable[str], words: Iterable[str], make: Callable[[str], int], otherwise: str
+    name: str, sources: Iterable[str], arguments: Iterable[str], make: Callable[[str], int], otherwise: str
 ) -> str | None:
     """The path of a file that `make(path)` makes of the sources by the arguments; it is made once. It is in the folder
     `otherwise` if nothing can be kept. None if it can't be made."""
@@ -57,7 +57,7 @@ def built(
         path = os.path.join(otherwise, name)
         return path if make(path) == 0 else None
     stem, end = os.path.splitext(name)
-    path = os.path.join(kept, f"{stem}-{key_of(sources, words)}{end}")
+    path = os.path.join(kept, f"{stem}-{key_of(sources, arguments)}{end}")
     if os.path.exists(path):
         return path
     with alone_in(kept):

@@ -62,32 +62,32 @@ class Recorded(Protocol):
     record_of: Any
 
 
-def write(given: argparse.Namespace, recorded: Recorded, kept: Kept) -> None:
+def write(options: argparse.Namespace, recorded: Recorded, kept: Kept) -> None:
     """Writes the clock of a trace that was written to `kept`."""
     main = next((path for _, _, path, is_main in recorded.head.modules if is_main), "")
-    with open(given.clock, "wb") as file:
-        write_words(file, given, kept, main)
+    with open(options.clock, "wb") as file:
+        write_fields(file, options, kept, main)
         recorded.record_of.tofile(file)
         kept.lines.tofile(file)
         raw_file.write_compact(recorded.file, file)
 
 
-def write_words(file: IO[bytes], given: argparse.Namespace, kept: Kept, main: str, go_root: str = "") -> None:
+def write_fields(file: IO[bytes], options: argparse.Namespace, kept: Kept, main: str, go_root: str = "") -> None:
     """Writes the beginning of a clock. A Go program has the root of its Go."""
-    program = program_of(given.program)
-    words = {
-        "argv": [given.program] + given.args,
+    program = program_of(options.program)
+    fields = {
+        "argv": [options.program] + options.args,
         "cwd": os.getcwd(),
-        "free": given.free,
-        "yield": getattr(given, "yield"),
-        "room": given.room,
-        "seed": given.seed,
+        "free": options.free,
+        "yield": getattr(options, "yield"),
+        "room": options.room,
+        "seed": options.seed,
         **about_trace(kept),
         "program": digest_of(program) if program else "",
         "main": digest_of(main) if os.path.exists(main) else "",
         "go": go_root,
     }
-    write_head(file, words)
+    write_head(file, fields)
 
 
 def about_trace(kept: Kept) -> dict[str, Any]:
@@ -95,20 +95,20 @@ def about_trace(kept: Kept) -> dict[str, Any]:
     return {"trace": kept.whole.hexdigest(), "events": len(kept.lines)}
 
 
-def write_head(file: IO[bytes], words: dict[str, Any]) -> None:
-    text = json.dumps(words).encode()
+def write_head(file: IO[bytes], fields: dict[str, Any]) -> None:
+    text = json.dumps(fields).encode()
     file.write(MAGIC + SIZE.pack(len(text)) + text)
 
 
-def read_words(file: IO[bytes], path: str) -> dict[str, Any]:
+def read_fields(file: IO[bytes], path: str) -> dict[str, Any]:
     begin = file.read(len(MAGIC) + SIZE.size)
     if len(begin) < len(MAGIC) + SIZE.size or not begin.startswith(MAGIC):
         raise Bad(f"{path} is no clock of record/run --clock")
     try:
-        words: dict[str, Any] = json.loads(file.read(SIZE.unpack(begin[len(MAGIC) :])[0]))
+        fields: dict[str, Any] = json.loads(file.read(SIZE.unpack(begin[len(MAGIC) :])[0]))
     except ValueError:
         raise Bad(f"{path} is cut or damaged") from None
-    return words
+    return fields
 
 
 class Clock:
@@ -122,10 +122,10 @@ class Clock:
         self.last_free = -1
         try:
             with open(path, "rb") as file:
-                self.words = read_words(file, path)
+                self.fields = read_fields(file, path)
                 self.record_of, self.lines = array("Q"), array("I")
-                self.record_of.frombytes(file.read(8 * self.words["events"]))
-                self.lines.frombytes(file.read(4 * self.words["events"]))
+                self.record_of.frombytes(file.read(8 * self.fields["events"]))
+                self.lines.frombytes(file.read(4 * self.fields["events"]))
                 self.raw = file.read()
             self.head = raw_file.Head(self.raw)
             self.read_records()

@@ -10,7 +10,7 @@ import clocks
 import following
 import orders
 import plans
-import telling
+import run_messages
 
 # What came of a race, as an object for JSON: docs/FORMATS.md has its members.
 Found = Dict[str, Any]
@@ -28,11 +28,11 @@ class Race(NamedTuple):
         return [location.split(" < ")[0] for location in self.locations]
 
 
-def answer_of(words: Sequence[str]) -> str:
+def answer_of(command: Sequence[str]) -> str:
     """What racebench prints, or why it does not."""
-    ran = subprocess.run(words, capture_output=True, check=False, start_new_session=True)
+    ran = subprocess.run(command, capture_output=True, check=False, start_new_session=True)
     if ran.returncode:
-        raise following.OtherProgram(ran.stderr.decode(errors="replace").strip() or f"{words[0]} failed")
+        raise following.OtherProgram(ran.stderr.decode(errors="replace").strip() or f"{command[0]} failed")
     return ran.stdout.decode("utf-8", "surrogateescape")
 
 
@@ -52,7 +52,7 @@ def event_lines(text: str) -> List[str]:
 
 
 def check_trace(trace: str, path: str, clock: clocks.Clock) -> None:
-    if clocks.digest_of(trace) != clock.words["trace"]:
+    if clocks.digest_of(trace) != clock.fields["trace"]:
         raise clocks.Bad(f"{path} is the clock of another trace than {trace}")
 
 
@@ -63,7 +63,7 @@ class Confirmer:
         self, chosen: argparse.Namespace, clock: clocks.Clock, runner: following.Runner, settings: following.Settings
     ) -> None:
         self.chosen, self.clock, self.runner, self.settings = chosen, clock, runner, settings
-        self.teller = telling.Telling(clock)
+        self.messages = run_messages.RunMessages(clock)
 
     def attempts(self, race: Race) -> List[Tuple[plans.Witness, following.Settings]]:
         """The schedules to try until a run does not depart. First the one that racebench prints. Then its events in the
@@ -105,11 +105,11 @@ class Confirmer:
             "places": race.places,
         }
         if found.departed:
-            return {**head, "at": found.departed.event, "text": self.teller.departure(found.departed)}
+            return {**head, "at": found.departed.event, "text": self.messages.departure(found.departed)}
         result, (first, second) = found.results[0], found.columns()
         return {
             **head,
-            "text": self.teller.title(result),
+            "text": self.messages.title(result),
             "same_memory": result.is_same_memory,
             "first": first,
             "second": second,
@@ -118,13 +118,13 @@ class Confirmer:
             "uses": self.uses_of(found),
             "matters": found.verdict.matters,
             "why": found.verdict.why,
-            "liberties": list(self.teller.liberties(result)),
+            "liberties": list(self.messages.liberties(result)),
         }
 
     def uses_of(self, found: orders.Found) -> List[str]:
         """The first use of a freed block in each order, with its lines, each text once."""
         first = [result.uses[0] for result in found.results if result.uses]
-        lines = [(orders.use_text(use), self.teller.line(use.pc), self.teller.line(use.freed_at)) for use in first]
+        lines = [(orders.use_text(use), self.messages.line(use.pc), self.messages.line(use.freed_at)) for use in first]
         return list(dict.fromkeys(f"{text}: at {at}, freed at {freed}" for text, at, freed in lines))
 
 

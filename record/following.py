@@ -27,7 +27,7 @@ FILLED_HEAP = "glibc.malloc.perturb=85:glibc.malloc.tcache_count=0"
 # Seconds that a program has to end after it got the signal that this command got.
 GRACE = 2
 
-Words = Tuple[int, int]
+Halves = Tuple[int, int]
 
 
 class Standing(NamedTuple):
@@ -38,8 +38,8 @@ class Standing(NamedTuple):
     size: int
     kind: int
     pc: int
-    value: Optional[Words]
-    after: Optional[Words]
+    value: Optional[Halves]
+    after: Optional[Halves]
     frames: List[Tuple[int, int]]
     shown: Optional[java_following.Shown] = None
 
@@ -83,7 +83,7 @@ class Settings(NamedTuple):
     it, whether the heap is filled, whether each run reads standard input from its beginning, whether its standard
     error goes nowhere, and a file that keeps the raw records."""
 
-    words: List[str]
+    command: List[str]
     timeout: int
     beside: Optional[str] = None
     filled_heap: bool = True
@@ -100,22 +100,22 @@ class Result:
         self.is_deadlock = False
         # The place where a Java program departed.
         self.place = ""
-        words = plans.HEAD.unpack_from(data)[plans.WORDS_IN :]
-        self.state, self.step, self.why, self.thread = words[:4]
-        self.pos, self.kind, self.pc, self.expected = words[4:8]
-        self.spurious, self.passed, self.last_pc, self.early, self.refused_tries, self.use_count = words[8:]
+        numbers = plans.HEAD.unpack_from(data)[plans.WORDS_IN :]
+        self.state, self.step, self.why, self.thread = numbers[:4]
+        self.pos, self.kind, self.pc, self.expected = numbers[4:8]
+        self.spurious, self.passed, self.last_pc, self.early, self.refused_tries, self.use_count = numbers[8:]
         self.plan, self.rows, self.status, self.timed_out = plan, rows, status, timed_out
         self.standing = [self.stand(data, k) for k in range(2)]
-        told = plans.HEAD.size + 2 * plans.STANDING.size
-        self.at_tick = struct.unpack_from(f"<{plans.TOLD}Q", data, told)
-        self.uses = self.read_uses(data, told + 8 * plans.TOLD)
+        ticks_at = plans.HEAD.size + 2 * plans.STANDING.size
+        self.at_tick = struct.unpack_from(f"<{plans.TOLD}Q", data, ticks_at)
+        self.uses = self.read_uses(data, ticks_at + 8 * plans.TOLD)
         self.stands = self.state in (STANDS, DONE) or (self.state == DEPARTED and all(one.pc for one in self.standing))
 
     @staticmethod
     def stand(data: bytes, k: int) -> Standing:
-        words = plans.STANDING.unpack_from(data, plans.HEAD.size + k * plans.STANDING.size)
-        thread, _, at, size, kind, pc, _, low, high, there, after_low, after_high, after_there, count = words[:14]
-        frames = [(words[14 + 2 * i], words[15 + 2 * i]) for i in range(min(count, plans.FRAMES))]
+        numbers = plans.STANDING.unpack_from(data, plans.HEAD.size + k * plans.STANDING.size)
+        thread, _, at, size, kind, pc, _, low, high, there, after_low, after_high, after_there, count = numbers[:14]
+        frames = [(numbers[14 + 2 * i], numbers[15 + 2 * i]) for i in range(min(count, plans.FRAMES))]
         value, after = (low, high) if there else None, (after_low, after_high) if after_there else None
         return Standing(thread, at, size, kind, pc, value, after, frames)
 
@@ -135,18 +135,18 @@ class Result:
         return self.rows[self.step][3] if self.step < len(self.rows) else None
 
 
-def check_program(clock: clocks.Clock, words: Sequence[str]) -> None:
+def check_program(clock: clocks.Clock, command: Sequence[str]) -> None:
     """The program must be the one that was recorded: its code is what a run is compared by. The agent compares the
     classes of a Java program when they are loaded."""
-    if clock.words.get("java"):
+    if clock.fields.get("java"):
         return
-    path = clocks.program_of(words[0])
+    path = clocks.program_of(command[0])
     if not path or not os.path.exists(path):
-        recorded_in = clock.words.get("cwd", "")
+        recorded_in = clock.fields.get("cwd", "")
         where = f" (recorded in {recorded_in})" if recorded_in not in ("", os.getcwd()) else ""
-        raise running.Unrunnable(f"{words[0]}: No such file or directory{where}")
-    if clocks.digest_of(path) != clock.words["program"]:
-        raise OtherProgram(f"{words[0]} is another program than the one that was recorded")
+        raise running.Unrunnable(f"{command[0]}: No such file or directory{where}")
+    if clocks.digest_of(path) != clock.fields["program"]:
+        raise OtherProgram(f"{command[0]} is another program than the one that was recorded")
 
 
 class Runner:
@@ -195,20 +195,20 @@ class Runner:
     def run(self, surroundings: Dict[str, str], out: IO[bytes], settings: Settings) -> Tuple[int, bool]:
         """Runs a program, with the command beside it; as `wait`."""
         self.look()
-        words = [running.path_of(settings.words[0]), *settings.words[1:]]
+        command = [running.path_of(settings.command[0]), *settings.command[1:]]
         if settings.rewinds:
             os.lseek(0, 0, os.SEEK_SET)
         parent, blocked = os.getpid(), signal.pthread_sigmask(signal.SIG_BLOCK, running.ENDING)
         try:
             self.started = subprocess.Popen(
-                words,
+                command,
                 stdout=out,
                 stderr=subprocess.DEVNULL if settings.is_quiet else None,
                 env=surroundings,
                 preexec_fn=lambda: running.prepare(parent, blocked),
             )
         except OSError as error:
-            raise running.Unrunnable(running.why_not_begun(words[0], error)) from None
+            raise running.Unrunnable(running.why_not_begun(command[0], error)) from None
         finally:
             signal.pthread_sigmask(signal.SIG_SETMASK, blocked)
         left = settings.timeout if self.end is None else math.ceil(self.end - time.monotonic())
@@ -242,16 +242,16 @@ GDB = ["set breakpoint pending on", "set debuginfod enabled off", "break raceben
 PLAIN = re.compile(r"[\w./=,:@%+-]+", re.ASCII)
 
 
-def gdb_of(words: List[str], surroundings: Dict[str, str]) -> Tuple[List[str], Dict[str, str]]:
+def gdb_of(command: List[str], surroundings: Dict[str, str]) -> Tuple[List[str], Dict[str, str]]:
     """The command that runs a program under gdb, and the environment for it."""
-    if all(map(PLAIN.fullmatch, words)):
+    if all(map(PLAIN.fullmatch, command)):
         first = "set startup-with-shell off"
     else:
         shell = surroundings.get("SHELL")
         first = f"set environment SHELL {shell}" if shell else "unset environment SHELL"
         surroundings = dict(surroundings, SHELL="/bin/sh")
     commands = [word for one in [first, *GDB] for word in ("-ex", one)]
-    return ["gdb", "-q", *commands, "--args", *words], surroundings
+    return ["gdb", "-q", *commands, "--args", *command], surroundings
 
 
 def keyboard() -> Optional[TextIO]:
@@ -267,13 +267,13 @@ def surroundings_of(
 ) -> Dict[str, str]:
     """The environment of a followed run."""
     paths = [f"/proc/{os.getpid()}/fd/{file.fileno()}" for file in (records, planned)]
-    words = plan.clock.words
-    if words.get("java"):
+    fields = plan.clock.fields
+    if fields.get("java"):
         return dict(os.environ)
-    if words.get("go"):
-        return following_go.surroundings(words, seed, paths)
+    if fields.get("go"):
+        return following_go.surroundings(fields, seed, paths)
     found: Dict[str, str] = running.environment(
-        paths[0], seed, words["yield"], words["room"], RACEBENCH_FOLLOW=paths[1]
+        paths[0], seed, fields["yield"], fields["room"], RACEBENCH_FOLLOW=paths[1]
     )
     if filled:
         found["GLIBC_TUNABLES"] = ":".join(filter(None, (found.get("GLIBC_TUNABLES"), FILLED_HEAP)))
@@ -281,28 +281,28 @@ def surroundings_of(
 
 
 @contextlib.contextmanager
-def words_of(
-    plan: plans.Plan, seed: int, records: IO[bytes], planned: IO[bytes], words: List[str]
+def command_of(
+    plan: plans.Plan, seed: int, records: IO[bytes], planned: IO[bytes], command: List[str]
 ) -> Iterator[List[str]]:
     """The command that runs the program: that of the settings, unless java runs it."""
-    if not plan.clock.words.get("java"):
-        yield words
+    if not plan.clock.fields.get("java"):
+        yield command
         return
     paths = [f"/proc/{os.getpid()}/fd/{file.fileno()}" for file in (records, planned)]
-    with java_following.words_for(plan.clock.words, words, seed, paths) as found:
+    with java_following.command_for(plan.clock.fields, command, seed, paths) as found:
         yield found
 
 
 def take_texts(result: Result, records: IO[bytes]) -> None:
     """Takes what the agent wrote of a Java program."""
-    told = java_following.told(records)
-    if told.other_class:
-        raise OtherProgram(f"the class {told.other_class} is another than the one that was recorded")
+    report = java_following.report_of(records)
+    if report.other_class:
+        raise OtherProgram(f"the class {report.other_class} is another than the one that was recorded")
     if not result.stands and not result.passed and result.state == FOLLOWING:
-        where = result.plan.clock.words["cwd"]
+        where = result.plan.clock.fields["cwd"]
         raise OtherProgram(f"java did not begin the program, which was recorded in {where}")
-    result.place, result.is_deadlock = told.place, told.is_deadlock
-    result.standing = [one._replace(shown=shown) for one, shown in zip(result.standing, told.shown)]
+    result.place, result.is_deadlock = report.place, report.is_deadlock
+    result.standing = [one._replace(shown=shown) for one, shown in zip(result.standing, report.shown)]
 
 
 def followed(
@@ -315,18 +315,18 @@ def followed(
         with tempfile.TemporaryFile(prefix="record") as planned:
             rows = plan.write(planned, order)
             surroundings = surroundings_of(plan, seed, records, planned, settings.filled_heap)
-            with words_of(plan, seed, records, planned, settings.words) as words:
-                status, timed_out = runner.run(surroundings, out, settings._replace(words=words))
+            with command_of(plan, seed, records, planned, settings.command) as command:
+                status, timed_out = runner.run(surroundings, out, settings._replace(command=command))
             if not os.fstat(records.fileno()).st_size:
                 raise OtherProgram(
-                    f"{settings.words[0]} was not recorded: it has no recorder, or there is no room in TMPDIR"
+                    f"{settings.command[0]} was not recorded: it has no recorder, or there is no room in TMPDIR"
                 )
             planned.seek(0)
             result = Result(planned.read(), plan, rows, status, timed_out)
-            if plan.clock.words.get("java"):
+            if plan.clock.fields.get("java"):
                 take_texts(result, records)
             else:
-                result.is_deadlock = raw_file.words_of(records).deadlock > 0
+                result.is_deadlock = raw_file.numbers_of(records).deadlock > 0
             return result
     finally:
         if records is not settings.records:
@@ -339,7 +339,7 @@ def in_gdb(plan: plans.Plan, order: plans.Order, seed: int, settings: Settings, 
     with file, tempfile.TemporaryFile(prefix="record") as planned:
         rows = plan.write(planned, order)
         surroundings = surroundings_of(plan, seed, file, planned, settings.filled_heap)
-        words = [running.path_of(settings.words[0]), *settings.words[1:]]
-        status, timed_out = running.run(*gdb_of(words, surroundings), None, None, source)
+        command = [running.path_of(settings.command[0]), *settings.command[1:]]
+        status, timed_out = running.run(*gdb_of(command, surroundings), None, None, source)
         planned.seek(0)
         return Result(planned.read(), plan, rows, status, timed_out)

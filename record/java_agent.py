@@ -43,24 +43,24 @@ def packaged() -> str | None:
     return jar if os.path.exists(jar) else None
 
 
-def run(words: list[str]) -> None:
+def run(command: list[str]) -> None:
     """Runs a step of the build, and repeats what it says if it fails."""
-    done = subprocess.run(words, stdin=subprocess.DEVNULL, capture_output=True, check=False)
+    done = subprocess.run(command, stdin=subprocess.DEVNULL, capture_output=True, check=False)
     if done.returncode:
         sys.stderr.write(done.stderr.decode(errors="replace")[:4000])
-        raise Unbuildable(f"the agent was not compiled: {os.path.basename(words[0])} ended with {done.returncode}")
+        raise Unbuildable(f"the agent was not compiled: {os.path.basename(command[0])} ended with {done.returncode}")
 
 
 def make(jar: str, names: str) -> int:
     """Compiles the agent, and puts it into a jar with ASM. The jar will have one of the names."""
-    javac, java, both = tool("javac"), tool("java"), f"{ASM}:{ASM_COMMONS}"
+    javac, java, jars = tool("javac"), tool("java"), f"{ASM}:{ASM_COMMONS}"
     with tempfile.TemporaryDirectory(prefix="record") as folder:
         agent, shade = os.path.join(folder, "agent"), os.path.join(folder, "shade")
         sources = sorted(glob.glob(os.path.join(SOURCES, "src", "planecarmine", "*.java")))
         run([javac, *LIGHT, "-nowarn", "--release", "17", "-encoding", "UTF-8", "-cp", ASM, "-d", agent, *sources])
-        run([javac, *LIGHT, "--release", "17", "-cp", both, "-d", shade, os.path.join(SOURCES, "shade", "Shade.java")])
+        run([javac, *LIGHT, "--release", "17", "-cp", jars, "-d", shade, os.path.join(SOURCES, "shade", "Shade.java")])
         table = os.path.join(SOURCES, "library.txt")
-        run([java, "-cp", f"{shade}:{both}", "Shade", jar, agent, ASM, table, names])
+        run([java, "-cp", f"{shade}:{jars}", "Shade", jar, agent, ASM, table, names])
     return 0
 
 

@@ -21,7 +21,7 @@ class Beside:
         self.path, self.kept = path, clocks.Kept(sys.stdout.buffer)
         self.files = [tempfile.TemporaryFile(prefix="record") for _ in PARTS]
         self.numbers = [file.fileno() for file in self.files]
-        self.words = [word for part, n in zip(PARTS, self.numbers) for word in (part, f"/dev/fd/{n}")]
+        self.arguments = [word for part, n in zip(PARTS, self.numbers) for word in (part, f"/dev/fd/{n}")]
 
     def names(self) -> dict[str, dict[str, str]]:
         """The places of code by their numbers, and the classes with the digests of their files."""
@@ -32,7 +32,7 @@ class Beside:
             found[sort].setdefault(name, text)
         return found
 
-    def write(self, words: dict[str, Any]) -> None:
+    def write(self, fields: dict[str, Any]) -> None:
         """Writes the clock of a program that java ran with these arguments and options."""
         records, events, _ = self.files
         names = self.names()
@@ -40,7 +40,7 @@ class Beside:
         about = {"cwd": os.getcwd(), "free": False, "program": "", "main": "", "go": ""}
         java = {"places": names["place"], "classes": names["class"]}
         with open(self.path, "wb") as out:
-            clocks.write_head(out, {**about, **words, **clocks.about_trace(self.kept), "java": java})
+            clocks.write_head(out, {**about, **fields, **clocks.about_trace(self.kept), "java": java})
             for file in (events, records):
                 if file is records:
                     self.kept.lines.tofile(out)

@@ -29,7 +29,7 @@ class Shown(NamedTuple):
     after: str | None
 
 
-class Told(NamedTuple):
+class Report(NamedTuple):
     """What the agent wrote: both threads, the place where the run departed, a class that is another one, and whether
     it ended the program in a deadlock."""
 
@@ -63,7 +63,7 @@ def entries_of(chunk: bytes) -> Iterator[tuple[int, int, int, str]]:
         at += size
 
 
-def told(file: IO[bytes]) -> Told:
+def report_of(file: IO[bytes]) -> Report:
     """What the agent wrote of a followed run."""
     calls: list[list[str]] = [[], []]
     accessed, place, other, is_deadlock = ["", ""], "", "", False
@@ -82,30 +82,30 @@ def told(file: IO[bytes]) -> Told:
         elif kind == FACT and text == "deadlock":
             is_deadlock = True
     shown = [Shown(calls[k], accessed[k], values.get((k, 0)), values.get((k, 1))) for k in range(2)]
-    return Told(shown, place, other, is_deadlock)
+    return Report(shown, place, other, is_deadlock)
 
 
 @contextlib.contextmanager
-def words_for(clock_words: dict[str, Any], words: list[str], seed: int, paths: list[str]) -> Iterator[list[str]]:
-    """What runs a program, as java has it in `words`, with its raw file and its plan at these paths."""
+def command_for(fields: dict[str, Any], arguments: list[str], seed: int, paths: list[str]) -> Iterator[list[str]]:
+    """What runs a program, as java has it in `arguments`, with its raw file and its plan at these paths."""
     with tempfile.TemporaryDirectory(prefix="record") as folder:
         try:
             jar, java = java_agent.jar_path(folder), java_agent.tool("java")
         except java_agent.Unbuildable as why:
             raise running.Unrunnable(str(why)) from None
         with tempfile.NamedTemporaryFile("w", prefix="record", dir=folder, encoding="utf-8") as classes:
-            classes.writelines(f"{name} {digest}\n" for name, digest in clock_words["java"]["classes"].items())
+            classes.writelines(f"{name} {digest}\n" for name, digest in fields["java"]["classes"].items())
             classes.flush()
-            given = {"raw": paths[0], "follow": paths[1], "classes": classes.name}
-            given.update(seed=str(seed), **{"yield": str(clock_words["yield"])})
-            agent = f"-javaagent:{jar}={','.join('='.join(one) for one in given.items())}"
-            yield [java, *sooner(words), agent, *words]
+            agent_options = {"raw": paths[0], "follow": paths[1], "classes": classes.name}
+            agent_options.update(seed=str(seed), **{"yield": str(fields["yield"])})
+            agent = f"-javaagent:{jar}={','.join('='.join(one) for one in agent_options.items())}"
+            yield [java, *sooner(arguments), agent, *arguments]
 
 
-def sooner(words: list[str]) -> list[str]:
+def sooner(arguments: list[str]) -> list[str]:
     """The options with which java begins sooner, except those that the program's own options forbid."""
     others = [
-        *words,
+        *arguments,
         *os.environ.get("JAVA_TOOL_OPTIONS", "").split(),
         *os.environ.get("JDK_JAVA_OPTIONS", "").split(),
     ]

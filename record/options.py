@@ -61,7 +61,7 @@ def add_run_options(parser: argparse.ArgumentParser, tries: int) -> None:
 def add_program(parser: argparse.ArgumentParser) -> None:
     """The program and its arguments, which may be left out."""
     text = "the program and its arguments (those of the recording)"
-    parser.add_argument("words", metavar="PROGRAM", nargs=argparse.REMAINDER, help=text).required = False
+    parser.add_argument("command", metavar="PROGRAM", nargs=argparse.REMAINDER, help=text).required = False
 
 
 def is_file(number: int) -> bool:
@@ -72,7 +72,7 @@ def is_file(number: int) -> bool:
         return False
 
 
-def settings_of(chosen: argparse.Namespace, words: List[str], rewinds: bool) -> following.Settings:
+def settings_of(chosen: argparse.Namespace, command: List[str], rewinds: bool) -> following.Settings:
     """How to follow, from these options. If `rewinds` and standard input is a file, each run reads it from its
     beginning."""
-    return following.Settings(words, chosen.timeout, chosen.beside, not chosen.plain_heap, rewinds and is_file(0))
+    return following.Settings(command, chosen.timeout, chosen.beside, not chosen.plain_heap, rewinds and is_file(0))

@@ -7,7 +7,7 @@ from typing import Callable, Dict, List, NamedTuple, Optional, Sequence
 import following
 import plans
 import raw as raw_file
-import telling
+import run_messages
 import verdicts
 
 BOTH = ("first", "second")
@@ -43,13 +43,13 @@ def use_text(use: following.Use) -> str:
 def ending_of(result: following.Result) -> str:
     """How a run ended, and its first use of a freed block."""
     used = [use_text(use) for use in result.uses[:1]]
-    return ", then ".join([*used, telling.ending(result)])
+    return ", then ".join([*used, run_messages.ending(result)])
 
 
 def kind_of_ending(result: following.Result) -> str:
     """The same without the threads and sizes, which may vary where the fault does not."""
     verb = "frees" if result.uses and result.uses[0].kind == raw_file.KINDS["FREED"] else "uses"
-    return telling.ending(result) if not result.uses else f"{verb} a freed block, {telling.ending(result)}"
+    return run_messages.ending(result) if not result.uses else f"{verb} a freed block, {run_messages.ending(result)}"
 
 
 class Tried:

@@ -20,10 +20,10 @@ class Answers(Protocol):
 
 class Places:
     """Answers for the program of one recording. `head` is the raw file up to its records. A separate decoder answers
-    for a Go program: `words` run it."""
+    for a Go program: `command` run it."""
 
-    def __init__(self, head: bytes, words: Sequence[str] = ()) -> None:
-        self.head, self.words = head, words
+    def __init__(self, head: bytes, command: Sequence[str] = ()) -> None:
+        self.head, self.command = head, command
         self.known: dict[int, list[tuple[str, str]]] = {}
 
     @functools.cached_property
@@ -32,7 +32,7 @@ class Places:
             file.write(self.head)
             file.flush()
             return subprocess.Popen(
-                self.words or [self.path(), "--places", f"/dev/fd/{file.fileno()}"],
+                self.command or [self.path(), "--places", f"/dev/fd/{file.fileno()}"],
                 stdin=subprocess.PIPE,
                 stdout=subprocess.PIPE,
                 pass_fds=[file.fileno()],
@@ -51,10 +51,10 @@ class Places:
     def frames(self, address: int) -> list[tuple[str, str]]:
         """The function and the place of each frame at an address after a call, the innermost first."""
         if address not in self.known:
-            self.known[address] = list(self.asked(address))
+            self.known[address] = list(self.answer_of(address))
         return self.known[address]
 
-    def asked(self, address: int) -> list[tuple[str, str]]:
+    def answer_of(self, address: int) -> list[tuple[str, str]]:
         question, answer = self.decoder.stdin, self.decoder.stdout
         if question is None or answer is None:
             return []

@@ -240,7 +240,7 @@ class Plan:
             places.append(end)
             end += len(part)
         threads_at, forks_at, steps_at, needs_at, first_at, ticks_at, modules_at = places
-        frees, modules = int(self.clock.words["free"]), self.clock.head.module_count
+        frees, modules = int(self.clock.fields["free"]), self.clock.head.module_count
         alone = self.alone if order.goes_alone else 0
         counts = [self.threads, len(rows), len(self.clock.forks), len(parts[5]) // 24, frees]
         how = [order.held_back, alone, self.patience]

@@ -31,18 +31,18 @@ CLANG = Plugin("clang", "-fpass-plugin=", "-print-resource-dir", "../../../inclu
 
 def headers_of(plugin: Plugin, compiler: str) -> str | None:
     """The folder of a compiler's headers for plugins, or None if they are not installed."""
-    words = [compiler, plugin.question]
-    folder = subprocess.run(words, capture_output=True, text=True, check=False).stdout.strip()
+    command = [compiler, plugin.question]
+    folder = subprocess.run(command, capture_output=True, text=True, check=False).stdout.strip()
     headers = os.path.normpath(os.path.join(folder, plugin.headers))
     return headers if os.path.isfile(os.path.join(headers, plugin.header)) else None
 
 
-def reason_against(words: list[str]) -> str | None:
+def reason_against(command: list[str]) -> str | None:
     """Why a call of a compiler failed, or None if it did not."""
     try:
-        done = subprocess.run(words, capture_output=True, text=True, errors="replace", check=False)
+        done = subprocess.run(command, capture_output=True, text=True, errors="replace", check=False)
     except OSError as error:
-        return f"{words[0]}: {error.strerror}"
+        return f"{command[0]}: {error.strerror}"
     lines = [line for line in done.stderr.splitlines() if "error" in line]
     return (lines or ["it failed"])[0] if done.returncode else None
 
@@ -62,14 +62,14 @@ def compile_to(plugin: Plugin, compiler: str, path: str) -> int:
     return 1 if why else 0
 
 
-def words_for(compiler: str, version: str) -> list[str]:
+def options_for(compiler: str, version: str) -> list[str]:
     """The options by which a compiler of this version takes its plugin; none if there is no plugin for it."""
     plugin = CLANG if "clang" in version else GCC
     if built.folder() is None:
         return []
     # The compilers of C and of C++ of one version take one plugin.
-    words = [*OPTIONS, version if plugin == CLANG else version.partition(" ")[2]]
+    arguments = [*OPTIONS, version if plugin == CLANG else version.partition(" ")[2]]
     sources = sorted(glob.glob(os.path.join(FOLDER, "*.[ch]pp")))
     make = functools.partial(compile_to, plugin, compiler)
-    path = built.built(f"{plugin.name}_pass.so", sources, words, make, "")
+    path = built.built(f"{plugin.name}_pass.so", sources, arguments, make, "")
     return [plugin.option + path] if path else []

@@ -42,7 +42,7 @@ class Recorded:
     def __init__(self, file: IO[bytes], whole: bool) -> None:
         self.file = file
         file.seek(0)
-        self.head = raw_file.Words(file.read(raw_file.HEAD_SIZE))
+        self.head = raw_file.Numbers(file.read(raw_file.HEAD_SIZE))
         if whole:
             file.seek(0)
             calls = self.head.stacks * raw_file.NODE.size
@@ -66,7 +66,7 @@ def stop_recording_after(seconds: float, file: IO[bytes]) -> None:
 
     def kept() -> int:
         head = os.pread(file.fileno(), raw_file.HEAD_SIZE, 0)
-        return int(raw_file.Words(head).kept) if len(head) == raw_file.HEAD_SIZE else 0
+        return int(raw_file.Numbers(head).kept) if len(head) == raw_file.HEAD_SIZE else 0
 
     def stop() -> None:
         while not kept():
@@ -81,7 +81,7 @@ def libraries_of(file: IO[bytes]) -> list[str]:
     """The names of the files that a recorded program and its libraries are in."""
     file.seek(0)
     head = file.read(raw_file.HEAD_SIZE)
-    count = min(raw_file.Words(head).module_count, raw_file.MOST_MODULES)
+    count = min(raw_file.Numbers(head).module_count, raw_file.MOST_MODULES)
     modules = [raw_file.MODULE.unpack_from(head, raw_file.WORDS.size + k * raw_file.MODULE.size) for k in range(count)]
     return [os.path.basename(os.fsdecode(path.split(b"\0")[0])) for _, _, path in modules]
 
@@ -127,7 +127,7 @@ def some(names: list[str]) -> str:
     return ", ".join(names[:MOST_NAMES] + rest)
 
 
-def losses_of_recording(options: argparse.Namespace, head: raw_file.Words, facts: decoders.Facts) -> Iterator[str]:
+def losses_of_recording(options: argparse.Namespace, head: raw_file.Numbers, facts: decoders.Facts) -> Iterator[str]:
     """What the options and the machine left out."""
     counts, losses = facts.counts, facts.losses
     reasons = {
@@ -180,7 +180,7 @@ def losses_of_program(facts: decoders.Facts) -> Iterator[str]:
         yield "the program made no second thread, so there is nothing to judge"
 
 
-def report_order(head: raw_file.Words, facts: decoders.Facts, libraries: list[str]) -> None:
+def report_order(head: raw_file.Numbers, facts: decoders.Facts, libraries: list[str]) -> None:
     """Lines about an order that the trace has and the program has not, or the other way round."""
     for library in libraries:
         if library.startswith(UNKNOWN_OPENMP):
@@ -224,7 +224,7 @@ def report_what_no_verdict_needs(facts: decoders.Facts) -> None:
         say(f"loops poll: {counted(counts['polls'], 'read', 'reads')} not written (--all)")
 
 
-def report(options: argparse.Namespace, head: raw_file.Words, facts: decoders.Facts, libraries: list[str]) -> None:
+def report(options: argparse.Namespace, head: raw_file.Numbers, facts: decoders.Facts, libraries: list[str]) -> None:
     counts = facts.counts
     if facts.deadlock:
         say(f"the program is in a deadlock: {deadlock_of(facts)}")

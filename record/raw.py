@@ -23,10 +23,10 @@ def names_of(text: str, place: int) -> dict[str, int]:
 
 def number_of(text: str, name: str) -> int:
     """What the header says of a name, as a number: digits, or `1u << digits`."""
-    said = re.search(rf"^#define {name} \(?(0x[0-9a-f]+|\d+)u?l*( << (\d+))?\)?$", text, re.MULTILINE)
-    if not said:
+    found = re.search(rf"^#define {name} \(?(0x[0-9a-f]+|\d+)u?l*( << (\d+))?\)?$", text, re.MULTILINE)
+    if not found:
         raise ValueError(f"format.h has no {name}")
-    return int(said[1], 0) << int(said[3] or 0)
+    return int(found[1], 0) << int(found[3] or 0)
 
 
 def fields_of(text: str, name: str) -> list[str]:
@@ -76,15 +76,15 @@ class Record(NamedTuple):
 class Call:
     """A call that the hooks saw begin: a place in the function, where it was called, and the call around it."""
 
-    def __init__(self, words: tuple[int, ...]) -> None:
-        self.body, self.site, self.outer, self.same = words
+    def __init__(self, numbers: tuple[int, ...]) -> None:
+        self.body, self.site, self.outer, self.same = numbers
 
 
-class Words:
+class Numbers:
     """The numbers at the head of the file, which may be cut."""
 
     def __init__(self, raw: bytes) -> None:
-        words = WORDS.unpack_from(raw.ljust(WORDS.size, b"\0"), 0)
+        numbers = WORDS.unpack_from(raw.ljust(WORDS.size, b"\0"), 0)
         (
             magic,
             _,
@@ -106,19 +106,19 @@ class Words:
             self.unrecorded,
             self.deadlock,
             _,
-        ) = words
+        ) = numbers
         self.there = magic == MAGIC and len(raw) >= HEAD_SIZE
 
 
 def packed_head(used: int, modules: int) -> bytes:
     """The numbers of a file without calls: the records come after the modules."""
-    given = {"magic": MAGIC, "room": used, "used": used, "stacks_at": HEAD_SIZE, "words_at": HEAD_SIZE}
-    given["modules"] = modules
+    values = {"magic": MAGIC, "room": used, "used": used, "stacks_at": HEAD_SIZE, "words_at": HEAD_SIZE}
+    values["modules"] = modules
     names = fields_of(HEADER, "head")
-    return WORDS.pack(*(given.get(name, 0) for name in names))
+    return WORDS.pack(*(values.get(name, 0) for name in names))
 
 
-class Head(Words):
+class Head(Numbers):
     """All that comes before the records."""
 
     def __init__(self, raw: bytes) -> None:
@@ -132,20 +132,20 @@ class Head(Words):
         self.all_calls = self.stacks < self.stack_room
 
 
-def words_of(file: IO[bytes]) -> Words:
+def numbers_of(file: IO[bytes]) -> Numbers:
     """The numbers at the head of an open raw file."""
     file.seek(0)
-    return Words(file.read(HEAD_SIZE))
+    return Numbers(file.read(HEAD_SIZE))
 
 
 def write_compact(file: IO[bytes], out: IO[bytes]) -> None:
     """Writes the head, the nodes and the records of a raw file, one after another, in pieces."""
     file.seek(0)
     first = file.read(HEAD_SIZE)
-    head = Words(first)
-    words = list(WORDS.unpack_from(first))
-    words[5], words[6] = HEAD_SIZE, HEAD_SIZE + head.stacks * NODE.size
-    out.write(WORDS.pack(*words) + first[WORDS.size :])
+    head = Numbers(first)
+    numbers = list(WORDS.unpack_from(first))
+    numbers[5], numbers[6] = HEAD_SIZE, HEAD_SIZE + head.stacks * NODE.size
+    out.write(WORDS.pack(*numbers) + first[WORDS.size :])
     for start, size in ((head.stacks_at, head.stacks * NODE.size), (head.words_at, head.used * WORD)):
         file.seek(start)
         while size and (piece := file.read(min(size, AT_ONCE))):
@@ -167,7 +167,7 @@ class Damaged(ValueError):
 class Reader:
     """Reads the records of a raw file. They have the numbers of their first machine words."""
 
-    def __init__(self, raw: bytes, head: Words) -> None:
+    def __init__(self, raw: bytes, head: Numbers) -> None:
         there = memoryview(raw)[head.words_at : head.words_at + head.used * WORD]
         self.words = there[: len(there) // WORD * WORD].cast("Q")
         self.forms: dict[int, Record] = {}
@@ -215,12 +215,12 @@ class Reader:
             place += LONG_WORDS if kind == LONG else 2 if kind == TURN else 1
 
 
-def all_records(raw: bytes, head: Words) -> Iterator[tuple[int, Record]]:
+def all_records(raw: bytes, head: Numbers) -> Iterator[tuple[int, Record]]:
     """All records, each with its number, with those that did not happen: they are VOID."""
     return Reader(raw, head).all()
 
 
-def records(raw: bytes, head: Words) -> Iterator[tuple[int, Record]]:
+def records(raw: bytes, head: Numbers) -> Iterator[tuple[int, Record]]:
     """The records that happened, each with its number."""
     void = KINDS["VOID"]
     for number, record in all_records(raw, head):

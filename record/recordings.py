@@ -39,7 +39,7 @@ class Wanted(NamedTuple):
     folder: str
     racebench: str
     record_options: str
-    words: List[str]
+    command: List[str]
 
 
 def seeds_of(text: str) -> List[int]:
@@ -88,15 +88,15 @@ class Recorder:
         for started in list(self.running):
             end_group(started, number)
 
-    def run(self, words: Sequence[str], out: str, log: str) -> Optional[int]:
+    def run(self, command: Sequence[str], out: str, log: str) -> Optional[int]:
         """Runs a command with its output in two files; its status, or None if it was stopped. The file of its output
         has its name only if it is whole."""
         part = f"{out}.part"
         if self.is_stopped:
             return None
-        with open(part, "wb") as printed, open(log, "ab") as said:
+        with open(part, "wb") as printed, open(log, "ab") as log_file:
             source = source_of_input()
-            started = subprocess.Popen(words, stdin=source, stdout=printed, stderr=said, start_new_session=True)
+            started = subprocess.Popen(command, stdin=source, stdout=printed, stderr=log_file, start_new_session=True)
             self.running.add(started)
             if self.is_stopped:
                 end_group(started, signal.SIGTERM)
@@ -114,7 +114,7 @@ class Recorder:
         wanted = self.wanted
         trace, clock, log, report = (path_of(wanted.folder, seed, ending) for ending in ENDINGS)
         options = ["--seed", str(seed), "--clock", clock, *shlex.split(wanted.record_options)]
-        recorded = self.run([os.path.join(HERE, "run"), *options, *wanted.words], trace, log)
+        recorded = self.run([os.path.join(HERE, "run"), *options, *wanted.command], trace, log)
         if recorded is None:
             return Recording(seed, STOPPED)
         if recorded not in (RECORDED, IS_NOT_WHOLE, IS_DEADLOCK):

@@ -105,7 +105,7 @@ def environment(raw: str, seed: int, one_in: int, room: int, **more: str) -> dic
 
 
 def run(
-    words: Sequence[str],
+    command: Sequence[str],
     surroundings: Mapping[str, str],
     out: Any,
     patience: float | None = None,
@@ -120,11 +120,11 @@ def run(
     blocked = signal.pthread_sigmask(signal.SIG_BLOCK, ENDING)
     try:
         started = subprocess.Popen(
-            words, stdin=source, stdout=out, env=surroundings, preexec_fn=lambda: prepare(parent, blocked)
+            command, stdin=source, stdout=out, env=surroundings, preexec_fn=lambda: prepare(parent, blocked)
         )
         take_signals(started)
     except OSError as error:
-        raise Unrunnable(why_not_begun(words[0], error)) from None
+        raise Unrunnable(why_not_begun(command[0], error)) from None
     finally:
         signal.pthread_sigmask(signal.SIG_SETMASK, blocked)
     if begun:
@@ -170,7 +170,7 @@ def look_at(file: IO[bytes], program: str) -> None:
     """Looks whether the raw file of a run has records of a program with hooks."""
     if not os.fstat(file.fileno()).st_size:
         raise Unrunnable("%s was not compiled with record/cc or record/c++, or started nothing that was" % program)
-    head = raw_file.words_of(file)
+    head = raw_file.numbers_of(file)
     if not head.there or not head.used:
         raise Unrunnable("nothing was recorded: the folder for the records, %s, has no room" % tempfile.gettempdir())
     if not head.units:
@@ -180,13 +180,13 @@ def look_at(file: IO[bytes], program: str) -> None:
         )
 
 
-def racebench_of(given: str | None) -> str | None:
+def racebench_of(chosen: str | None) -> str | None:
     """The program racebench: the chosen one, the one of $RACEBENCH, the one that was built beside this folder, or the
     one in PATH; None if no such program is found."""
-    return given or os.environ.get("RACEBENCH") or (BUILT if os.access(BUILT, os.X_OK) else shutil.which("racebench"))
+    return chosen or os.environ.get("RACEBENCH") or (BUILT if os.access(BUILT, os.X_OK) else shutil.which("racebench"))
 
 
-def told(error: OSError) -> str:
+def reason_of(error: OSError) -> str:
     """An error of the system, in words."""
     return "%s: %s" % (error.filename, error.strerror) if error.filename and error.strerror else str(error)
 

@@ -113,7 +113,7 @@ def shown(value: object) -> str:
     return text if len(text) <= SHOWN else f"{text[:SHOWN]}.."
 
 
-def said_of(difference: Difference, names: Dict[str, str]) -> str:
+def sentence_of(difference: Difference, names: Dict[str, str]) -> str:
     first, second = map(shown, difference.values)
     one, other = names[difference.first], names[difference.second]
     return f"the outputs differ: {first} with {one}, {second} with {other}"
@@ -127,7 +127,7 @@ def of_outputs(orders: Orders, names: Dict[str, str], pairs: int) -> Verdict:
     whole: Dict[str, Set[object]] = {name: {one.output for one in found} for name, found in orders.items()}
     needed = runs_needed(pairs, 1 if first_difference(whole) else features)
     if runs >= needed:
-        return Verdict(True, said_of(word, names), False)
+        return Verdict(True, sentence_of(word, names), False)
     return Verdict(None, OUTPUTS_VARY, runs < MOST_RUNS)
 
 

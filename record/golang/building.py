@@ -37,10 +37,10 @@ def found() -> Go:
     command = shutil.which(name)
     if not command:
         raise NoGo(f"there is no {name}: install Debian's golang-go, or name a Go by RECORD_GO")
-    asked = subprocess.run([command, "env", *VARIABLES], capture_output=True, text=True, check=False)
-    root, version, system, machine = (asked.stdout.splitlines() + 4 * [""])[:4]
-    if asked.returncode or not root:
-        raise NoGo(f"{command} env ended with status {asked.returncode}: {asked.stderr.strip()[:200]}")
+    done = subprocess.run([command, "env", *VARIABLES], capture_output=True, text=True, check=False)
+    root, version, system, machine = (done.stdout.splitlines() + 4 * [""])[:4]
+    if done.returncode or not root:
+        raise NoGo(f"{command} env ended with status {done.returncode}: {done.stderr.strip()[:200]}")
     if (system, machine) != ("linux", "amd64"):
         raise NoGo(f"Go programs can be recorded for linux/amd64, and not for {system}/{machine}")
     return Go(command, root, version)
@@ -81,8 +81,8 @@ def compile_decoder(go: Go, path: str) -> int:
     )
     surroundings = {**os.environ, **settings, "GOROOT": go.root}
     print("record: the decoder for Go is compiled, once", file=sys.stderr)
-    words = [go.command, "build", "-trimpath", "-o", path, "."]
-    done = subprocess.run(words, cwd=DECODER, env=surroundings, capture_output=True, text=True, check=False)
+    command = [go.command, "build", "-trimpath", "-o", path, "."]
+    done = subprocess.run(command, cwd=DECODER, env=surroundings, capture_output=True, text=True, check=False)
     if done.returncode:
         print(f"record: {(done.stderr.strip().splitlines() or ['no reason given'])[-1]}", file=sys.stderr)
     return done.returncode
@@ -90,8 +90,8 @@ def compile_decoder(go: Go, path: str) -> int:
 
 def decoder_of(go: Go, folder: str) -> str:
     """The path of the decoder that a Go compiled, which knows the tables of its programs."""
-    words = [go.root, go.version]
-    path = built.built("go-decoder", source_files(DECODER), words, lambda path: compile_decoder(go, path), folder)
+    arguments = [go.root, go.version]
+    path = built.built("go-decoder", source_files(DECODER), arguments, lambda path: compile_decoder(go, path), folder)
     if not path:
         raise NoGo(f"the decoder can't be compiled by {go.command}")
     return str(path)

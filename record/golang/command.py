@@ -36,7 +36,7 @@ class Refused(Exception):
 
 
 @dataclass
-class Words:
+class Arguments:
     """The arguments of record/go, in groups."""
 
     options: list[str] = field(default_factory=list)
@@ -53,76 +53,76 @@ def name_of(word: str) -> str:
     return found[1] if found else ""
 
 
-def taken(words: list[str], has_value: bool) -> list[str]:
+def taken(arguments: list[str], has_value: bool) -> list[str]:
     """The flag at the beginning of the arguments, with its value."""
-    first = words.pop(0)
+    first = arguments.pop(0)
     if not has_value or "=" in first:
         return [first]
-    if not words:
+    if not arguments:
         raise Refused(f"{first} needs a value")
-    return [first, words.pop(0)]
+    return [first, arguments.pop(0)]
 
 
-def take_options(words: list[str], into: Words) -> None:
+def take_options(arguments: list[str], into: Arguments) -> None:
     """Takes the options of record/run, which come first."""
-    while words and words[0].startswith("--"):
-        name = name_of(words[0])
+    while arguments and arguments[0].startswith("--"):
+        name = name_of(arguments[0])
         if name == "into":
-            into.into = taken(words, True)[-1].removeprefix("--into=")
+            into.into = taken(arguments, True)[-1].removeprefix("--into=")
         elif name in OPTIONS:
-            into.options += taken(words, OPTIONS[name])
+            into.options += taken(arguments, OPTIONS[name])
         else:
             return
 
 
-def take_build_flag(words: list[str], into: Words) -> None:
-    name = name_of(words[0])
+def take_build_flag(arguments: list[str], into: Arguments) -> None:
+    name = name_of(arguments[0])
     if name in REFUSED:
         raise Refused(f"-{name} can't be used" + (f": {REFUSED[name]}" if REFUSED[name] else " for a recording"))
-    flag = taken(words, name in BUILD_FLAGS)
+    flag = taken(arguments, name in BUILD_FLAGS)
     if name != "race":
         into.build += flag
 
 
-def words_of_test(words: list[str]) -> Words:
-    into = Words()
-    take_options(words, into)
-    while words:
-        name = name_of(words[0])
-        if words[0] in ("-args", "--args"):
-            into.test += words[1:]
+def arguments_of_test(arguments: list[str]) -> Arguments:
+    into = Arguments()
+    take_options(arguments, into)
+    while arguments:
+        name = name_of(arguments[0])
+        if arguments[0] in ("-args", "--args"):
+            into.test += arguments[1:]
             break
         if not name:
-            into.packages.append(words.pop(0))
+            into.packages.append(arguments.pop(0))
         elif name.removeprefix("test.") in TEST_FLAGS:
             name = name.removeprefix("test.")
-            flag = taken(words, TEST_FLAGS[name])
+            flag = taken(arguments, TEST_FLAGS[name])
             value = flag[1] if len(flag) > 1 else flag[0].partition("=")[2]
             into.test.append(f"-test.{name}={value}" if value or TEST_FLAGS[name] else f"-test.{name}")
         else:
-            take_build_flag(words, into)
+            take_build_flag(arguments, into)
     return into
 
 
-def words_of_run(words: list[str]) -> Words:
-    into = Words()
-    take_options(words, into)
-    while words and name_of(words[0]):
-        take_build_flag(words, into)
-    while words and (not into.packages or (into.packages[0].endswith(".go") and words[0].endswith(".go"))):
-        into.packages.append(words.pop(0))
-    into.rest = words
+def arguments_of_run(arguments: list[str]) -> Arguments:
+    into = Arguments()
+    take_options(arguments, into)
+    while arguments and name_of(arguments[0]):
+        take_build_flag(arguments, into)
+    while arguments and (not into.packages or (into.packages[0].endswith(".go") and arguments[0].endswith(".go"))):
+        into.packages.append(arguments.pop(0))
+    into.rest = arguments
     if not into.packages:
         raise Refused("run needs a package or the files of one")
     return into
 
 
-def build_words(go: building.Go, verb: str) -> list[str]:
+def build_command(go: building.Go, verb: str) -> list[str]:
     return [go.command, verb, "-race", "-overlay", building.overlay_of(go)]
 
 
-def go_done(words: list[str]) -> int:
-    return subprocess.run(words, env={**os.environ, "CGO_ENABLED": "1"}, check=False).returncode
+def go_done(command: list[str]) -> int:
+    return subprocess.run(command, env={**os.environ, "CGO_ENABLED": "1"}, check=False).returncode
 
 
 def warn_of_names(flags: list[str]) -> None:
@@ -134,16 +134,16 @@ def warn_of_names(flags: list[str]) -> None:
         )
 
 
-def build(go: building.Go, words: list[str]) -> int:
-    into = Words()
-    copy = list(words)
+def build(go: building.Go, arguments: list[str]) -> int:
+    into = Arguments()
+    copy = list(arguments)
     while copy:
         if name_of(copy[0]):
             take_build_flag(copy, into)
         else:
             copy.pop(0)
     warn_of_names(into.build)
-    return go_done([*build_words(go, "build"), *words])
+    return go_done([*build_command(go, "build"), *arguments])
 
 
 def clock_of(options: list[str]) -> str | None:
@@ -165,21 +165,21 @@ def program_at(options: list[str], otherwise: str) -> str:
     return program
 
 
-def run(go: building.Go, words: list[str]) -> int:
-    into = words_of_run(words)
+def run(go: building.Go, arguments: list[str]) -> int:
+    into = arguments_of_run(arguments)
     with tempfile.TemporaryDirectory(prefix="record") as folder:
         name = os.path.splitext(os.path.basename(into.packages[0]))[0].strip(".") or "program"
         program = program_at(into.options, os.path.join(folder, name))
-        status = go_done([*build_words(go, "build"), *into.build, "-o", program, *into.packages])
+        status = go_done([*build_command(go, "build"), *into.build, "-o", program, *into.packages])
         return status or subprocess.run([RUN, *into.options, program, *into.rest], check=False).returncode
 
 
-def packages_with_tests(go: building.Go, into: Words) -> list[tuple[str, str]]:
+def packages_with_tests(go: building.Go, into: Arguments) -> list[tuple[str, str]]:
     """The packages that have tests: the path and the folder of each."""
     form = "{{.ImportPath}}\t{{.Dir}}\t{{len .TestGoFiles}}{{len .XTestGoFiles}}"
-    words = [go.command, "list", "-race", "-f", form, *into.build, *into.packages]
+    command = [go.command, "list", "-race", "-f", form, *into.build, *into.packages]
     done = subprocess.run(
-        words, env={**os.environ, "CGO_ENABLED": "1"}, stdout=subprocess.PIPE, text=True, check=False
+        command, env={**os.environ, "CGO_ENABLED": "1"}, stdout=subprocess.PIPE, text=True, check=False
     )
     if done.returncode:
         raise Refused(f"go list ended with status {done.returncode}")
@@ -203,8 +203,8 @@ def absolute(options: list[str]) -> list[str]:
     return whole
 
 
-def test(go: building.Go, words: list[str]) -> int:
-    into = words_of_test(words)
+def test(go: building.Go, arguments: list[str]) -> int:
+    into = arguments_of_test(arguments)
     found = packages_with_tests(go, into)
     if len(found) > 1 and not into.into:
         raise Refused(f"{len(found)} packages have tests: --into FOLDER writes a trace of each")
@@ -214,33 +214,33 @@ def test(go: building.Go, words: list[str]) -> int:
     with tempfile.TemporaryDirectory(prefix="record") as folder:
         for path, place in found:
             program = program_at(options, os.path.join(folder, os.path.basename(path) + ".test"))
-            status = go_done([*build_words(go, "test"), "-c", "-o", program, *into.build, path])
+            status = go_done([*build_command(go, "test"), "-c", "-o", program, *into.build, path])
             worst = status or recorded_test(path, place, [RUN, *options, program, *into.test], into.into) or worst
     return worst
 
 
-def recorded_test(path: str, place: str, words: list[str], into: str) -> int:
+def recorded_test(path: str, place: str, arguments: list[str], into: str) -> int:
     if not into:
-        return subprocess.run(words, cwd=place, check=False).returncode
+        return subprocess.run(arguments, cwd=place, check=False).returncode
     os.makedirs(into, exist_ok=True)
     to = os.path.join(into, path.replace("/", "_") + ".std")
     print(f"record/go: {path}: {to}", file=sys.stderr)
     with open(to, "wb") as out:
-        return subprocess.run(words, cwd=place, stdout=out, check=False).returncode
+        return subprocess.run(arguments, cwd=place, stdout=out, check=False).returncode
 
 
-def main(words: list[str], usage: str) -> int:
+def main(arguments: list[str], usage: str) -> int:
     verbs = {"build": build, "test": test, "run": run}
-    if not words or words[0] in ("-h", "--help", "help"):
+    if not arguments or arguments[0] in ("-h", "--help", "help"):
         print(usage.strip())
-        return 0 if words else 2
+        return 0 if arguments else 2
     try:
-        if words[0] not in verbs:
-            raise Refused(f"{words[0]} is none of build, test and run")
+        if arguments[0] not in verbs:
+            raise Refused(f"{arguments[0]} is none of build, test and run")
         go = building.found()
-        if words[0] == "test" and "-c" in words:
-            return go_done([*build_words(go, "test"), *words[1:]])
-        return verbs[words[0]](go, words[1:])
+        if arguments[0] == "test" and "-c" in arguments:
+            return go_done([*build_command(go, "test"), *arguments[1:]])
+        return verbs[arguments[0]](go, arguments[1:])
     except (Refused, building.NoGo) as why:
         print(f"record/go: {why}", file=sys.stderr)
         return 2

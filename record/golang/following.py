@@ -12,22 +12,22 @@ import clocks
 from golang import building, recording
 
 
-def surroundings(words: dict[str, Any], seed: int, paths: list[str]) -> dict[str, str]:
+def surroundings(fields: dict[str, Any], seed: int, paths: list[str]) -> dict[str, str]:
     """The environment of a followed run, whose log and plan are at these paths. No garbage is collected in it."""
-    given = argparse.Namespace(room=words["room"], seed=seed)
-    setattr(given, "yield", words["yield"])
+    options = argparse.Namespace(room=fields["room"], seed=seed)
+    setattr(options, "yield", fields["yield"])
     # What a goroutine draws is that of the recording; the seed after the race is another one.
-    found = recording.surroundings(given, paths[0])
-    found["RACEBENCH_GO_SEED"], found["RACEBENCH_GO_AFTER"] = str(words["seed"]), str(seed)
+    found = recording.surroundings(options, paths[0])
+    found["RACEBENCH_GO_SEED"], found["RACEBENCH_GO_AFTER"] = str(fields["seed"]), str(seed)
     return {**found, "RACEBENCH_GO_FOLLOW": paths[1], "GOGC": "off", "GOMEMLIMIT": "off"}
 
 
-def places_words(clock: clocks.Clock) -> list[str]:
+def places_command(clock: clocks.Clock) -> list[str]:
     """The command that answers for the program of a recording."""
-    program = clocks.program_of(clock.words["argv"][0]) or clock.words["argv"][0]
+    program = clocks.program_of(clock.fields["argv"][0]) or clock.fields["argv"][0]
     try:
         folder = tempfile.mkdtemp(prefix="record")
-        decoder = building.decoder_of(building.go_of(clock.words["go"]), folder)
+        decoder = building.decoder_of(building.go_of(clock.fields["go"]), folder)
         os.rmdir(folder)
     except building.NoGo as why:
         sys.exit(f"record: {why}")

@@ -208,15 +208,15 @@ def conditions(root: str) -> Source:
     source = Source(root, "sync/cond.go")
     source.change("import (\n", 'import (\n	"internal/race"\n')
 
-    def told(kind: int, number: str) -> str:
+    def hook(kind: int, number: str) -> str:
         text = f"race.EventOf({kind}, unsafe.Pointer(c), uintptr({number}))"
         return f"	if race.Enabled {{\n		{text}\n	}}\n"
 
-    source.after("	runtime_notifyListWait(&c.notify, t)\n", guarded("race.Turn()") + told(WOKEN, "t"))
+    source.after("	runtime_notifyListWait(&c.notify, t)\n", guarded("race.Turn()") + hook(WOKEN, "t"))
     one, all_ = "	runtime_notifyListNotifyOne(&c.notify)\n", "	runtime_notifyListNotifyAll(&c.notify)\n"
     waits = guarded("race.Turn()") + "	if c.notify.notify != c.notify.wait {\n	%s	}\n"
-    source.change(one, waits % told(SIGNALED, "c.notify.notify + 1") + one)
-    source.change(all_, waits % told(SIGNALED, "c.notify.wait") + all_)
+    source.change(one, waits % hook(SIGNALED, "c.notify.notify + 1") + one)
+    source.change(all_, waits % hook(SIGNALED, "c.notify.wait") + all_)
     return source
 
 
@@ -225,23 +225,23 @@ def files(root: str) -> Iterator[Source]:
     source = Source(root, "internal/poll/fd_mutex.go")
     source.change('import "sync/atomic"\n', 'import (\n	"internal/race"\n	"sync/atomic"\n	"unsafe"\n)\n')
 
-    def told(kind: int) -> str:
+    def hook(kind: int) -> str:
         return guarded("race.Enable()", event(kind, "mu"), "race.Disable()")
 
     for head in ("incref() bool", "increfAndClose() bool", "decref() bool", "rwlock(read bool) bool"):
         source.after(
             f"func (mu *fdMutex) {head} {{\n", guarded("race.Turn()", "race.Disable()", "defer race.Enable()")
         )
-    source.change("			return true\n", told(FILE_KEPT) + "return true\n", 1, "func (mu *fdMutex) incref()")
-    source.change("			return true\n", told(FILE_CLOSED) + "return true\n", 1, "func (mu *fdMutex) increfAndClose()")
-    source.after("func (mu *fdMutex) decref() bool {\n", told(FILE_KEPT))
-    which = f"if read {{\n{told(FILE_READS)}}} else {{\n{told(FILE_WRITES)}}}\n"
+    source.change("			return true\n", hook(FILE_KEPT) + "return true\n", 1, "func (mu *fdMutex) incref()")
+    source.change("			return true\n", hook(FILE_CLOSED) + "return true\n", 1, "func (mu *fdMutex) increfAndClose()")
+    source.after("func (mu *fdMutex) decref() bool {\n", hook(FILE_KEPT))
+    which = f"if read {{\n{hook(FILE_READS)}}} else {{\n{hook(FILE_WRITES)}}}\n"
     source.change("				return true\n", which + "return true\n", 1, "func (mu *fdMutex) rwlock(")
-    which = f"if read {{\n{told(FILE_READ)}}} else {{\n{told(FILE_WRITTEN)}}}\n"
+    which = f"if read {{\n{hook(FILE_READ)}}} else {{\n{hook(FILE_WRITTEN)}}}\n"
     begins = guarded("race.Turn()", "race.Disable()", "defer race.Enable()")
     source.after("func (mu *fdMutex) rwunlock(read bool) bool {\n", begins + which)
     closed = "		if old&mutexClosed != 0 {\n"
-    source.change(closed, closed + told(FILE_KEPT), 3)
+    source.change(closed, closed + hook(FILE_KEPT), 3)
     yield source
     yield from connections(root)
 

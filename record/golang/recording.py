@@ -51,18 +51,18 @@ def root_of(word: str) -> str | None:
     return building.root_of(path) if path else None
 
 
-def surroundings(given: argparse.Namespace, path: str) -> dict[str, str]:
+def surroundings(options: argparse.Namespace, path: str) -> dict[str, str]:
     """What a recorded program has in its environment. A garbage collection would depend on time, so it comes only when
     half of the memory is used."""
-    room = given.room if given.room < MOST_ROOM else ""
+    room = options.room if options.room < MOST_ROOM else ""
     settings = os.environ.get("GODEBUG", "").split(",")
     debug = [word for word in settings if word and not word.startswith(("asyncpreemptoff=", "memprofilerate="))]
     half = os.sysconf("SC_PAGE_SIZE") * os.sysconf("SC_PHYS_PAGES") // 2
     usual = {} if "GOGC" in os.environ or "GOMEMLIMIT" in os.environ else {"GOGC": "off", "GOMEMLIMIT": str(half)}
     ours = {
         "RACEBENCH_GO_LOG": path,
-        "RACEBENCH_GO_SEED": str(given.seed),
-        "RACEBENCH_GO_YIELD": str(getattr(given, "yield")),
+        "RACEBENCH_GO_SEED": str(options.seed),
+        "RACEBENCH_GO_YIELD": str(getattr(options, "yield")),
         "RACEBENCH_GO_ROOM": str(room),
         # Samples of the heap would draw numbers.
         "GODEBUG": ",".join([*debug, "asyncpreemptoff=1", "memprofilerate=0"]),
@@ -87,25 +87,25 @@ def stop_recording_after(seconds: float, file: IO[bytes]) -> None:
     threading.Thread(target=stop, daemon=True).start()
 
 
-def run(given: argparse.Namespace, file: IO[bytes], path: str) -> int:
+def run(options: argparse.Namespace, file: IO[bytes], path: str) -> int:
     def begun() -> None:
-        if given.seconds:
-            stop_recording_after(given.seconds, file)
+        if options.seconds:
+            stop_recording_after(options.seconds, file)
 
-    words = [running.path_of(given.program), *given.args]
-    return int(running.run(words, surroundings(given, path), sys.stderr, begun=begun)[0])
+    command = [running.path_of(options.program), *options.args]
+    return int(running.run(command, surroundings(options, path), sys.stderr, begun=begun)[0])
 
 
-def decoder_words(given: argparse.Namespace, status: int) -> list[str]:
-    limited = not given.stream and given.max < NO_LIMIT
-    words = [f"-max={given.max if limited else NO_LIMIT}", f"-from={given.first}", f"-frames={given.frames}"]
+def decoder_arguments(options: argparse.Namespace, status: int) -> list[str]:
+    limited = not options.stream and options.max < NO_LIMIT
+    arguments = [f"-max={options.max if limited else NO_LIMIT}", f"-from={options.first}", f"-frames={options.frames}"]
     # In a clock no two goroutines have one number.
-    words += [
-        f"-threads={0 if given.stream or given.clock else MOST_THREADS}",
-        f"-cause={'FOR' if given.seconds else 'ROOM'}",
+    arguments += [
+        f"-threads={0 if options.stream or options.clock else MOST_THREADS}",
+        f"-cause={'FOR' if options.seconds else 'ROOM'}",
     ]
-    flags = {"-lossy": limited, "-slots": given.slots, "-killed": status < 0}
-    return words + [flag for flag, wanted in flags.items() if wanted] + [f"-only={file}" for file in given.only]
+    flags = {"-lossy": limited, "-slots": options.slots, "-killed": status < 0}
+    return arguments + [flag for flag, wanted in flags.items() if wanted] + [f"-only={file}" for file in options.only]
 
 
 @dataclass
@@ -132,18 +132,18 @@ def facts_of(text: str) -> Facts:
     return facts
 
 
-def decoded(given: argparse.Namespace, file: IO[bytes], root: str, status: int) -> Facts | None:
+def decoded(options: argparse.Namespace, file: IO[bytes], root: str, status: int) -> Facts | None:
     """Writes the trace on standard output, and its clock if that is wanted; what the decoder counted, or None if it did
     not write all of it."""
     with tempfile.TemporaryDirectory(prefix="record") as folder:
-        beside = Beside(given, folder) if given.clock else None
+        beside = Beside(options, folder) if options.clock else None
         numbers = [file.fileno(), *(beside.numbers if beside else [])]
-        words = [building.decoder_of(building.go_of(root), folder), *decoder_words(given, status)]
-        words += beside.words if beside else []
-        words += [program_of(given.program) or given.program, f"/dev/fd/{file.fileno()}"]
+        command = [building.decoder_of(building.go_of(root), folder), *decoder_arguments(options, status)]
+        command += beside.arguments if beside else []
+        command += [program_of(options.program) or options.program, f"/dev/fd/{file.fileno()}"]
         out = subprocess.PIPE if beside else None
         with subprocess.Popen(
-            words, stdout=out, stderr=subprocess.PIPE, pass_fds=numbers, preexec_fn=running.be_deaf
+            command, stdout=out, stderr=subprocess.PIPE, pass_fds=numbers, preexec_fn=running.be_deaf
         ) as decoder, concurrent.futures.ThreadPoolExecutor(1) as pool:
             # A file might find the disk full.
             errors = pool.submit(decoder.stderr.read) if decoder.stderr else None
@@ -156,7 +156,7 @@ def decoded(given: argparse.Namespace, file: IO[bytes], root: str, status: int) 
             say(f"the trace was not written whole{why}")
             return None
         if beside and facts.counts.get("no_clock"):
-            say(f"{given.clock}: no clock is written, since the program has more than {MOST_NUMBERS} goroutines")
+            say(f"{options.clock}: no clock is written, since the program has more than {MOST_NUMBERS} goroutines")
         elif beside:
             sys.stdout.flush()
             beside.write(root, head_of(file)[BASE])
@@ -166,20 +166,20 @@ def decoded(given: argparse.Namespace, file: IO[bytes], root: str, status: int) 
 class Beside:
     """What is written beside the trace, for its clock."""
 
-    def __init__(self, given: argparse.Namespace, folder: str) -> None:
-        self.given, self.kept = given, clocks.Kept(sys.stdout.buffer)
+    def __init__(self, options: argparse.Namespace, folder: str) -> None:
+        self.options, self.kept = options, clocks.Kept(sys.stdout.buffer)
         self.records, self.events = (tempfile.TemporaryFile(dir=folder) for _ in range(2))
         self.numbers = [self.records.fileno(), self.events.fileno()]
-        self.words = [f"-records={self.numbers[0]}", f"-events={self.numbers[1]}"]
+        self.arguments = [f"-records={self.numbers[0]}", f"-events={self.numbers[1]}"]
 
     def write(self, root: str, base: int) -> None:
         """Writes the clock, in the form of one of a C program: a head with the program, and the records."""
-        program = os.path.realpath(program_of(self.given.program) or self.given.program)
+        program = os.path.realpath(program_of(self.options.program) or self.options.program)
         size = os.fstat(self.numbers[0]).st_size // raw_file.WORD
         head = raw_file.packed_head(size, 1)
         module = raw_file.MODULE.pack(base, base + 1, os.fsencode(program))
-        with open(self.given.clock, "wb") as out:
-            clocks.write_words(out, self.given, self.kept, program, root)
+        with open(self.options.clock, "wb") as out:
+            clocks.write_fields(out, self.options, self.kept, program, root)
             for file in (self.events, self.records):
                 if file is self.records:
                     self.kept.lines.tofile(out)
@@ -193,14 +193,14 @@ def counted(facts: dict[str, int], name: str, text: str) -> list[str]:
     return [f"{facts[name]} {text}"] if facts.get(name) else []
 
 
-def left_out(given: argparse.Namespace, facts: Facts) -> list[str]:
+def left_out(options: argparse.Namespace, facts: Facts) -> list[str]:
     """What of the run is not in the trace."""
     reasons = {"DISK": "less than a tenth of the disk is free", "FOR": "--for", "ROOM": "--room"}
     lost = [
         f"{facts.losses[cause]} records left out ({why})" for cause, why in reasons.items() if cause in facts.losses
     ]
     held = "events before the first that is wanted left out (--from); the locks that were held there are taken first"
-    counts, files = facts.counts, ", ".join(given.only)
+    counts, files = facts.counts, ", ".join(options.only)
     killed = (
         ["a signal ended the program: what came after its last record is not known"]
         if "KILLED" in facts.losses
@@ -230,13 +230,13 @@ def orders(counts: dict[str, int]) -> list[str]:
     ]
 
 
-def tell(given: argparse.Namespace, facts: Facts) -> None:
+def report(chosen: argparse.Namespace, facts: Facts) -> None:
     counts = facts.counts
-    for line in [*left_out(given, facts), *orders(counts)]:
+    for line in [*left_out(chosen, facts), *orders(counts)]:
         say(line)
     if counts.get("short") or counts.get("threads", 0) > MOST_THREADS:
         say(f"the trace has more than {MOST_THREADS} threads: read it with `racebench triage --windows`")
-        if given.clock:
+        if chosen.clock:
             say(f"record/confirm can't follow it: record a part with at most {MOST_THREADS} threads, as by -test.run")
     elif counts["written"] > MOST_EVENTS or counts["bytes"] > MOST_BYTES:
         say("the trace is too long to be read at once: read it with `racebench triage --windows`")
@@ -244,51 +244,51 @@ def tell(given: argparse.Namespace, facts: Facts) -> None:
         options = counts.get("before") or counts.get("left_out") or counts.get("not_chosen")
         none = "no event was recorded: the program starts no goroutine, or its goroutines share nothing"
         say("no event was written: the options leave out all of them" if options else none)
-    elif facts.losses and not given.partial:
+    elif facts.losses and not chosen.partial:
         say(f"the recording is not whole ({', '.join(facts.losses)}): status {NOT_WHOLE}; --partial accepts it")
     forced = counts.get("forced", 0)
     say(f"recorded {counts['written']} events, {counts.get('switches', 0)} turns, {forced} taken by force")
 
 
-def log_of(given: argparse.Namespace, file: IO[bytes], path: str) -> int:
+def log_of(options: argparse.Namespace, file: IO[bytes], path: str) -> int:
     """Runs the program; its status. There is no log if it wrote none."""
-    status = run(given, file, path)
+    status = run(options, file, path)
     say(running.ending(status))
     head = head_of(file)
     if head[0] != MAGIC or not head[APPENDED]:
         where = tempfile.gettempdir()
         raise running.Unrunnable(f"nothing was recorded: the program ended early, or {where} has no room for the log")
-    if given.raw:
-        with open(given.raw, "wb") as kept:
+    if options.raw:
+        with open(options.raw, "wb") as kept:
             file.seek(0)
             shutil.copyfileobj(file, kept)
     return status
 
 
-def refused(given: argparse.Namespace) -> str:
+def refused(options: argparse.Namespace) -> str:
     """Why options can't be used for a Go program; empty if they can."""
-    if given.clock and given.first:
+    if options.clock and options.first:
         return "--clock: the trace of a clock begins with the first event, so --from can't be used"
-    if given.ordered:
+    if options.ordered:
         return "--ordered: the trace of a Go program leaves out no access that forks alone order"
-    if given.names != "source":
+    if options.names != "source":
         return "--names: the variables of a Go program have the names of the source"
     return ""
 
 
-def record(given: argparse.Namespace, root: str) -> int:
+def record(options: argparse.Namespace, root: str) -> int:
     """Records a Go program by the options of record/run; the status of the command."""
-    if why := refused(given):
+    if why := refused(options):
         say(why)
         return 2
     try:
-        for written in (given.raw, given.clock):
+        for written in (options.raw, options.clock):
             if written:
                 running.look_before_writing(written)
         file, path = running.nameless_file()
         with file:
-            status = log_of(given, file, path)
-            facts = decoded(given, file, root, status)
+            status = log_of(options, file, path)
+            facts = decoded(options, file, root, status)
     except (building.NoGo, running.Unrunnable) as why:
         say(str(why))
         return 1
@@ -297,9 +297,9 @@ def record(given: argparse.Namespace, root: str) -> int:
         return 1
     if facts is None:
         return 1
-    tell(given, facts)
-    if given.status and status:
+    report(options, facts)
+    if options.status and status:
         return status if status > 0 else 128 - status
     if not facts.counts["written"]:
         return 1
-    return NOT_WHOLE if facts.losses and not given.partial else 0
+    return NOT_WHOLE if facts.losses and not options.partial else 0

@@ -65,10 +65,10 @@ class Rust:
     sources: str
 
 
-def asked(words: list[str]) -> str:
+def output_of(command: list[str]) -> str:
     """What a command prints; nothing if it fails."""
     try:
-        done = subprocess.run(words, capture_output=True, text=True, check=False)
+        done = subprocess.run(command, capture_output=True, text=True, check=False)
     except OSError:
         return ""
     return done.stdout if done.returncode == 0 else ""
@@ -84,7 +84,7 @@ def rust_in(folder: str) -> Rust | None:
     cargo, rustc = os.path.join(folder, "cargo"), os.path.join(folder, "rustc")
     if not os.access(cargo, os.X_OK) or not os.access(rustc, os.X_OK):
         return None
-    version, root = asked([rustc, "-vV"]), asked([rustc, "--print", "sysroot"]).strip()
+    version, root = output_of([rustc, "-vV"]), output_of([rustc, "--print", "sysroot"]).strip()
     if not version or not root:
         return None
     sources = os.path.join(root, "lib/rustlib/src/rust/library")
@@ -93,9 +93,9 @@ def rust_in(folder: str) -> Rust | None:
 
 def candidates() -> list[Rust]:
     """The Rust of the variable RECORD_CARGO, or all those of PATH."""
-    given = os.environ.get("RECORD_CARGO")
-    if given:
-        folders = [os.path.dirname(shutil.which(given) or given) or "."]
+    chosen = os.environ.get("RECORD_CARGO")
+    if chosen:
+        folders = [os.path.dirname(shutil.which(chosen) or chosen) or "."]
     else:
         folders = list(dict.fromkeys(os.environ.get("PATH", os.defpath).split(os.pathsep)))
     return [one for one in map(rust_in, folders) if one]
@@ -165,12 +165,12 @@ def call_of_cargo(rust: Rust, folder: str) -> None:
     """Compiles the library that is copied to a folder."""
     known_as = f"--remap-path-prefix={folder}/library=/rustc/{rust.release}/library"
     flags = [*HOOKS, "-Zforce-unstable-if-unmarked", known_as]
-    words = [rust.cargo, "build", "--release", "--offline", "--target", TARGET, "--target-dir", f"{folder}/target"]
+    command = [rust.cargo, "build", "--release", "--offline", "--target", TARGET, "--target-dir", f"{folder}/target"]
     ours = {"__CARGO_DEFAULT_LIB_METADATA": "recorded", "CARGO_HOME": f"{folder}/home"}
     environment = {**surroundings(rust, flags), **ours}
     print(f"record: the library of Rust {rust.release} is compiled with hooks, once: some minutes", file=sys.stderr)
     package = os.path.join(folder, "package")
-    done = subprocess.run(words, cwd=package, env=environment, capture_output=True, text=True, check=False)
+    done = subprocess.run(command, cwd=package, env=environment, capture_output=True, text=True, check=False)
     if done.returncode:
         errors = [line for line in done.stderr.splitlines() if line.startswith("error")] or ["no reason given"]
         raise NoRust(f"the library of Rust {rust.release} can't be compiled with hooks: {errors[0][:200]}")

@@ -27,7 +27,7 @@ class Refused(Exception):
 
 
 @dataclass
-class Words:
+class Arguments:
     """The arguments of record/cargo, in groups: options of record/run, those of cargo, and those of the program."""
 
     options: list[str] = field(default_factory=list)
@@ -50,22 +50,22 @@ def say(text: str) -> None:
     print(f"record/cargo: {text}", file=sys.stderr)
 
 
-def words_of(words: list[str]) -> Words:
+def arguments_of(arguments: list[str]) -> Arguments:
     """Options of record/run come first; what comes after `--` is for the program."""
-    taken, rest = of_go.Words(), list(words)
+    taken, rest = of_go.Arguments(), list(arguments)
     of_go.take_options(rest, taken)
     cut = rest.index("--") if "--" in rest else len(rest)
     for word in rest[:cut]:
         name = word.partition("=")[0]
         if name in REFUSED:
             raise Refused(f"{name} can't be used: {REFUSED[name]}")
-    return Words(taken.options, taken.into, rest[:cut], rest[cut + 1 :])
+    return Arguments(taken.options, taken.into, rest[:cut], rest[cut + 1 :])
 
 
-def cargo_words(rust: building.Rust, verb: list[str], words: list[str]) -> list[str]:
-    own = [] if any(word.partition("=")[0] == "--target-dir" for word in words) else ["--target-dir", FOLDER]
+def cargo_command(rust: building.Rust, verb: list[str], arguments: list[str]) -> list[str]:
+    own = [] if any(word.partition("=")[0] == "--target-dir" for word in arguments) else ["--target-dir", FOLDER]
     form = ["--message-format", "json-render-diagnostics"]
-    return [rust.cargo, *verb, *own, "--target", building.TARGET, *form, *words]
+    return [rust.cargo, *verb, *own, "--target", building.TARGET, *form, *arguments]
 
 
 def program_in(line: str) -> Program | None:
@@ -81,11 +81,11 @@ def program_in(line: str) -> Program | None:
     return Program(target["name"], message["executable"], package, target["kind"][0])
 
 
-def built_by(rust: building.Rust, verb: list[str], words: list[str]) -> tuple[int, list[Program]]:
+def built_by(rust: building.Rust, verb: list[str], arguments: list[str]) -> tuple[int, list[Program]]:
     """Calls cargo; its status, and the programs that it built."""
     environment = building.surroundings(rust, building.program_flags(rust))
     started = subprocess.Popen(
-        cargo_words(rust, verb, words), env=environment, stdout=subprocess.PIPE, text=True, errors="replace"
+        cargo_command(rust, verb, arguments), env=environment, stdout=subprocess.PIPE, text=True, errors="replace"
     )
     programs = []
     for line in started.stdout or ():
@@ -96,15 +96,15 @@ def built_by(rust: building.Rust, verb: list[str], words: list[str]) -> tuple[in
     return started.wait(), programs
 
 
-def build(rust: building.Rust, words: list[str]) -> int:
-    status, programs = built_by(rust, ["build"], words_of(words).cargo)
+def build(rust: building.Rust, arguments: list[str]) -> int:
+    status, programs = built_by(rust, ["build"], arguments_of(arguments).cargo)
     for one in programs:
         say(f"record it by: record/run {os.path.relpath(one.path)}")
     return status
 
 
-def run(rust: building.Rust, words: list[str]) -> int:
-    into = words_of(words)
+def run(rust: building.Rust, arguments: list[str]) -> int:
+    into = arguments_of(arguments)
     status, programs = built_by(rust, ["build"], into.cargo)
     if status:
         return status
@@ -115,20 +115,20 @@ def run(rust: building.Rust, words: list[str]) -> int:
     return subprocess.run([RUN, *into.options, programs[0].path, *into.program], check=False).returncode
 
 
-def recorded_test(one: Program, options: list[str], into: Words) -> int:
-    words = [RUN, *options, one.path, *into.program]
+def recorded_test(one: Program, options: list[str], into: Arguments) -> int:
+    command = [RUN, *options, one.path, *into.program]
     if not into.into:
-        return subprocess.run(words, cwd=one.package, check=False).returncode
+        return subprocess.run(command, cwd=one.package, check=False).returncode
     os.makedirs(into.into, exist_ok=True)
     to = os.path.join(into.into, f"{os.path.basename(one.package)}_{one.name}.std")
     say(f"{one.name}: {to}")
     with open(to, "wb") as out:
-        return subprocess.run(words, cwd=one.package, stdout=out, check=False).returncode
+        return subprocess.run(command, cwd=one.package, stdout=out, check=False).returncode
 
 
-def test(rust: building.Rust, words: list[str]) -> int:
+def test(rust: building.Rust, arguments: list[str]) -> int:
     """Builds the tests and records each program of tests in the folder of its package."""
-    into = words_of(words)
+    into = arguments_of(arguments)
     # A word that is no flag names the tests to run, as for cargo.
     while into.cargo and not into.cargo[-1].startswith("-") and is_a_filter(into.cargo):
         into.program.insert(0, into.cargo.pop())
@@ -147,24 +147,24 @@ def test(rust: building.Rust, words: list[str]) -> int:
     return worst
 
 
-def is_a_filter(words: list[str]) -> bool:
+def is_a_filter(arguments: list[str]) -> bool:
     """Whether the last word is no value of the flag before it."""
-    before = words[-2] if len(words) > 1 else ""
+    before = arguments[-2] if len(arguments) > 1 else ""
     flags = (
         "-p --package --test --bin --example --bench --features -F -j --jobs --profile --target-dir --manifest-path"
     )
     return before not in [*flags.split(), "--exclude", "--config", "--color", "-Z", "-C"]
 
 
-def main_of_cargo(words: list[str], usage: str) -> int:
+def main_of_cargo(arguments: list[str], usage: str) -> int:
     verbs = {"build": build, "test": test, "run": run}
-    if not words or words[0] in ("-h", "--help", "help"):
+    if not arguments or arguments[0] in ("-h", "--help", "help"):
         print(usage.strip())
-        return 0 if words else 2
+        return 0 if arguments else 2
     try:
-        if words[0] not in verbs:
-            raise Refused(f"{words[0]} is none of build, test and run")
-        return verbs[words[0]](building.found(), words[1:])
+        if arguments[0] not in verbs:
+            raise Refused(f"{arguments[0]} is none of build, test and run")
+        return verbs[arguments[0]](building.found(), arguments[1:])
     except (Refused, of_go.Refused, building.NoRust) as why:
         say(str(why))
         return 2
@@ -173,17 +173,17 @@ def main_of_cargo(words: list[str], usage: str) -> int:
         return 1
 
 
-def main_of_rustc(words: list[str], usage: str) -> int:
-    if not words or words[0] in ("-h", "--help"):
+def main_of_rustc(arguments: list[str], usage: str) -> int:
+    if not arguments or arguments[0] in ("-h", "--help"):
         print(usage.strip())
-        return 0 if words else 2
+        return 0 if arguments else 2
     try:
         rust = building.found()
-        given = next((word for word in words if re.match(r"--(target|sysroot)\b|-Clinker\b", word)), None)
-        if given:
-            raise Refused(f"{given} can't be used: record/rustc has its own")
+        refused = next((word for word in arguments if re.match(r"--(target|sysroot)\b|-Clinker\b", word)), None)
+        if refused:
+            raise Refused(f"{refused} can't be used: record/rustc has its own")
         environment = {**os.environ, "RUSTC_BOOTSTRAP": "1"}
-        call = [rust.rustc, *building.program_flags(rust), "--target", building.TARGET, *words]
+        call = [rust.rustc, *building.program_flags(rust), "--target", building.TARGET, *arguments]
         return subprocess.run(call, env=environment, check=False).returncode
     except (Refused, building.NoRust) as why:
         print(f"record/rustc: {why}", file=sys.stderr)

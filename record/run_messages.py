@@ -30,15 +30,15 @@ WORDS_OF = {number: KIND_WORDS.get(name, name.lower().replace("_", " ")) for nam
 GONE = "departed"
 
 
-class Telling:
+class RunMessages:
     """Texts about followed runs of one recording."""
 
     def __init__(self, clock: clocks.Clock) -> None:
         self.clock = clock
-        words = following_go.places_words(clock) if clock.words.get("go") else []
-        self.places: places.Answers = places.Places(clock.raw[: clock.head.words_at], words)
-        if clock.words.get("java"):
-            self.places = places.Named(clock.words["java"]["places"])
+        command = following_go.places_command(clock) if clock.fields.get("go") else []
+        self.places: places.Answers = places.Places(clock.raw[: clock.head.words_at], command)
+        if clock.fields.get("java"):
+            self.places = places.Named(clock.fields["java"]["places"])
 
     def line(self, *addresses: int) -> str:
         """The line of the first of the addresses that has one."""
@@ -137,8 +137,8 @@ def accessed_by(standing: following.Standing) -> str:
     return text + (f", afterwards {value_of(standing.after, standing.size)}" if standing.after else "")
 
 
-def value_of(words: tuple[int, int], size: int) -> str:
-    low, high = words
+def value_of(halves: tuple[int, int], size: int) -> str:
+    low, high = halves
     if size > 8:
         return f"0x{high:016x}{low:016x}.."
     return f"{low & ((1 << 8 * size) - 1):#x}"
