@@ -17,38 +17,38 @@ class Causes:
         self.sheet, self.trace = sheet, sheet.trace
         self.releases: dict[tuple[int, int], int | None] = {}
 
-    def told(self, event: int, said: str) -> Cause:
+    def cause_of(self, event: int, reason: str) -> Cause:
         """What the program said of this event, as `25 lock held by T2`, for the browser."""
-        code = said.split(" ", 1)[0]
+        code = reason.split(" ", 1)[0]
         about = {
             NOT_FORKED: self._not_forked,
             WRONG_WRITER: self._wrong_writer,
             LOCK_HELD: self._lock_held,
             JOIN_EARLY: self._join_early,
         }.get(code)
-        answer: Cause = {"said": clean(said), "code": code}
+        answer: Cause = {"said": clean(reason), "code": code}
         if about:
-            about(answer, event, said)
+            about(answer, event, reason)
         if "help" in answer:
             helper = self.trace.thread[answer["help"]]
             answer["helper"] = helper
             answer["steps"] = self.trace.index(answer["help"]) - self.sheet.counts[helper] + 1
         return answer
 
-    def _not_forked(self, answer: Cause, event: int, said: str) -> None:
+    def _not_forked(self, answer: Cause, event: int, reason: str) -> None:
         fork = self.trace.fork_of[self.trace.thread[event]]
-        answer["about"], answer["help"] = self.trace.told(fork), fork
+        answer["about"], answer["help"] = self.trace.event_message(fork), fork
 
-    def _wrong_writer(self, answer: Cause, event: int, said: str) -> None:
-        found = WRITERS.match(said)
+    def _wrong_writer(self, answer: Cause, event: int, reason: str) -> None:
+        found = WRITERS.match(reason)
         needs, has = (None if word == "none" else int(word) for word in found.groups()) if found else (None, None)
-        answer["has"] = None if has is None else self.trace.told(has)
+        answer["has"] = None if has is None else self.trace.event_message(has)
         if needs is not None:
-            answer["about"] = self.trace.told(needs)
+            answer["about"] = self.trace.event_message(needs)
             if self.sheet.position[needs] < 0:
                 answer["help"] = needs
 
-    def _lock_held(self, answer: Cause, event: int, said: str) -> None:
+    def _lock_held(self, answer: Cause, event: int, reason: str) -> None:
         lock = self.trace.name[event]
         section = self.sheet.sections.held.get(lock)
         if not section:
@@ -57,12 +57,12 @@ class Causes:
         if key not in self.releases:
             position = self.sheet.counts[section.thread]
             self.releases[key] = self.trace.release_after(section.thread, lock, position, section.depth)
-        answer["about"] = self.trace.told(self.sheet.events[section.begin])
+        answer["about"] = self.trace.event_message(self.sheet.events[section.begin])
         release = self.releases[key]
         if release is not None:
             answer["help"] = release
 
-    def _join_early(self, answer: Cause, event: int, said: str) -> None:
+    def _join_early(self, answer: Cause, event: int, reason: str) -> None:
         joined = self.trace.name[event]
         events = self.trace.events_of[joined]
         left = len(events) - self.sheet.counts[joined]

@@ -38,7 +38,7 @@ def number_to(least: int, most: int) -> Callable[[str], int]:
     return read
 
 
-def words() -> argparse.Namespace:
+def read_options() -> argparse.Namespace:
     parser = argparse.ArgumentParser(
         prog=os.path.basename(sys.argv[0]),
         description="Shows a trace, its races and the schedules of a log in a browser.",
@@ -60,48 +60,48 @@ def words() -> argparse.Namespace:
         default=os.environ.get("RACEBENCH") or shutil.which("racebench"),
         help="the program racebench (default: $RACEBENCH, or racebench on the path)",
     )
-    given = parser.parse_args()
-    why = wrong(given)
+    options = parser.parse_args()
+    why = wrong(options)
     if why:
         parser.error(why)
-    return given
+    return options
 
 
-def wrong(given: argparse.Namespace) -> str | None:
+def wrong(options: argparse.Namespace) -> str | None:
     """Which word names nothing that can be used, if one does."""
-    if not given.program:
+    if not options.program:
         return "racebench is not on the path; name it with --program"
-    if not shutil.which(given.program):
-        return f"{given.program} is no program; name one with --program"
-    if given.source and not os.path.isdir(given.source):
-        return f"{given.source} is no folder"
-    for path in (given.trace, given.known, given.triage):
+    if not shutil.which(options.program):
+        return f"{options.program} is no program; name one with --program"
+    if options.source and not os.path.isdir(options.source):
+        return f"{options.source} is no folder"
+    for path in (options.trace, options.known, options.triage):
         if path is not None and not (os.path.isfile(path) and os.access(path, os.R_OK)):
             return f"{path} is no file that can be read"
-    if os.path.isdir(given.log):
-        return f"{given.log} is a folder, and no log"
-    folder = os.path.dirname(given.log) or "."
+    if os.path.isdir(options.log):
+        return f"{options.log} is a folder, and no log"
+    folder = os.path.dirname(options.log) or "."
     if not os.path.isdir(folder):
         return f"{folder} is no folder for a log"
-    if os.path.exists(given.log):
-        is_open = os.access(given.log, os.R_OK | os.W_OK)
-        return None if is_open else f"you may not write {given.log}; name another LOG"
+    if os.path.exists(options.log):
+        is_open = os.access(options.log, os.R_OK | os.W_OK)
+        return None if is_open else f"you may not write {options.log}; name another LOG"
     is_open = os.access(folder, os.W_OK | os.X_OK)
-    return None if is_open else f"you may not make {given.log}; name a LOG in a folder of yours"
+    return None if is_open else f"you may not make {options.log}; name a LOG in a folder of yours"
 
 
-def decided(given: argparse.Namespace) -> list[str]:
+def decided(options: argparse.Namespace) -> list[str]:
     """Words of `triage` that leave out races."""
-    named = (("--known", given.known), ("--triage", given.triage))
+    named = (("--known", options.known), ("--triage", options.triage))
     return [word for flag, path in named if path for word in (flag, path)]
 
 
-def server_of(bench: Bench, given: argparse.Namespace) -> Server:
+def server_of(bench: Bench, options: argparse.Namespace) -> Server:
     try:
         from .server import Server
     except ImportError as why:
         sys.exit(f"screen: {why.name} is not installed; on Debian: apt install python3-aiohttp")
-    return Server(bench, Source(given.source), os.path.basename(given.trace))
+    return Server(bench, Source(options.source), os.path.basename(options.trace))
 
 
 def listen_to_terminal(server: Server) -> None:
@@ -110,7 +110,7 @@ def listen_to_terminal(server: Server) -> None:
 
     def end() -> None:
         if not server.stopping.is_set():  # the terminal comes back, even if something has not ended by then
-            loop.call_later(ENDING / 2, tell_tasks)
+            loop.call_later(ENDING / 2, print_tasks)
             faulthandler.dump_traceback_later(ENDING, exit=True)
         server.stopping.set()
 
@@ -127,30 +127,30 @@ def listen_to_terminal(server: Server) -> None:
         loop.add_reader(sys.stdin, another)
 
 
-def tell_tasks() -> None:
+def print_tasks() -> None:
     """Prints the tasks that have not ended yet: the threads alone do not show what they wait for."""
     for task in asyncio.all_tasks():
         task.print_stack(file=sys.stderr)
 
 
-def tell_faults(loop: asyncio.AbstractEventLoop, context: dict[str, Any]) -> None:
+def print_faults(loop: asyncio.AbstractEventLoop, context: dict[str, Any]) -> None:
     """A pipe to a session that was killed breaks, and the page shows that it ended; all else is handled as usual."""
     if not isinstance(context.get("exception"), (BrokenPipeError, ConnectionResetError)):
         loop.default_exception_handler(context)
 
 
-async def run(given: argparse.Namespace, readers: Readers) -> None:
-    asyncio.get_running_loop().set_exception_handler(tell_faults)
-    trace = Trace(given.trace)
-    bench = Bench(given.program, trace, given.log, given.client)
-    bench.decided = decided(given)
-    server = server_of(bench, given)
+async def run(options: argparse.Namespace, readers: Readers) -> None:
+    asyncio.get_running_loop().set_exception_handler(print_faults)
+    trace = Trace(options.trace)
+    bench = Bench(options.program, trace, options.log, options.client)
+    bench.decided = decided(options)
+    server = server_of(bench, options)
     reading = asyncio.ensure_future(server.read_trace(readers))  # the program reads it at the same time
     try:
         await bench.open()
-        await server.start(given.port)
+        await server.start(options.port)
     except OSError as why:
-        taken = f"port {given.port} is taken" if why.errno == errno.EADDRINUSE else why
+        taken = f"port {options.port} is taken" if why.errno == errno.EADDRINUSE else why
         sys.exit(f"screen: {taken}")
     except Gone as why:
         sys.exit(str(why))
@@ -188,8 +188,8 @@ async def serve(server: Server, reading: asyncio.Task[None], readers: Readers) -
 
 
 def main() -> None:
-    given = words()
+    options = read_options()
     try:
-        asyncio.run(run(given, Readers(given.trace)))
+        asyncio.run(run(options, Readers(options.trace)))
     except KeyboardInterrupt:  # before the link is printed; from then on control-C is a signal that `run` takes
         sys.exit(130)

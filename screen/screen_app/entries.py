@@ -12,14 +12,14 @@ class Entry:
 
     __slots__ = ("number", "client", "kind", "text", "undone", "steps", "proposal")
 
-    def __init__(self, number: int, client: int, words: list[str]) -> None:
-        self.number, self.client, self.kind, self.text = number, client, words[0], " ".join(words)
+    def __init__(self, number: int, client: int, fields: list[str]) -> None:
+        self.number, self.client, self.kind, self.text = number, client, fields[0], " ".join(fields)
         self.undone: int | None = None  # the entry that took it back
         self.steps: list[tuple[object, ...]] | None = None  # how it is taken back
         self.proposal: int | None = None
 
     @property
-    def words(self) -> list[str]:
+    def fields(self) -> list[str]:
         """They are kept as one text, which needs a tenth of the memory."""
         return self.text.split()
 
@@ -28,7 +28,7 @@ class Entry:
         if self.kind in ("undo", "propose"):
             return []
         if self.kind != "batch":
-            return [self.words]
+            return [self.fields]
         return [part.split() for part in self.text.partition(" ")[2].split(" ; ")]
 
 
@@ -37,40 +37,40 @@ def schedule_of(part: list[str]) -> str:
     return part[3] if part[0] == "branch" else part[1]
 
 
-def tell_batch(told: messages.Entry, entry: Entry, trace: Trace) -> None:
+def add_batch(message: messages.Entry, entry: Entry, trace: Trace) -> None:
     parts = entry.parts()
-    words = {part[0] for part in parts}
+    kinds = {part[0] for part in parts}
     is_of_one = len(set(map(schedule_of, parts))) == 1
-    told["count"], told["name"] = len(parts), schedule_of(parts[0])
-    if words == {"add"} and is_of_one:
+    message["count"], message["name"] = len(parts), schedule_of(parts[0])
+    if kinds == {"add"} and is_of_one:
         events = [int(part[2]) for part in parts]
-        told["run"] = [events[0], events[-1]]
-        told["threads"] = list(dict.fromkeys(trace.thread[event] for event in events))
+        message["run"] = [events[0], events[-1]]
+        message["threads"] = list(dict.fromkeys(trace.thread[event] for event in events))
     elif [part[0] for part in parts] == ["new", "adopt"]:
-        told["took"] = int(parts[1][2])
-    elif words == {"swap"} and is_of_one:
-        told["swaps"] = True
+        message["took"] = int(parts[1][2])
+    elif kinds == {"swap"} and is_of_one:
+        message["swaps"] = True
 
 
-def tell_kind(told: messages.Entry, entry: Entry, trace: Trace) -> None:
+def add_kind(message: messages.Entry, entry: Entry, trace: Trace) -> None:
     """Adds what the browser says of the entry by its kind."""
-    words = entry.words
+    fields = entry.fields
     if entry.kind == "batch":
-        tell_batch(told, entry, trace)
+        add_batch(message, entry, trace)
     elif entry.kind == "propose":
-        told["proposal"], told["count"] = entry.proposal, len(words) - 3
-        told["pair"] = [int(words[1]), int(words[2])]
+        message["proposal"], message["count"] = entry.proposal, len(fields) - 3
+        message["pair"] = [int(fields[1]), int(fields[2])]
     elif entry.kind == "undo":
-        told["of"] = int(words[1])
+        message["of"] = int(fields[1])
     elif entry.kind == "branch":
-        told["name"], told["source"], told["at"] = words[3], words[1], int(words[2])
+        message["name"], message["source"], message["at"] = fields[3], fields[1], int(fields[2])
     elif entry.kind == "add":
-        told["name"], told["event"] = words[1], trace.told(int(words[2]))
+        message["name"], message["event"] = fields[1], trace.event_message(int(fields[2]))
     else:
-        told["name"], told["at"] = words[1], int(words[2]) if len(words) > 2 else None
+        message["name"], message["at"] = fields[1], int(fields[2]) if len(fields) > 2 else None
 
 
-def told(entry: Entry, trace: Trace) -> messages.Entry:
+def entry_message(entry: Entry, trace: Trace) -> messages.Entry:
     """An entry for the browser."""
     text = entry.text
     answer: messages.Entry = {
@@ -79,7 +79,7 @@ def told(entry: Entry, trace: Trace) -> messages.Entry:
         "kind": entry.kind,
         "text": text if len(text) <= LONG else text[:LONG] + " …",
     }
-    tell_kind(answer, entry, trace)
+    add_kind(answer, entry, trace)
     if entry.undone is not None:
         answer["undone_by"] = entry.undone
     return answer

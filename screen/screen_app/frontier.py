@@ -7,7 +7,7 @@ from .bench import Bench
 from .causes import JOIN_EARLY, LOCK_HELD, NOT_FORKED, WRONG_WRITER, Causes
 from .checked import Mistake
 from .messages import Ahead, Frontier
-from .messages import Next as ToldNext
+from .messages import Next as NextMessage
 from .session import Gone
 from .sheet import Sheet
 
@@ -42,17 +42,17 @@ async def frontier(bench: Bench, name: str, aim: tuple[int, ...]) -> Frontier:
     events, pairs = asked
     causes, needs = Causes(sheet), needed(bench, aim)
     own = {bench.trace.thread[event] for event in aim}
-    told = []
+    coming = []
     for one in events:
-        told.append(thread_told(bench, sheet, one.event, needs, own))
+        coming.append(next_message(bench, sheet, one.event, needs, own))
         if one.cause:
-            told[-1]["why"] = causes.told(one.event, one.cause)
+            coming[-1]["why"] = causes.cause_of(one.event, one.cause)
     return {
         "name": name,
         "length": len(sheet),
-        "next": told,
+        "next": coming,
         "pairs": pairs,
-        "ended": len(bench.trace.threads.raw) - len(told),
+        "ended": len(bench.trace.threads.raw) - len(coming),
         "witnessed": aim in bench.witnesses,
     }
 
@@ -75,21 +75,21 @@ async def by_batches(bench: Bench, name: str, sheet: Sheet) -> tuple[list[Next],
 
 async def by_question(bench: Bench, name: str) -> tuple[list[Next], list[list[int]]]:
     """Asks the program's own question. The answer names causes by numbers."""
-    told, pairs = await bench.say(f"? next {name}", f"races {name}")
-    words = told.split(" ")
-    if words[0] != "next":
+    answer, pairs = await bench.say(f"? next {name}", f"races {name}")
+    fields = answer.split(" ")
+    if fields[0] != "next":
         raise Mistake("no such schedule")
-    return [item_of(bench, word) for word in words[3:]], pairs_of(pairs)
+    return [item_of(bench, word) for word in fields[3:]], pairs_of(pairs)
 
 
 def item_of(bench: Bench, word: str) -> Next:
     event, *cause = word.split(":")
     if not cause:
         return Next(int(event), None)
-    return Next(int(event), f"{cause[0]} {cause_words(bench, *cause)}")
+    return Next(int(event), f"{cause[0]} {cause_text(bench, *cause)}")
 
 
-def cause_words(bench: Bench, code: str, *about: str) -> str:
+def cause_text(bench: Bench, code: str, *about: str) -> str:
     """The text of a cause, as a refusal has it."""
     if code == WRONG_WRITER:
         return f"wrong writer needs {about[0]} has {about[1]}"
@@ -105,17 +105,17 @@ def pairs_of(answer: str) -> list[list[int]]:
     return [list(map(int, pair.split("-"))) for pair in pairs]
 
 
-def thread_told(bench: Bench, sheet: Sheet, event: int, needs: dict[int, int], own: set[int]) -> ToldNext:
+def next_message(bench: Bench, sheet: Sheet, event: int, needs: dict[int, int], own: set[int]) -> NextMessage:
     """A thread's next event, how far it has come, and how far the aim needs it."""
     thread = bench.trace.thread[event]
     events, done = bench.trace.events_of[thread], sheet.counts[thread]
-    told = cast(ToldNext, bench.trace.told(event))
-    told["left"] = len(events) - done
+    message = cast(NextMessage, bench.trace.event_message(event))
+    message["left"] = len(events) - done
     if thread in needs:
-        told["aim"], told["own"] = needs[thread] - done, thread in own
+        message["aim"], message["own"] = needs[thread] - done, thread in own
         if needs[thread] > done:
-            told["to"] = events[needs[thread] - 1]
-    return told
+            message["to"] = events[needs[thread] - 1]
+    return message
 
 
 def needed(bench: Bench, aim: tuple[int, ...]) -> dict[int, int]:
@@ -141,5 +141,5 @@ def ahead(bench: Bench, name: str, thread: int, first: int, count: int) -> Ahead
         "thread": thread,
         "left": len(events) - sheet.counts[thread],
         "from": first,
-        "events": [trace.told(event) for event in events[start : start + min(count, AHEAD)]],
+        "events": [trace.event_message(event) for event in events[start : start + min(count, AHEAD)]],
     }

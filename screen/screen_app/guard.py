@@ -42,14 +42,14 @@ class Guard:
         self.tickets = [*self.tickets[1 - TICKETS :], ticket]
         return f"http://127.0.0.1:{self.port}/#{ticket}"
 
-    def spend(self, given: str) -> bool:
-        found = [ticket for ticket in self.tickets if hmac.compare_digest(ticket.encode(), given.encode())]
+    def spend(self, offered: str) -> bool:
+        found = [ticket for ticket in self.tickets if hmac.compare_digest(ticket.encode(), offered.encode())]
         for ticket in found:
             self.tickets.remove(ticket)
         return bool(found)
 
-    def is_key(self, given: str) -> bool:
-        return hmac.compare_digest(given.encode(), self.key.encode())
+    def is_key(self, offered: str) -> bool:
+        return hmac.compare_digest(offered.encode(), self.key.encode())
 
     def check(self, request: web.Request) -> None:
         """Refuses a request that no page of this server makes."""

@@ -6,7 +6,7 @@ import os
 import stat
 from typing import Any
 
-from .text import Told, clean
+from .text import JsonObject, clean
 
 # A file of names is read up to this many bytes, and a name up to this many characters.
 BYTES, LONGEST = 16_384, 40
@@ -158,7 +158,7 @@ class Confirmed:
     def __init__(self, trace: str) -> None:
         self.path = trace + ".confirmed"
 
-    def read(self) -> dict[tuple[int, int], Told]:
+    def read(self) -> dict[tuple[int, int], JsonObject]:
         try:
             lines = bytes_of(self.path, MOST).splitlines()
         except OSError:
@@ -166,14 +166,14 @@ class Confirmed:
         return dict(filter(None, map(ending, lines)))
 
 
-def ending(line: bytes) -> tuple[tuple[int, int], Told] | None:
+def ending(line: bytes) -> tuple[tuple[int, int], JsonObject] | None:
     """A pair of events, and how its race ended; None for a line that says no such thing."""
     try:
-        told = json.loads(line)
-        first, second = sorted(int(event) for event in told["events"])
-        places = dict(zip(map(int, told["events"]), map(readable, told.get("locations", []))))
-        word = readable(told["ended"])
-        text = "\n".join(map(clean, [readable(told.get("text", word)), *outcome(told)]))
+        report = json.loads(line)
+        first, second = sorted(int(event) for event in report["events"])
+        places = dict(zip(map(int, report["events"]), map(readable, report.get("locations", []))))
+        word = readable(report["ended"])
+        text = "\n".join(map(clean, [readable(report.get("text", word)), *outcome(report)]))
         return (first, second), {"word": clean(word), "text": text, "places": places}
     except (ValueError, KeyError, TypeError, AttributeError, OverflowError, RecursionError):
         return None
@@ -184,15 +184,15 @@ def readable(text: Any) -> str:
     return str(text).encode("utf-8", "surrogateescape").decode("utf-8", "replace")
 
 
-def outcome(told: Told) -> list[str]:
+def outcome(report: JsonObject) -> list[str]:
     """What came of each order of the two accesses."""
-    lines = [] if told.get("same_memory", True) else ["the two accesses do not overlap"]
-    if "first" in told and "second" in told:
-        one, other = told["events"]
-        why = f": {readable(told['why'])}" if told.get("why") else ""
+    lines = [] if report.get("same_memory", True) else ["the two accesses do not overlap"]
+    if "first" in report and "second" in report:
+        one, other = report["events"]
+        why = f": {readable(report['why'])}" if report.get("why") else ""
         lines += [
-            f"{one} first: {readable(told['first'])}",
-            f"{other} first: {readable(told['second'])}",
-            MATTERS.get(told.get("matters"), "it is not known whether the order matters") + why,
+            f"{one} first: {readable(report['first'])}",
+            f"{other} first: {readable(report['second'])}",
+            MATTERS.get(report.get("matters"), "it is not known whether the order matters") + why,
         ]
-    return lines + [f"a run by itself may not: {readable(liberty)}" for liberty in told.get("liberties", [])]
+    return lines + [f"a run by itself may not: {readable(liberty)}" for liberty in report.get("liberties", [])]

@@ -132,52 +132,52 @@ class Layout:
         """This many rows from the first on, with the locks beside them."""
         first = max(0, min(first, self.total))
         last = min(self.total, first + count)
-        told: list[Row] = []
+        rows: list[Row] = []
         for part in self.parts_from(first):
             if part.row >= last:
                 break
             if part.is_block:
-                told.append(self._block(part))
+                rows.append(self._block(part))
             else:
                 low, high = max(part.row, first), min(part.row + part.rows, last)
-                told += [self._event(part.start + row - part.row) for row in range(low, high)]
-        locks = self._locks(told, first, last) if told else []
-        return {"from": first, "rows": told, "total": self.total, "length": len(self.sheet), "locks": locks}
+                rows += [self._event(part.start + row - part.row) for row in range(low, high)]
+        locks = self._locks(rows, first, last) if rows else []
+        return {"from": first, "rows": rows, "total": self.total, "length": len(self.sheet), "locks": locks}
 
     def _event(self, position: int) -> Row:
         sheet = self.sheet
         event = sheet.events[position]
-        told = cast(Row, sheet.trace.told(event))
-        told["position"] = position
+        row = cast(Row, sheet.trace.event_message(event))
+        row["position"] = position
         kind = sheet.trace.word[event] if sheet.trace.is_connected else NONE
         if kind == READ:
-            told["writer"] = sheet.seen(position)
+            row["writer"] = sheet.seen(position)
         elif kind == WRITE:
             found = sheet.readers(position, READERS + 1)
-            told["readers"] = found[:READERS]
+            row["readers"] = found[:READERS]
             if len(found) > READERS:
-                told["more_readers"] = True
+                row["more_readers"] = True
         if sheet.expanded and sheet.run_start[sheet.run_of(position)] in sheet.expanded:
-            told["is_open"] = True
-        return told
+            row["is_open"] = True
+        return row
 
     def _block(self, part: Part) -> Row:
         sheet, trace = self.sheet, self.sheet.trace
         events = sheet.events[part.start : part.start + part.length]
-        words = Counter(map(trace.word.__getitem__, events))
+        counts = Counter(map(trace.word.__getitem__, events))
         return {
             "size": part.length,
             "position": part.start,
             "thread": trace.thread[events[0]],
-            "operations": [words[kind] for kind in range(len(OPERATIONS))],
-            "first": trace.told(events[0]),
-            "last": trace.told(events[-1]),
+            "operations": [counts[kind] for kind in range(len(OPERATIONS))],
+            "first": trace.event_message(events[0]),
+            "last": trace.event_message(events[-1]),
         }
 
-    def _locks(self, told: list[Row], first: int, last: int) -> list[Lock]:
+    def _locks(self, rows: list[Row], first: int, last: int) -> list[Lock]:
         """The critical sections that meet these rows, from row to row of the window."""
         sheet = self.sheet
-        low, high = told[0]["position"], told[-1]["position"] + told[-1].get("size", 1) - 1
+        low, high = rows[0]["position"], rows[-1]["position"] + rows[-1].get("size", 1) - 1
         return [
             {
                 "thread": section.thread,

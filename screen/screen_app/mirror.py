@@ -86,10 +86,10 @@ class Mirror:
         self.tail = (self.tail + text[:at])[-TAIL:]
         return new
 
-    def _take(self, words: list[str]) -> None:
-        entry = Entry(len(self.entries), int(words[0]), words[1:])
+    def _take(self, fields: list[str]) -> None:
+        entry = Entry(len(self.entries), int(fields[0]), fields[1:])
         if entry.kind == "undo":
-            undone = self.entries[int(words[2])]
+            undone = self.entries[int(fields[2])]
             undone.undone = entry.number
             for step in reversed(undone.steps or []):
                 self._turn(step, entry)
@@ -97,7 +97,7 @@ class Mirror:
         elif entry.kind == "propose":
             entry.proposal = len(self.proposals)
             self.proposed.append(entry.number)
-            self.proposals.append(array("I", map(int, words[4:])))
+            self.proposals.append(array("I", map(int, fields[4:])))
         else:
             entry.steps = [self._do(entry, place, *part) for place, part in enumerate(entry.parts())]
         self.entries.append(entry)
@@ -190,7 +190,7 @@ class Mirror:
 
     # For the browser.
 
-    def told_row(self, name: str) -> messages.Schedule | None:
+    def schedule_message(self, name: str) -> messages.Schedule | None:
         row = self.rows.get(name)
         if row is None:
             return None
@@ -203,15 +203,15 @@ class Mirror:
             "touched": row.touched,
         }
 
-    def told_rows(self) -> list[messages.Schedule | None]:
-        return [self.told_row(name) for name in sorted(self.rows, key=lambda name: self.rows[name].birth)]
+    def schedule_messages(self) -> list[messages.Schedule | None]:
+        return [self.schedule_message(name) for name in sorted(self.rows, key=lambda name: self.rows[name].birth)]
 
     def take_changes(self) -> dict[str, messages.Schedule | None]:
         names, self.changed = list(self.changed), {}
-        return {name: self.told_row(name) for name in names}
+        return {name: self.schedule_message(name) for name in names}
 
-    def told_proposals(self) -> list[messages.Entry]:
-        return [told for number in self.proposed[-PROPOSALS:] for told in self.told(number, 1)]
+    def proposal_messages(self) -> list[messages.Entry]:
+        return [message for number in self.proposed[-PROPOSALS:] for message in self.entry_messages(number, 1)]
 
-    def told(self, first: int, count: int) -> list[messages.Entry]:
-        return [entries.told(entry, self.trace) for entry in self.entries[first : first + count]]
+    def entry_messages(self, first: int, count: int) -> list[messages.Entry]:
+        return [entries.entry_message(entry, self.trace) for entry in self.entries[first : first + count]]

@@ -24,9 +24,9 @@ class Outlet:
         self.queue: asyncio.Queue[str] = asyncio.Queue(MOST)
         self.writing = asyncio.ensure_future(self._write())
 
-    def send(self, told: Mapping[str, object]) -> None:
+    def send(self, message: Mapping[str, object]) -> None:
         try:
-            self.queue.put_nowait(json.dumps(told, separators=(",", ":")))
+            self.queue.put_nowait(json.dumps(message, separators=(",", ":")))
         except asyncio.QueueFull:
             self.let_go()
 

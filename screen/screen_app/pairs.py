@@ -14,9 +14,9 @@ from .bench import Bench
 from .checked import Mistake
 from .kept import Confirmed
 from .messages import Explanation, Witness
-from .messages import Races as ToldRaces
+from .messages import Races as RacesMessage
 from .session import Gone, Session, output, triage
-from .text import Told, clean
+from .text import JsonObject, clean
 
 # How many lines of an explanation are shown.
 LINES = 400
@@ -49,14 +49,14 @@ class Pairs:
         """The list that shows the pair, kept for views of it; without a list, the reason."""
         if pair[1] >= len(self.bench.trace):
             raise Mistake("no such event")
-        told: Witness = {"pair": list(pair), "accesses": [self.bench.trace.told(event) for event in pair]}
+        message: Witness = {"pair": list(pair), "accesses": [self.bench.trace.event_message(event) for event in pair]}
         if pair not in self.bench.witnesses:
             none = await (self._ask(pair, asker) if self.is_asked else self._run(pair, asker))
             if none is not None:
-                told["none"] = clean(none)
-                return told
-        told["length"] = len(self.bench.witnesses[pair])
-        return told
+                message["none"] = clean(none)
+                return message
+        message["length"] = len(self.bench.witnesses[pair])
+        return message
 
     def _keep(self, pair: tuple[int, int], events: array[int]) -> None:
         kept = self.bench.witnesses
@@ -86,7 +86,7 @@ class Pairs:
         """Asks a second session, so that no step waits for it. It knows the trace already."""
         self.latest[asker] = mine = object()
         if self.looker is None:
-            self.looker = Session(*self.bench.session.given)
+            self.looker = Session(*self.bench.session.parts)
         await self.looker.turn.acquire()
         self.looker.turn.release()
         if self.latest[asker] is not mine:
@@ -124,7 +124,7 @@ class Races:
     """What `triage` says of the trace, in windows."""
 
     def __init__(self) -> None:
-        self.state: Told = {"state": "searching"}
+        self.state: JsonObject = {"state": "searching"}
         self.kinds: list[str] = []  # of each block
         self.blocks: list[str] = []  # as JSON, which takes a third of the memory that its parts would
         self.hays: list[str] = []  # what a filter looks in
@@ -158,7 +158,7 @@ class Races:
             if due:
                 due.cancel()
 
-    def _take(self, block: dict[str, Any], confirmed: dict[tuple[int, int], Told]) -> None:
+    def _take(self, block: dict[str, Any], confirmed: dict[tuple[int, int], JsonObject]) -> None:
         first, second = sorted(access["event"] for access in block["accesses"])
         ended = confirmed.get((first, second))
         if ended and all(
@@ -172,20 +172,20 @@ class Races:
         self.blocks.append(json.dumps(block, separators=(",", ":")))
         self.hays.append(hay(block))
 
-    def window(self, text: str, kinds: list[str], first: int, count: int) -> ToldRaces:
+    def window(self, text: str, kinds: list[str], first: int, count: int) -> RacesMessage:
         if self.state["state"] != "found":
-            return cast(ToldRaces, {**self.state, "total": 0, "from": 0, "blocks": []})
+            return cast(RacesMessage, {**self.state, "total": 0, "from": 0, "blocks": []})
         words = text.lower().split()
         found = [
             at for at, kind in enumerate(self.kinds) if kind in kinds and all(word in self.hays[at] for word in words)
         ]
         blocks = [json.loads(self.blocks[at]) for at in found[first : first + count]]
-        return cast(ToldRaces, {**self.state, "total": len(found), "from": first, "blocks": blocks})
+        return cast(RacesMessage, {**self.state, "total": len(found), "from": first, "blocks": blocks})
 
 
 def hay(block: dict[str, Any]) -> str:
     """What a filter looks in."""
-    words = [block["kind"], block.get("how", "")]
+    texts = [block["kind"], block.get("how", "")]
     for access in block["accesses"]:
-        words += [access["location"], access["thread"], access["variable"], str(access["event"])]
-    return " ".join(words).lower()
+        texts += [access["location"], access["thread"], access["variable"], str(access["event"])]
+    return " ".join(texts).lower()

@@ -12,7 +12,7 @@ from .pairs import Pairs, Races
 from .row import Row
 from .shown import Shown
 from .source import Source
-from .text import Told
+from .text import JsonObject
 
 # The most rows of a window, entries of the feed, races, entries taken back, and lines of news.
 ROWS, ENTRIES, BLOCKS, UNDONE, NEWS = 400, 300, 200, 4096, 40
@@ -37,8 +37,10 @@ class Requests:
         self.news = News(bench.client)
         self.is_ready, self.is_greeted = asyncio.Event(), asyncio.Event()
 
-    async def answer(self, request: Told, asker: object) -> Mapping[str, object]:
-        do: Callable[[Told], Awaitable[Mapping[str, object]]] | None = getattr(self, f"do_{request.get('do')}", None)
+    async def answer(self, request: JsonObject, asker: object) -> Mapping[str, object]:
+        do: Callable[[JsonObject], Awaitable[Mapping[str, object]]] | None = getattr(
+            self, f"do_{request.get('do')}", None
+        )
         if do is None:
             raise Mistake("no such request")
         if request.get("do") != "races":
@@ -48,7 +50,7 @@ class Requests:
 
     # What is where.
 
-    async def do_hello(self, request: Told) -> messages.Hello:
+    async def do_hello(self, request: JsonObject) -> messages.Hello:
         self.is_greeted.set()
         trace, mirror = self.bench.trace, self.bench.mirror
         first = max(0, len(mirror.entries) - 200)
@@ -61,23 +63,23 @@ class Requests:
             "locks": len(trace.locks.raw),
             "log_length": len(mirror.entries),
             "seen": self.seen.read(mirror.digest),
-            "rows": mirror.told_rows(),
-            "feed": mirror.told(first, 200),
-            "proposals": mirror.told_proposals(),
+            "rows": mirror.schedule_messages(),
+            "feed": mirror.entry_messages(first, 200),
+            "proposals": mirror.proposal_messages(),
             "fault": self.fault,
             "source": bool(self.source.folder),
             "names": self.names.names,
         }
 
-    async def do_seen(self, request: Told) -> messages.Nothing:
+    async def do_seen(self, request: JsonObject) -> messages.Nothing:
         mirror = self.bench.mirror
         self.seen.write(mirror.digest, counted(request["log_length"], len(mirror.entries)))
         return {}
 
-    async def do_link(self, request: Told) -> messages.Link:
+    async def do_link(self, request: JsonObject) -> messages.Link:
         return {"link": self.link()}
 
-    def _aim(self, request: Told) -> tuple[int, ...]:
+    def _aim(self, request: JsonObject) -> tuple[int, ...]:
         aim = request.get("aim")
         if not aim:
             return ()
@@ -85,7 +87,7 @@ class Requests:
         counted(pair[1], len(self.bench.trace) - 1)
         return pair
 
-    async def do_view(self, request: Told) -> messages.View:
+    async def do_view(self, request: JsonObject) -> messages.View:
         """A window of rows: from a row on, at the end, or round a position that is to be seen."""
         sheet, row = self.bench.viewed(request["view"])
         aim, count = self._aim(request), min(counted(request["count"]), ROWS)
@@ -99,21 +101,21 @@ class Requests:
             first = max(0, sought - count // 2)
         else:
             first = max(0, layout.total - count) if request["from"] is None else counted(request["from"])
-        told = layout.window(first, count)
-        told["log_length"] = len(self.bench.mirror.entries)
-        told["lanes"] = layout.lanes({self.bench.trace.thread[event] for event in aim})
-        told["counts"] = [[thread, made] for thread, made in enumerate(sheet.counts) if made]
+        message = layout.window(first, count)
+        message["log_length"] = len(self.bench.mirror.entries)
+        message["lanes"] = layout.lanes({self.bench.trace.thread[event] for event in aim})
+        message["counts"] = [[thread, made] for thread, made in enumerate(sheet.counts) if made]
         if layout.total > MAPPED:
-            told["map"] = layout.overview()
+            message["map"] = layout.overview()
             places = [sheet.position[event] for event in aim]
-            told["aimed"] = [layout.row_of(place) for place in places if place >= 0]
+            message["aimed"] = [layout.row_of(place) for place in places if place >= 0]
         if sought is not None:
-            told["row"] = sought
+            message["row"] = sought
         if row:
-            self._say_who(told["rows"], row)
+            self._say_who(message["rows"], row)
         if self.source.folder:
-            told["source"] = self.source.of_places({place for one in told["rows"] for place in places_of(one)})
-        return told
+            message["source"] = self.source.of_places({place for one in message["rows"] for place in places_of(one)})
+        return message
 
     def _say_who(self, rows: list[messages.Row], row: Row) -> None:
         """Adds to each row of a window the latest entry that put an event there, and whose it is."""
@@ -125,69 +127,69 @@ class Requests:
         """The source lines of events, by location."""
         return self.source.of_places({event["location"] for event in events})
 
-    async def do_frontier(self, request: Told) -> messages.Frontier:
-        told = await frontier.frontier(self.bench, named(request["name"]), self._aim(request))
+    async def do_frontier(self, request: JsonObject) -> messages.Frontier:
+        message = await frontier.frontier(self.bench, named(request["name"]), self._aim(request))
         if self.source.folder:
-            told["source"] = self._lines_of(told["next"])
-        return told
+            message["source"] = self._lines_of(message["next"])
+        return message
 
-    async def do_ahead(self, request: Told) -> messages.Ahead:
+    async def do_ahead(self, request: JsonObject) -> messages.Ahead:
         thread, first, count = (counted(request[key]) for key in ("thread", "from", "count"))
-        told = frontier.ahead(self.bench, named(request["name"]), thread, first, count)
+        message = frontier.ahead(self.bench, named(request["name"]), thread, first, count)
         if self.source.folder:
-            told["source"] = self._lines_of(told["events"])
-        return told
+            message["source"] = self._lines_of(message["events"])
+        return message
 
-    async def do_source(self, request: Told) -> messages.SourceLines:
+    async def do_source(self, request: JsonObject) -> messages.SourceLines:
         if not isinstance(request["place"], str):
             raise Mistake("no such place")
         return self.source.around(request["place"], counted(request["around"])) or {"none": True}
 
-    async def do_check(self, request: Told) -> messages.Check:
+    async def do_check(self, request: JsonObject) -> messages.Check:
         return {"same": await self.bench.check(named(request["name"]))}
 
     # Steps.
 
-    def _shown(self, request: Told) -> Shown:
+    def _shown(self, request: JsonObject) -> Shown:
         """The schedule of a step, as the page showed it."""
         return Shown(self.bench, named(request["name"]), request.get("shown"))
 
-    async def do_add(self, request: Told) -> messages.Step:
+    async def do_add(self, request: JsonObject) -> messages.Step:
         return await steps.add(self.bench, named(request["name"]), counted(request["event"]))
 
-    async def do_back(self, request: Told) -> messages.Step:
+    async def do_back(self, request: JsonObject) -> messages.Step:
         return await steps.back(self._shown(request))
 
-    async def do_back_to(self, request: Told) -> messages.Step:
+    async def do_back_to(self, request: JsonObject) -> messages.Step:
         return await steps.back_to(self._shown(request), counted(request["length"]))
 
-    async def do_reach(self, request: Told) -> messages.Reach:
+    async def do_reach(self, request: JsonObject) -> messages.Reach:
         """Whether the aim of the page can still be reached from the schedule."""
         return steps.reach(self.bench, named(request["name"]), self._aim(request))
 
-    async def do_new(self, request: Told) -> messages.Step:
+    async def do_new(self, request: JsonObject) -> messages.Step:
         return await steps.one(self.bench, f"new {named(request['name'])}")
 
-    async def do_drop(self, request: Told) -> messages.Step:
+    async def do_drop(self, request: JsonObject) -> messages.Step:
         return await steps.one(self.bench, f"drop {named(request['name'])}")
 
-    async def do_branch(self, request: Told) -> messages.Step:
+    async def do_branch(self, request: JsonObject) -> messages.Step:
         return await steps.branch(self._shown(request), counted(request["length"]), named(request["to"]))
 
-    async def do_adopt(self, request: Told) -> messages.Step:
+    async def do_adopt(self, request: JsonObject) -> messages.Step:
         return await steps.one(self.bench, f"adopt {named(request['name'])} {counted(request['proposal'])}")
 
-    async def do_propose(self, request: Told) -> messages.Step:
+    async def do_propose(self, request: JsonObject) -> messages.Step:
         sheet, _ = self.bench.viewed(request["view"])
         return await steps.propose(self.bench, paired(request["pair"]), sheet.events)
 
-    async def do_swap(self, request: Told) -> messages.Step:
+    async def do_swap(self, request: JsonObject) -> messages.Step:
         by = request["by"]
         if not isinstance(by, int) or abs(by) > FARTHEST:
             raise Mistake("no such move")
         return await steps.move(self._shown(request), counted(request["position"]), by)
 
-    async def do_run(self, request: Told) -> messages.Step:
+    async def do_run(self, request: JsonObject) -> messages.Step:
         """Runs a thread until it must stop, or to an event, with it or up to it."""
         trace, until = self.bench.trace, request.get("until")
         if until is None:
@@ -201,37 +203,37 @@ class Requests:
             return await steps.run_to_aim(self.bench, named(request["name"]), until, self._aim(request))
         return await steps.Run(self.bench, named(request["name"])).to(thread, until)
 
-    async def do_undo(self, request: Told) -> messages.Step:
+    async def do_undo(self, request: JsonObject) -> messages.Step:
         entries = [counted(entry) for entry in request.get("entries") or []]
         return await steps.undo(self.bench, entries[:UNDONE])
 
-    async def do_enter(self, request: Told) -> messages.Step:
+    async def do_enter(self, request: JsonObject) -> messages.Step:
         sheet, _ = self.bench.viewed(request["view"])
         pair = request["view"].get("witness")
         return await steps.enter(self.bench, named(request["name"]), sheet.events[:], pair and paired(pair))
 
     # The log and the races.
 
-    async def do_feed(self, request: Told) -> messages.Feed:
+    async def do_feed(self, request: JsonObject) -> messages.Feed:
         first, count = counted(request["from"]), min(counted(request["count"]), ENTRIES)
-        return {"entries": self.bench.mirror.told(first, count)}
+        return {"entries": self.bench.mirror.entry_messages(first, count)}
 
-    async def do_since(self, request: Told) -> messages.News:
+    async def do_since(self, request: JsonObject) -> messages.News:
         return {"news": (await self.news.since(counted(request["from"]), self.bench.mirror.entries))[:NEWS]}
 
-    async def do_races(self, request: Told) -> messages.Races:
+    async def do_races(self, request: JsonObject) -> messages.Races:
         kinds = [kind for kind in request["kinds"] if isinstance(kind, str)]
         first, count = counted(request["from"]), min(counted(request["count"]), BLOCKS)
         return self.races.window(str(request.get("text") or ""), kinds, first, count)
 
-    async def do_witness(self, request: Told) -> messages.Witness:
-        told = await self.pairs.witness(paired(request["pair"]), request["asker"])
+    async def do_witness(self, request: JsonObject) -> messages.Witness:
+        message = await self.pairs.witness(paired(request["pair"]), request["asker"])
         if self.source.folder:
-            told["source"] = self._lines_of(told["accesses"])
-        return told
+            message["source"] = self._lines_of(message["accesses"])
+        return message
 
-    async def do_pair(self, request: Told) -> messages.Accesses:
-        return {"accesses": [self.bench.trace.told(event) for event in self._aim({"aim": request["pair"]})]}
+    async def do_pair(self, request: JsonObject) -> messages.Accesses:
+        return {"accesses": [self.bench.trace.event_message(event) for event in self._aim({"aim": request["pair"]})]}
 
-    async def do_explain(self, request: Told) -> messages.Explanation:
+    async def do_explain(self, request: JsonObject) -> messages.Explanation:
         return await self.pairs.explain(paired(request["pair"]))

@@ -78,7 +78,7 @@ class Server:
         self.files = {name: file_of(name) for name in os.listdir(STATIC) if name.endswith(tuple(TYPES))}
         self.outlets: set[Outlet] = set()
         self.waiting = 0
-        self.told_to = 0
+        self.sent_to = 0
         self.used_until = 0.0
         self.stopping = asyncio.Event()
         self.tasks: list[asyncio.Task[None]] = []
@@ -102,10 +102,10 @@ class Server:
         """Gives the key for a ticket, once."""
         try:
             async with asyncio.timeout(PATIENCE):
-                given = (await request.content.read(256)).decode("ascii", "replace")
+                offered = (await request.content.read(256)).decode("ascii", "replace")
         except TimeoutError:
             raise web.HTTPRequestTimeout from None
-        if not self.guard.spend(given):
+        if not self.guard.spend(offered):
             await asyncio.sleep(0.3)
             raise web.HTTPForbidden(text="spent")
         return web.Response(text=self.guard.key, content_type="text/plain")
@@ -158,7 +158,7 @@ class Server:
         async with room:
             number, answer = await self._outcome(text, outlet)
         try:
-            self._tell_changes()
+            self._push_changes()
         finally:
             outlet.send({**answer, "id": number})
 
@@ -188,26 +188,26 @@ class Server:
         mirror.sync()
         return [entry.number for entry in mirror.entries[first:] if entry.client == self.bench.client]
 
-    def push(self, what: str, told: Mapping[str, object]) -> None:
+    def push(self, what: str, message: Mapping[str, object]) -> None:
         for outlet in self.outlets:
-            outlet.send({"push": what, **told})
+            outlet.send({"push": what, **message})
 
     # What others do, and what is looked for beside the steps.
 
-    def _tell_changes(self) -> None:
+    def _push_changes(self) -> None:
         mirror = self.bench.mirror
-        known, total = self.told_to, len(mirror.entries)
+        known, total = self.sent_to, len(mirror.entries)
         if total != known:
-            self.told_to = total
+            self.sent_to = total
             first = max(known, total - PUSHED)
-            told: messages.LogPush = {
+            message: messages.LogPush = {
                 "log_length": total,
-                "entries": mirror.told(first, total - first),
+                "entries": mirror.entry_messages(first, total - first),
                 "rows": mirror.take_changes(),
             }
             if first > known:  # the page knows that it was not told all, and asks for what it shows of that
-                told["proposals"] = mirror.told_proposals()
-            self.push("log", told)
+                message["proposals"] = mirror.proposal_messages()
+            self.push("log", message)
 
     async def watch(self) -> None:
         """Looks at the size of the log: that also sees what another machine wrote, which inotify does not."""
@@ -222,13 +222,13 @@ class Server:
                 self.push("names", named)
             if mirror.grew():
                 mirror.sync()
-                self._tell_changes()
+                self._push_changes()
         self._say_fault(mirror.fault)
 
     def _say_fault(self, why: str) -> None:
         self.requests.fault = why
-        told: messages.FaultPush = {"why": why}
-        self.push("fault", told)
+        message: messages.FaultPush = {"why": why}
+        self.push("fault", message)
 
     async def compare_traces(self) -> None:
         """Whether the screen reads the trace as the program does: the log's first line has the program's digest.
@@ -296,7 +296,7 @@ class Server:
         self.bench.mirror.sync()
         self.bench.mirror.is_followed = True
         self.bench.mirror.take_changes()
-        self.told_to = len(self.bench.mirror.entries)
+        self.sent_to = len(self.bench.mirror.entries)
         self.names.changed()
         self.requests.is_ready.set()
         self.beside(self.watch())

@@ -34,8 +34,8 @@ class Session:
     """A process `racebench session TRACE LOG --client N`, started anew at the next step where it ended."""
 
     def __init__(self, program: str, trace: str, log: str, client: int) -> None:
-        self.given = (program, trace, log, client)
-        self.words = [program, "session", trace, log, "--client", str(client)]
+        self.parts = (program, trace, log, client)
+        self.command = [program, "session", trace, log, "--client", str(client)]
         self.process: Process | None = None
         self.dropped: list[Process] = []
         self.turn = asyncio.Lock()
@@ -63,14 +63,14 @@ class Session:
     async def _running(self) -> Process:
         if self.process is None or self.process.returncode is not None:
             self.process = None
-            self.process = await started(*self.words, stdin=PIPE)
+            self.process = await started(*self.command, stdin=PIPE)
         return self.process
 
     async def _answer(self, process: Process) -> str:
         answer = await stdout(process).readline()
         if answer.endswith(b"\n"):
             return answer[:-1].decode("utf-8", "replace")
-        raise Gone(await last_words(process) or "the session ended")
+        raise Gone(await last_error(process) or "the session ended")
 
     def drop(self) -> None:
         """Ends the process: its further answers would be taken for those of other lines."""
@@ -93,12 +93,12 @@ class Session:
                 await asyncio.wait_for(process.wait(), ENDS)
 
 
-async def started(*words: str, stdin: int = asyncio.subprocess.DEVNULL) -> Process:
+async def started(*command: str, stdin: int = asyncio.subprocess.DEVNULL) -> Process:
     """A process of the program. A program that cannot be started is handled as one that ended."""
     try:
-        return await asyncio.create_subprocess_exec(*words, stdin=stdin, stdout=PIPE, stderr=PIPE, limit=LINE_LIMIT)
+        return await asyncio.create_subprocess_exec(*command, stdin=stdin, stdout=PIPE, stderr=PIPE, limit=LINE_LIMIT)
     except OSError as why:
-        raise Gone(f"{words[0]} cannot be started: {why.strerror}") from why
+        raise Gone(f"{command[0]} cannot be started: {why.strerror}") from why
 
 
 def stdout(process: Process) -> asyncio.StreamReader:
@@ -115,21 +115,21 @@ async def write(process: Process, text: bytes) -> None:
         pass  # what it said last is read from its standard error
 
 
-async def last_words(process: Process) -> str:
+async def last_error(process: Process) -> str:
     """What it said last. It may go on, or another process have its pipe, so nobody waits for ever."""
     assert process.stderr
-    said = b""
+    error = b""
     with contextlib.suppress(asyncio.TimeoutError):
         async with asyncio.timeout(LAST):
             while part := await process.stderr.read(LAST_WORDS):
-                said = (said + part)[-LAST_WORDS:]
+                error = (error + part)[-LAST_WORDS:]
             await process.wait()
-    return said.decode("utf-8", "replace").strip()
+    return error.decode("utf-8", "replace").strip()
 
 
-async def output(*words: str) -> tuple[int, bytes, str]:
+async def output(*command: str) -> tuple[int, bytes, str]:
     """The status, output and error of the program at other words. A caller that is cancelled leaves no process."""
-    process = await started(*words)
+    process = await started(*command)
     try:
         out, error = await process.communicate()
     finally:
@@ -139,21 +139,21 @@ async def output(*words: str) -> tuple[int, bytes, str]:
     return process.returncode or 0, out, error.decode("utf-8", "replace").strip()
 
 
-async def triage(program: str, trace: str, hear: Hear, take: Take, *words: str) -> tuple[dict[str, Any], int]:
+async def triage(program: str, trace: str, hear: Hear, take: Take, *arguments: str) -> tuple[dict[str, Any], int]:
     """What `triage --json --apart` says: the counts; races, undecided and apart pairs of places are given to `take`.
 
     Also how many more there are than are taken. The arguments may leave out races, which are counted as `known`.
     """
     counts: dict[str, Any] = {}
     number = 0
-    async for told in told_by(hear, program, "triage", trace, "--json", "--apart", "--progress", *words):
-        if told["kind"] == "counts":
-            counts = told
-        elif told["kind"] == "known":
-            counts["known"] = told["count"]
-        elif told["kind"] in ("race", "undecided", "apart"):
+    async for block in json_lines(hear, program, "triage", trace, "--json", "--apart", "--progress", *arguments):
+        if block["kind"] == "counts":
+            counts = block
+        elif block["kind"] == "known":
+            counts["known"] = block["count"]
+        elif block["kind"] in ("race", "undecided", "apart"):
             if number < MOST_BLOCKS:
-                take(told)
+                take(block)
             number += 1
     return counts, max(0, number - MOST_BLOCKS)
 
@@ -161,20 +161,20 @@ async def triage(program: str, trace: str, hear: Hear, take: Take, *words: str) 
 async def heard(process: Process, hear: Hear) -> str:
     """Hears how far the process is, and gives its last lines that say something else."""
     assert process.stderr
-    said: deque[str] = deque(maxlen=LAST_LINES)
+    lines: deque[str] = deque(maxlen=LAST_LINES)
     async for line in process.stderr:
         text = line.decode("utf-8", "replace").strip()
         if PROGRESS.fullmatch(text):
             hear(text)
         else:
-            said.append(text)
-    return "\n".join(said)
+            lines.append(text)
+    return "\n".join(lines)
 
 
-async def told_by(hear: Hear, *words: str) -> AsyncIterator[dict[str, Any]]:
+async def json_lines(hear: Hear, *command: str) -> AsyncIterator[dict[str, Any]]:
     """The JSON lines of a process, as they come."""
-    process = await started(*BEHIND, *words)
-    saying = asyncio.ensure_future(heard(process, hear))
+    process = await started(*BEHIND, *command)
+    reading = asyncio.ensure_future(heard(process, hear))
     try:
         number = 0
         async for line in stdout(process):
@@ -182,11 +182,11 @@ async def told_by(hear: Hear, *words: str) -> AsyncIterator[dict[str, Any]]:
             number += 1
             if number % 256 == 0:
                 await asyncio.sleep(0)
-        error = await saying
+        error = await reading
         if await process.wait():
-            raise Gone(error or f"{words[1]} ended with status {process.returncode}")
+            raise Gone(error or f"{command[1]} ended with status {process.returncode}")
     finally:
-        saying.cancel()
+        reading.cancel()
         if process.returncode is None:
             process.kill()
             await process.wait()

@@ -34,7 +34,7 @@ class Sheet:
 
     def extend(self, added: array[int]) -> None:
         trace, place, counts, events = self.trace, self.position, self.counts, self.events
-        threads, words = trace.thread, trace.word
+        threads, operations = trace.thread, trace.word
         last = self.run_thread[-1] if self.run_thread else NONE
         position = len(events)
         for event in added:
@@ -44,8 +44,8 @@ class Sheet:
                 last = thread
             place[event] = position
             counts[thread] += 1
-            if ACQUIRE <= words[event] <= RELEASE:
-                self.sections.push(position, words[event], thread, trace.name[event])
+            if ACQUIRE <= operations[event] <= RELEASE:
+                self.sections.push(position, operations[event], thread, trace.name[event])
             events.append(event)
             position += 1
 

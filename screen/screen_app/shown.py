@@ -23,11 +23,11 @@ class Shown:
     by then, it is not made. The log may also grow between this look and the step; then the step is taken back.
     """
 
-    def __init__(self, bench: Bench, name: str, told: Any) -> None:
+    def __init__(self, bench: Bench, name: str, message: Any) -> None:
         self.bench, self.name = bench, name
         bench.mirror.sync()
-        self.known = len(bench.mirror.entries) if told is None else counted(told["log_length"])
-        self.own = set() if told is None else {counted(entry) for entry in told["own"][:OWN]}
+        self.known = len(bench.mirror.entries) if message is None else counted(message["log_length"])
+        self.own = set() if message is None else {counted(entry) for entry in message["own"][:OWN]}
         self.made: list[int] = []
         self.other: Changed = {}  # the entry of another that changed these events, and its client
 
@@ -82,7 +82,7 @@ class Shown:
                 shown[change.at : change.at + len(change.old)] = change.new
         return shown[span[0] : span[1]] == now[span[0] : span[1]]
 
-    def told(self, answer: str, **more: object) -> Step:
+    def step(self, answer: str, **more: object) -> Step:
         step = cast(Step, {"answer": answer, "made": self.made, **more})
         if self.other:
             step["changed"] = self.other

@@ -82,12 +82,12 @@ class Source:
 
     def of_places(self, places: set[str]) -> dict[str, str]:
         """The line of each place that has one."""
-        told = {}
+        texts = {}
         for place in places if self.folder else ():
             found = self.around(place)
             if found:
-                told[place] = found["lines"][0][1].strip()
-        return told
+                texts[place] = found["lines"][0][1].strip()
+        return texts
 
 
 def line_text(line: bytes) -> str:

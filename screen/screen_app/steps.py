@@ -45,10 +45,10 @@ async def one(bench: Bench, line: str) -> Step:
 
 async def add(bench: Bench, name: str, event: int) -> Step:
     answer = await bench.say_one(f"add {name} {event}")
-    told: Step = {"answer": clean(answer)}
+    step: Step = {"answer": clean(answer)}
     if answer.startswith("refused 46 ") and event < len(bench.trace):
-        told["why"] = Causes(bench.sheet(name)).told(event, answer.removeprefix("refused 46 "))
-    return told
+        step["why"] = Causes(bench.sheet(name)).cause_of(event, answer.removeprefix("refused 46 "))
+    return step
 
 
 class Run:
@@ -72,39 +72,39 @@ class Run:
                     return await self._stopped(part, answer)
                 self._count(part, answer)
                 at += len(part)
-        told = self._told(f"{self.entries[-1]}: done" if self.entries else "nothing to add")
+        step = self._step(f"{self.entries[-1]}: done" if self.entries else "nothing to add")
         if end < wanted:
-            told["more"] = wanted - end
-        return told
+            step["more"] = wanted - end
+        return step
 
     def _count(self, part: Sequence[int], answer: str) -> None:
         self.added += len(part)
         self.entries.append(entry_of(answer))
 
-    def _told(self, answer: str) -> Step:
+    def _step(self, answer: str) -> Step:
         return {"added": self.added, "entries": self.entries, "answer": clean(answer)}
 
     async def _stopped(self, part: Sequence[int], answer: str) -> Step:
         """A batch was refused at one of its events: those before it are added, and the answer has the cause."""
         found = REFUSED_ADD.match(answer)
         if not found:
-            return self._told(answer)
+            return self._step(answer)
         good = int(found[1])
         if good:
             more = await self.bench.say_one(adds(self.name, part[:good]))
             if not is_done(more):
-                return self._told(more)
+                return self._step(more)
             self._count(part[:good], more)
         event = part[good]
-        why = Causes(self.bench.sheet(self.name)).told(event, found[2])
-        told = self._told(answer)
-        told["stop"] = stop(self.bench, event, why)
-        return told
+        why = Causes(self.bench.sheet(self.name)).cause_of(event, found[2])
+        step = self._step(answer)
+        step["stop"] = stop(self.bench, event, why)
+        return step
 
 
 def stop(bench: Bench, event: int, why: Cause) -> Stop:
     """The event before which a run stops, and why."""
-    return cast(Stop, {**bench.trace.told(event), **why})
+    return cast(Stop, {**bench.trace.event_message(event), **why})
 
 
 def cut(events: array[int]) -> list[array[int]]:
@@ -128,11 +128,11 @@ async def run_to_aim(bench: Bench, name: str, until: int, pair: tuple[int, ...])
     if count == end - done:
         return await Run(bench, name).to(thread, until)
     events = trace.events_of[thread]
-    told = await Run(bench, name).to(thread, events[done + count - 1]) if count else nothing_added()
-    if told["added"] < count:
-        return told
-    told["stop"] = stop(bench, events[done + count], barred(bench, None if is_searched else bar))
-    return told
+    step = await Run(bench, name).to(thread, events[done + count - 1]) if count else nothing_added()
+    if step["added"] < count:
+        return step
+    step["stop"] = stop(bench, events[done + count], barred(bench, None if is_searched else bar))
+    return step
 
 
 def nothing_added() -> Step:
@@ -143,7 +143,7 @@ def barred(bench: Bench, bar: Bar | None) -> Cause:
     """Why a step would lead away from the aim: another event has to come first, or no way is found."""
     if bar is None:
         return {"code": "way", "said": "no way to the aim was found after it"}
-    return {"code": "aim", "said": "the aim needs another event first", "about": bench.trace.told(bar.needed)}
+    return {"code": "aim", "said": "the aim needs another event first", "about": bench.trace.event_message(bar.needed)}
 
 
 def reach(bench: Bench, name: str, pair: tuple[int, ...]) -> Reach:
@@ -153,12 +153,16 @@ def reach(bench: Bench, name: str, pair: tuple[int, ...]) -> Reach:
     lost: Loss | None = loss_of(aim, sheet.events) if aim else None
     if lost is None:
         return {}
-    about = {} if lost.bar is None else {key: bench.trace.told(event) for key, event in lost.bar._asdict().items()}
+    about = (
+        {}
+        if lost.bar is None
+        else {key: bench.trace.event_message(event) for key, event in lost.bar._asdict().items()}
+    )
     return cast(Reach, {"lost": {"length": lost.length, "left": len(sheet) - lost.length, **about}})
 
 
 async def back(shown: Shown) -> Step:
-    return shown.told(await shown.say(f"back {shown.name}"))
+    return shown.step(await shown.say(f"back {shown.name}"))
 
 
 async def back_to(shown: Shown, length: int) -> Step:
@@ -173,7 +177,7 @@ async def back_to(shown: Shown, length: int) -> Step:
         for start in range(1, len(lines), CHUNK):
             answers += await shown.bench.say(*lines[start : start + CHUNK])
     entries = [entry_of(answer) for answer in answers if is_done(answer)]
-    return shown.told(clean(answers[-1]), made=entries, entries=entries)
+    return shown.step(clean(answers[-1]), made=entries, entries=entries)
 
 
 def taken_back(name: str, count: int) -> str:
@@ -182,7 +186,7 @@ def taken_back(name: str, count: int) -> str:
 
 
 async def branch(shown: Shown, length: int, to: str) -> Step:
-    return shown.told(await shown.say(f"branch {shown.name} {length} {to}", 0, length))
+    return shown.step(await shown.say(f"branch {shown.name} {length} {to}", 0, length))
 
 
 async def move(shown: Shown, position: int, by: int) -> Step:
@@ -193,16 +197,16 @@ async def move(shown: Shown, position: int, by: int) -> Step:
     span = min(places), max(places) + 2
     answer = await shown.say(swaps(shown.name, places), *span)
     if is_done(answer):
-        return shown.told(answer, moved=len(places))
+        return shown.step(answer, moved=len(places))
     found = None if shown.other else REFUSED_SWAP.match(answer)
     if not found:
-        return shown.told(answer, moved=0)
+        return shown.step(answer, moved=0)
     good = int(found[1] or 0)
     if good:
         more = await shown.say(swaps(shown.name, places[:good]), *span)
         if shown.other or not is_done(more):
-            return shown.told(more, moved=0)
-    return shown.told(answer, moved=good, **stays(shown.bench, shown.name, position, good if by > 0 else -good, by))
+            return shown.step(more, moved=0)
+    return shown.step(answer, moved=good, **stays(shown.bench, shown.name, position, good if by > 0 else -good, by))
 
 
 def stays(bench: Bench, name: str, position: int, moved: int, by: int) -> dict[str, Stay]:
@@ -213,7 +217,7 @@ def stays(bench: Bench, name: str, position: int, moved: int, by: int) -> dict[s
     if not (0 <= other < len(sheet) and 0 <= here < len(sheet)):
         return {}
     why = dependent(sheet, sheet.events[here], sheet.events[other])
-    return {"stop": {"position": min(here, other), "why": why, "with": sheet.trace.told(sheet.events[other])}}
+    return {"stop": {"position": min(here, other), "why": why, "with": sheet.trace.event_message(sheet.events[other])}}
 
 
 async def undo(bench: Bench, entries: list[int]) -> Step:
@@ -221,11 +225,11 @@ async def undo(bench: Bench, entries: list[int]) -> Step:
     answers = await bench.say(*[f"undo {entry}" for entry in entries] or ["undo"])
     failed = next((answer for answer in answers if ": undone" not in answer), None)
     made = [entry_of(answer) for answer in answers if ": undone" in answer]
-    told: Step = {"answer": failed or answers[-1], "undone": len(made), "made": made}
+    step: Step = {"answer": failed or answers[-1], "undone": len(made), "made": made}
     found = RESTS.match(failed or "")
     if found:
-        told["rests"] = {"entry": bench.mirror.told(int(found[1]), 1)[0], "name": found[2]}
-    return told
+        step["rests"] = {"entry": bench.mirror.entry_messages(int(found[1]), 1)[0], "name": found[2]}
+    return step
 
 
 async def enter(bench: Bench, name: str, events: array[int], pair: tuple[int, int] | None) -> Step:

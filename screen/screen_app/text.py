@@ -4,7 +4,7 @@ import unicodedata
 from typing import Any
 
 # A dictionary of JSON that comes from outside: it may have any keys.
-Told = dict[str, Any]
+JsonObject = dict[str, Any]
 
 # Control, format (bidi), surrogate, private, unassigned, and the two separators of lines.
 HIDDEN = frozenset({"Cc", "Cf", "Cs", "Co", "Cn", "Zl", "Zp"})

@@ -60,8 +60,8 @@ class Trace:
         self._find_forks()
 
     def _find_forks(self) -> None:
-        words, at = self.word.tobytes(), NONE
-        while (at := words.find(FORK, at + 1)) >= 0:
+        operations, at = self.word.tobytes(), NONE
+        while (at := operations.find(FORK, at + 1)) >= 0:
             self.fork_of[self.name[at]] = at
 
     def as_part(self) -> Part:
@@ -120,11 +120,11 @@ class Trace:
             events = array("I", text)
             self.events_of[thread].extend(array("I", map(shift.__add__, events)) if shift else events)
 
-    def add(self, threads: bytes, words: bytes, names: list[int], places: list[int]) -> None:
+    def add(self, threads: bytes, operations: bytes, names: list[int], places: list[int]) -> None:
         """Adds events, each given by its numbers."""
         start = self.before + len(self.thread)
         self.thread.frombytes(threads)
-        self.word.frombytes(words)
+        self.word.frombytes(operations)
         self.name.extend(names)
         self.place.extend(places)
         while len(self.events_of) < len(self.threads.raw):
@@ -143,8 +143,8 @@ class Trace:
         last_write: dict[int, int] = {}
         last_access: dict[int, int] = {}
         for start in range(0, len(self), PORTION):
-            words, names = self.word[start : start + PORTION], self.name[start : start + PORTION]
-            for event, (kind, name) in enumerate(zip(words, names), start):
+            operations, names = self.word[start : start + PORTION], self.name[start : start + PORTION]
+            for event, (kind, name) in enumerate(zip(operations, names), start):
                 if kind <= WRITE:
                     if name in last_access:
                         self.following[last_access[name]] = event
@@ -168,7 +168,7 @@ class Trace:
     def name_text(self, event: int) -> str:
         return self.names_of(self.word[event]).text(self.name[event])
 
-    def told(self, event: int) -> Event:
+    def event_message(self, event: int) -> Event:
         """An event for the browser."""
         return {
             "event": event,

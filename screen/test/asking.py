@@ -19,9 +19,9 @@ PROGRAM = os.environ["RACEBENCH"]
 
 
 class Session:
-    def __init__(self, words):
-        self.trace, self.path, self.log = Trace(words[1]).read_at_once(), words[1], words[2]
-        self.process = subprocess.Popen([PROGRAM, *words], stdin=subprocess.PIPE, stdout=subprocess.PIPE)
+    def __init__(self, arguments):
+        self.trace, self.path, self.log = Trace(arguments[1]).read_at_once(), arguments[1], arguments[2]
+        self.process = subprocess.Popen([PROGRAM, *arguments], stdin=subprocess.PIPE, stdout=subprocess.PIPE)
 
     def ask(self, line):
         self.process.stdin.write(line.encode() + b"\n")
@@ -34,19 +34,19 @@ class Session:
             return sum(1 for _ in itertools.takewhile(lambda line: line.startswith(b" "), file))
 
     def answer(self, line):
-        words = line.split()
-        if words[0] != "?":
+        fields = line.split()
+        if fields[0] != "?":
             return self.ask(line)
         if os.environ.get("QUESTIONS") == "unknown":
             return "line 1: 81 bad word"
-        if words[1] == "rows":
+        if fields[1] == "rows":
             names = self.ask("list").split()[1:]
             return " ".join([f"rows {self.length()}", *(f"{name}:0:0:1" for name in names)])
-        if words[1] == "next":
-            return self.next(words[2])
+        if fields[1] == "next":
+            return self.next(fields[2])
         if os.environ.get("WITNESS") == "unknown":
             return "line 1: 87 bad question"
-        return self.witness(words[2], words[3])
+        return self.witness(fields[2], fields[3])
 
     def next(self, name):
         word, *events = self.ask(f"show {name}").split()
@@ -59,14 +59,14 @@ class Session:
         return " ".join([f"next {self.length()} {len(events)}", *(self.item(name, event) for event in left)])
 
     def item(self, name, event):
-        said = self.ask(f"batch add {name} {event} ; new {name}").removeprefix("refused 70 at ")
-        if said.startswith("1 43"):
+        answer = self.ask(f"batch add {name} {event} ; new {name}").removeprefix("refused 70 at ")
+        if answer.startswith("1 43"):
             return str(event)
-        code, *words = said.removeprefix("0 46 ").split()
+        code, *fields = answer.removeprefix("0 46 ").split()
         if code == "24":
-            return f"{event}:24:{words[3]}:{words[5]}"
+            return f"{event}:24:{fields[3]}:{fields[5]}"
         if code == "25":
-            return f"{event}:25:{self.trace.threads.raw.index(words[-1].encode())}"
+            return f"{event}:25:{self.trace.threads.raw.index(fields[-1].encode())}"
         return f"{event}:{code}"
 
     def witness(self, first, second):
@@ -77,14 +77,14 @@ class Session:
 
 
 def main():
-    words = sys.argv[1:]
-    if words[0] != "session":
-        os.execv(PROGRAM, [PROGRAM, *words])
-    session = Session(words)
-    with open("asked", "a", encoding="ascii") as asked:
+    arguments = sys.argv[1:]
+    if arguments[0] != "session":
+        os.execv(PROGRAM, [PROGRAM, *arguments])
+    session = Session(arguments)
+    with open("asked", "a", encoding="ascii") as questions:
         for line in sys.stdin:
-            asked.write(line)
-            asked.flush()
+            questions.write(line)
+            questions.flush()
             print(session.answer(line.rstrip("\n")), flush=True)
 
 

@@ -174,19 +174,19 @@ class Browser:
     async def _read(self):
         try:
             async for message in self.socket:
-                told = json.loads(message.data)
-                if "id" in told:
-                    self._settle(told["id"], told)
-                elif told.get("sessionId") in self.pages:
-                    self.pages[told["sessionId"]].take(told["method"], told["params"])
+                parsed = json.loads(message.data)
+                if "id" in parsed:
+                    self._settle(parsed["id"], parsed)
+                elif parsed.get("sessionId") in self.pages:
+                    self.pages[parsed["sessionId"]].take(parsed["method"], parsed["params"])
         finally:
             self.is_dead = True
             self.fail("the browser ended")
 
-    def _settle(self, number, told):
+    def _settle(self, number, message):
         _, future = self.waiting.pop(number, (None, None))
         if future and not future.done():  # else nobody waits for it any longer
-            future.set_result(told)
+            future.set_result(message)
 
     def fail(self, why, session=None):
         """What waits for an answer, of one page or of all, gets none."""
@@ -204,10 +204,10 @@ class Browser:
         future = asyncio.get_running_loop().create_future()
         self.waiting[self.number] = (session, future)
         await self.socket.send_str(json.dumps(message))
-        told = await within(PATIENCE, future)
-        if "error" in told:
-            raise RuntimeError(f"{method}: {told['error']}")
-        return told["result"]
+        answer = await within(PATIENCE, future)
+        if "error" in answer:
+            raise RuntimeError(f"{method}: {answer['error']}")
+        return answer["result"]
 
     async def page(self, url, width=1440, height=900, dark=False):
         """A page that shares nothing with the others."""
@@ -248,23 +248,23 @@ class Page:
         self.faults, self.requests = [], []
         self.listener = Listener(self.faults)
 
-    def take(self, method, given):
+    def take(self, method, parameters):
         """Keeps each error of the page, each address that it asks for, and what is wrong with its messages."""
         if method == "Runtime.exceptionThrown":
-            details = given["exceptionDetails"]
+            details = parameters["exceptionDetails"]
             self.faults.append(details.get("exception", {}).get("description") or details["text"])
-        elif method == "Log.entryAdded" and given["entry"]["level"] in ("error", "warning"):
-            self.faults.append(given["entry"]["text"] + " " + given["entry"].get("url", ""))
-        elif method == "Runtime.consoleAPICalled" and given["type"] == "error":
-            self.faults.append(str([one.get("value") or one.get("description") for one in given["args"]]))
+        elif method == "Log.entryAdded" and parameters["entry"]["level"] in ("error", "warning"):
+            self.faults.append(parameters["entry"]["text"] + " " + parameters["entry"].get("url", ""))
+        elif method == "Runtime.consoleAPICalled" and parameters["type"] == "error":
+            self.faults.append(str([one.get("value") or one.get("description") for one in parameters["args"]]))
         elif method == "Network.requestWillBeSent":
-            self.requests.append(given["request"]["url"])
+            self.requests.append(parameters["request"]["url"])
         elif method == "Network.webSocketCreated":
-            self.requests.append(given["url"])
+            self.requests.append(parameters["url"])
         elif method == "Network.webSocketFrameSent":
-            self.listener.sent(given["response"]["payloadData"])
+            self.listener.sent(parameters["response"]["payloadData"])
         elif method == "Network.webSocketFrameReceived":
-            self.listener.received(given["response"]["payloadData"])
+            self.listener.received(parameters["response"]["payloadData"])
         elif method == "Inspector.targetCrashed":
             self.is_crashed = True
             self.browser.fail(CRASHED, self.session)
@@ -283,10 +283,10 @@ class Page:
         await self.call("Page.navigate", url=url)
 
     async def run(self, code):
-        told = await self.call("Runtime.evaluate", expression=code, awaitPromise=True, returnByValue=True)
-        if "exceptionDetails" in told:
-            raise RuntimeError(told["exceptionDetails"].get("exception", {}).get("description"))
-        return told["result"].get("value")
+        answer = await self.call("Runtime.evaluate", expression=code, awaitPromise=True, returnByValue=True)
+        if "exceptionDetails" in answer:
+            raise RuntimeError(answer["exceptionDetails"].get("exception", {}).get("description"))
+        return answer["result"].get("value")
 
     async def until(self, code, seconds=PATIENCE, what=None):
         """Waits by condition, never by time. What the condition is may change: then it is made anew for each look."""
@@ -304,12 +304,12 @@ class Page:
 
     async def key(self, key, modifiers=0):
         code = KEYS.get(key, ord(key.upper()) if len(key) == 1 else 0)
-        given = {"key": key, "windowsVirtualKeyCode": code, "modifiers": modifiers}
+        event = {"key": key, "windowsVirtualKeyCode": code, "modifiers": modifiers}
         if len(key) == 1 and not modifiers:
-            given["text"] = key
+            event["text"] = key
         if key == "Enter":
-            given["text"] = "\r"
-        await self.call("Input.dispatchKeyEvent", type="keyDown", **given)
+            event["text"] = "\r"
+        await self.call("Input.dispatchKeyEvent", type="keyDown", **event)
         await self.call("Input.dispatchKeyEvent", type="keyUp", key=key, windowsVirtualKeyCode=code)
 
     async def type(self, text):
@@ -380,6 +380,6 @@ class Page:
         await self.release(x, y + by)
 
     async def picture(self, path):
-        told = await self.call("Page.captureScreenshot", format="png")
+        answer = await self.call("Page.captureScreenshot", format="png")
         with open(path, "wb") as file:
-            file.write(base64.b64decode(told["data"]))
+            file.write(base64.b64decode(answer["data"]))

@@ -386,9 +386,9 @@ async def test_a_refusal_of_what_is_not_shown(program):
     async with Screen(path, "trace", "log") as screen, Socket(screen) as socket:
         await session(program, 1, "new A\nadd A 0\nadd A 1\nadd A 3\nadd A 2\n")
         await comes(lambda: len(logged()) == 5)
-        told = await socket.call(do="swap", name="A", position=1, by=1, shown={"log_length": 5, "own": []})
-        same(told["changed"], {"entry": 5, "client": 2, "name": "A"})
-        same((told["moved"], told["made"], "stop" in told), (0, [], False))
+        answer = await socket.call(do="swap", name="A", position=1, by=1, shown={"log_length": 5, "own": []})
+        same(answer["changed"], {"entry": 5, "client": 2, "name": "A"})
+        same((answer["moved"], answer["made"], "stop" in answer), (0, [], False))
         same(logged()[5:], ["2 swap A 2"])
 
 
@@ -406,10 +406,10 @@ async def test_what_a_page_may_not_say_that_it_showed(program):
             {"log_length": -1, "own": []},
             {"log_length": 2, "own": [True]},
         ):
-            told = await socket.call(do="back", name="A", shown=shown)
-            assert "mistake" in told, (shown, told)
+            answer = await socket.call(do="back", name="A", shown=shown)
+            assert "mistake" in answer, (shown, answer)
         same(logged(), ["1 new A", "1 add A 0"])
-        told = await socket.call(do="back", name="A", shown={"log_length": 10**9, "own": [10**9]})
+        answer = await socket.call(do="back", name="A", shown={"log_length": 10**9, "own": [10**9]})
         same(logged()[2:], ["1 back A"])
 
 
@@ -420,18 +420,18 @@ class Log:
         self.events, self.popped = [], {}
         self.lines = 0
 
-    def take(self, words):
+    def take(self, fields):
         number, self.lines = self.lines, self.lines + 1
-        if words[0] == "undo":
-            word, of = self.popped[int(words[1])]
-            words = ["back", "A"] if word == "add" else ["add", "A", of]
-        if words[0] == "back":
+        if fields[0] == "undo":
+            word, of = self.popped[int(fields[1])]
+            fields = ["back", "A"] if word == "add" else ["add", "A", of]
+        if fields[0] == "back":
             self.popped[number] = ("back", self.events.pop())
-        elif words[0] == "add":
+        elif fields[0] == "add":
             self.popped[number] = ("add", None)
-            self.events.append(int(words[2]))
-        elif words[0] == "swap":
-            exchange(self.events, int(words[2]))
+            self.events.append(int(fields[2]))
+        elif fields[0] == "swap":
+            exchange(self.events, int(fields[2]))
 
 
 def exchange(events, at):
@@ -447,19 +447,19 @@ class Judge:
 
     def judge(self, shown):
         for line in logged()[self.log.lines :]:
-            client, *words = line.split()
-            if client == "1" and words[0] in ("back", "swap") and self.log.lines > 5:
-                self.step(shown, words)
-            elif client == "1" and words[0] == "add":
-                shown.append(int(words[2]))
-            self.log.take(words)
+            client, *fields = line.split()
+            if client == "1" and fields[0] in ("back", "swap") and self.log.lines > 5:
+                self.step(shown, fields)
+            elif client == "1" and fields[0] == "add":
+                shown.append(int(fields[2]))
+            self.log.take(fields)
 
-    def step(self, shown, words):
-        at = int(words[2]) if words[0] == "swap" else -1
+    def step(self, shown, fields):
+        at = int(fields[2]) if fields[0] == "swap" else -1
         wanted, found = [events[at:][:2] for events in (shown, self.log.events)]
         same(found, wanted)
         self.done += 1
-        if words[0] == "swap":
+        if fields[0] == "swap":
             exchange(shown, at)
         else:
             shown.pop()
@@ -482,14 +482,14 @@ def others(draw, events):
 
 async def presses(page, keys, is_held):
     """Presses keys and waits for the first answer; gives what was shown before, and whether another was faster."""
-    said = await page.run(SAYINGS)
+    texts = await page.run(SAYINGS)
     for number, key in enumerate(keys):
         if key.startswith("Arrow"):
             await page.key("ArrowUp")  # an event is chosen
         await page.key(key, ALT if key.startswith("Arrow") else 0)
         if number == 0:
             shown = await page.run("window.atPress")
-    await page.until(f"{SAYINGS} !== {said!r}")
+    await page.until(f"{SAYINGS} !== {texts!r}")
     is_faster = "meanwhile" in await page.run(SAID)
     if is_held:
         await page.run("letGo()")

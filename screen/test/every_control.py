@@ -51,12 +51,12 @@ async def test_the_field_that_runs_to_an_event(program):
         await new(page, 2)
         await page.key("ArrowRight")
         await page.until(f"{field}?.placeholder === 'event of T1, up to 60 more'")
-        said = "type the number of an event, as in the list"
-        for typed, told in (("x", said), ("7", "7 is an event of T2"), ("999", "no such number"), ("1.5", said)):
+        hint = "type the number of an event, as in the list"
+        for typed, note in (("x", hint), ("7", "7 is an event of T2"), ("999", "no such number"), ("1.5", hint)):
             await page.run(f"{field}.focus(); {field}.select()")
             await page.type(typed)
             await page.key("Enter")
-            await page.until(f"{SAID} === {told!r}")
+            await page.until(f"{SAID} === {note!r}")
         same(logged(), ["1 new A"])
         await page.key("Escape")
         same(await page.run("document.activeElement.id"), "next-list")
@@ -127,8 +127,8 @@ async def test_a_name_that_is_not_given(program):
         await page.until(f"{OPEN} === 'B'")
         await page.key("b")
         await page.until("document.getElementById('ask').open")
-        told = await page.run("['ask-label', 'ask-note'].map((id) => document.getElementById(id).textContent)")
-        same(told, ["Branch B after its first 0 events", "all of it; move the cursor to branch earlier"])
+        texts = await page.run("['ask-label', 'ask-note'].map((id) => document.getElementById(id).textContent)")
+        same(texts, ["Branch B after its first 0 events", "all of it; move the cursor to branch earlier"])
         await page.click("#ask-no")
         same(logged(), ["1 new A", "1 new B"])
         is_clean(page, screen)
@@ -277,8 +277,8 @@ async def test_a_key_that_is_held(program):
     async with Screen(program, "trace", "log") as screen, Browser() as browser:
         page = await browser.page(screen.link)
         await new(page, 2)
-        given = {"key": "1", "windowsVirtualKeyCode": 49, "text": "1"}
-        await page.call("Input.dispatchKeyEvent", type="keyDown", **given)
+        event = {"key": "1", "windowsVirtualKeyCode": 49, "text": "1"}
+        await page.call("Input.dispatchKeyEvent", type="keyDown", **event)
         steps = await page.run(
             "(() => { const key = (repeat) => new KeyboardEvent('keydown', { key: '1', bubbles: true, repeat }); "
             "const list = document.getElementById('next-list'); list.dispatchEvent(key(false)); "

@@ -55,9 +55,9 @@ async def test_a_program_that_cannot_be_started(program):
     traces.write("no-program", "x")
     path = os.path.abspath("no-program")
     bench = Bench(path, Trace("trace").read_at_once(), "log", 1)
-    said = f"{path} cannot be started: Permission denied"
-    same(await gone(bench.session.ask("list")), said)
-    same(await gone(pairs.Pairs(bench).explain((7, 12))), said)
+    error = f"{path} cannot be started: Permission denied"
+    same(await gone(bench.session.ask("list")), error)
+    same(await gone(pairs.Pairs(bench).explain((7, 12))), error)
     races = pairs.Races()
     await races.look(bench, lambda: None)
     same(races.state["state"], "failed")
@@ -94,10 +94,10 @@ async def test_each_browser_looks_at_its_own_pair(program):
         bench.questions = bench.questions and can_ask
         looked, one, other = pairs.Pairs(bench), Heard(), Heard()
         walk = ((one, (2, 11)), (other, (7, 12)), (one, (7, 13)), (one, (6, 13)))
-        told = await asyncio.gather(*[looked.witness(pair, asker) for asker, pair in walk])
-        left = [each.get("none") == "left for another" for each in told]
+        answers = await asyncio.gather(*[looked.witness(pair, asker) for asker, pair in walk])
+        left = [each.get("none") == "left for another" for each in answers]
         same(left, [not bench.questions, False, True, False])  # a question that is under way is answered
-        same(told[1]["length"], 11)
+        same(answers[1]["length"], 11)
         await looked.stop()
         await bench.session.stop()
 
@@ -133,10 +133,10 @@ class Heard:
     """An outlet that keeps what is sent."""
 
     def __init__(self):
-        self.told = []
+        self.messages = []
 
-    def send(self, told):
-        self.told.append(told)
+    def send(self, message):
+        self.messages.append(message)
 
 
 async def test_a_request_that_fails_is_answered(program):
@@ -156,9 +156,9 @@ async def test_a_request_that_fails_is_answered(program):
                 await asyncio.wait_for(screen._answer(outlet, "{}", room), PATIENCE)
         finally:
             json.loads = read
-        told = outlet.told.pop()
-        same(told["id"], 7)
-        assert clean(str(why)) in told[key], told
+        message = outlet.messages.pop()
+        same(message["id"], 7)
+        assert clean(str(why)) in message[key], message
 
 
 async def test_a_task_that_fails_is_said(program):
@@ -169,12 +169,12 @@ async def test_a_task_that_fails_is_said(program):
     async def fails():
         raise ValueError("no more news")
 
-    with contextlib.redirect_stderr(io.StringIO()) as said:
+    with contextlib.redirect_stderr(io.StringIO()) as errors:
         screen.beside(fails())
         await asyncio.wait_for(screen.tasks[0], PATIENCE)
-    assert "Traceback" in said.getvalue(), said.getvalue()
-    same(outlet.told, [{"push": "fault", "why": "the screen failed: ValueError('no more news')"}])
-    same(screen.requests.fault, outlet.told[0]["why"])
+    assert "Traceback" in errors.getvalue(), errors.getvalue()
+    same(outlet.messages, [{"push": "fault", "why": "the screen failed: ValueError('no more news')"}])
+    same(screen.requests.fault, outlet.messages[0]["why"])
 
 
 async def test_an_outlet_that_is_stopped_ends(program):
@@ -208,9 +208,9 @@ async def test_a_socket_is_read_while_requests_wait(program):
             for number in range(server.AT_WORK + 8):  # none is answered until the trace is read
                 await socket.send_str(json.dumps({"id": number, "do": "hello"}))
             await socket.ping(b"here")
-            while (told := await socket.receive(timeout=PATIENCE)).type == aiohttp.WSMsgType.TEXT:
-                assert "push" in told.data, told
-            same((told.type, bytes(told.data)), (aiohttp.WSMsgType.PONG, b"here"))
+            while (message := await socket.receive(timeout=PATIENCE)).type == aiohttp.WSMsgType.TEXT:
+                assert "push" in message.data, message
+            same((message.type, bytes(message.data)), (aiohttp.WSMsgType.PONG, b"here"))
             screen.requests.is_ready.set()
             left = set(range(server.AT_WORK + 8))
             while left:
@@ -233,7 +233,7 @@ async def test_it_ends_while_the_trace_is_read(program):
 
 async def test_how_far_it_is_is_told_though_nothing_follows(program):
     """The last of two lines that come at once is shown, although the program prints nothing more for long."""
-    told, ended = asyncio.Event(), asyncio.Event()
+    reported, ended = asyncio.Event(), asyncio.Event()
     races, triage = pairs.Races(), pairs.triage
 
     async def slow(program, trace, hear, take):
@@ -244,8 +244,8 @@ async def test_how_far_it_is_is_told_though_nothing_follows(program):
 
     pairs.triage = slow
     try:
-        looking = asyncio.ensure_future(races.look(Bench(program, Trace("none"), "log", 1), told.set))
-        await asyncio.wait_for(told.wait(), PATIENCE)
+        looking = asyncio.ensure_future(races.look(Bench(program, Trace("none"), "log", 1), reported.set))
+        await asyncio.wait_for(reported.wait(), PATIENCE)
         same(races.state, {"state": "searching", "progress": "pairs of places 3 of 8"})
         ended.set()
         await looking
@@ -343,14 +343,14 @@ def test_a_process_is_stopped_once(program):
     helper, sent, stops = readers.Helper("trace", 0, 100), [], []
     take, kill = os.waitpid, os.kill
 
-    def taken(*words):
-        done = take(*words)
+    def taken(*arguments):
+        done = take(*arguments)
         stops.append(threading.Thread(target=helper.kill))
         stops[0].start()
         stops[0].join(0.5)  # it waits for the lock, and comes to it when this is done
         return done
 
-    os.waitpid, os.kill = taken, lambda *words: sent.append(words)
+    os.waitpid, os.kill = taken, lambda *arguments: sent.append(arguments)
     try:
         helper.answer()
         stops[0].join()
@@ -405,13 +405,13 @@ sys.path.insert(0, {!r})
 from screen_app import command, server
 async def never(self):
     await asyncio.Event().wait()
-wanted, end, tell = [], faulthandler.dump_traceback_later, command.tell_tasks
-def tell_and_end():
-    tell()
+wanted, end, print_tasks = [], faulthandler.dump_traceback_later, command.print_tasks
+def print_and_end():
+    print_tasks()
     (seconds, is_exit), = wanted
     end(seconds, exit=is_exit)
 faulthandler.dump_traceback_later = lambda seconds, exit: wanted.append((seconds, exit))
-server.Server.stop, command.ENDING, command.tell_tasks = never, 0.2, tell_and_end
+server.Server.stop, command.ENDING, command.print_tasks = never, 0.2, print_and_end
 command.main()
 """
 
@@ -426,8 +426,8 @@ async def test_it_ends_though_something_does_not(program):
     )
     await asyncio.wait_for(process.stdout.readline(), PATIENCE)
     process.terminate()
-    said = (await asyncio.wait_for(process.communicate(), PATIENCE))[1].decode()
-    assert "Stack for" in said and "Timeout" in said, said
+    errors = (await asyncio.wait_for(process.communicate(), PATIENCE))[1].decode()
+    assert "Stack for" in errors and "Timeout" in errors, errors
 
 
 async def status_of(client, base, ticket=None):
@@ -442,8 +442,8 @@ async def test_the_terminal(program):
     traces.write("trace", traces.COUNT)
     terminal, its = os.openpty()
     pipe = asyncio.subprocess.PIPE
-    words = ("/usr/bin/python3", SCREEN, "trace", "log", "--program", program)
-    process = await asyncio.create_subprocess_exec(*words, stdin=its, stdout=pipe, stderr=pipe)
+    command = ("/usr/bin/python3", SCREEN, "trace", "log", "--program", program)
+    process = await asyncio.create_subprocess_exec(*command, stdin=its, stdout=pipe, stderr=pipe)
     os.close(its)
     links = [await within(PATIENCE, process.stdout.readline())]
     for _ in range(2):
@@ -456,10 +456,10 @@ async def test_the_terminal(program):
         os.write(terminal, b"\x04")
         same(await status_of(client, base), 200)
     process.send_signal(signal.SIGINT)
-    out, said = await within(PATIENCE, process.communicate())
+    out, errors = await within(PATIENCE, process.communicate())
     os.close(terminal)
-    same((out, said.split(b"\n")[0]), (b"", b"The link opens once. Enter prints another; control-C ends."))
-    assert process.returncode == 0 or b"Timeout" in said, said  # a very slow machine ends it by force
+    same((out, errors.split(b"\n")[0]), (b"", b"The link opens once. Enter prints another; control-C ends."))
+    assert process.returncode == 0 or b"Timeout" in errors, errors  # a very slow machine ends it by force
 
 
 async def test_patience_is_counted_in_seconds(program):

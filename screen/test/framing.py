@@ -43,8 +43,8 @@ async def test_another_page_gets_nothing(program):
         </script>"""
         runner, address = await other_site(tries)
         await page.open(address)
-        told = await page.until("Object.keys(window.told ?? {}).length === 3 && window.told")
-        same(told, {"read": "refused", "enter": "refused", "socket": "refused"})
+        found = await page.until("Object.keys(window.told ?? {}).length === 3 && window.told")
+        same(found, {"read": "refused", "enter": "refused", "socket": "refused"})
         while not (frames := await frames_in(page)):
             await asyncio.sleep(0.05)
         same(frames, [screen.base + "/"])

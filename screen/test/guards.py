@@ -41,14 +41,14 @@ async def test_a_trace_that_is_read_otherwise(program):
     traces.write("other", traces.COUNT.replace("count.c:5", "count.c:4"))
     async with Screen(script("odd", OTHER.format(program)), "trace", "log") as screen, Browser() as browser:
         page = await browser.page(screen.link)
-        told = "Do not go by what is drawn here: this screen reads the trace differently from the program."
-        await page.until(f"{LIVE} === '{told}'")
+        warning = "Do not go by what is drawn here: this screen reads the trace differently from the program."
+        await page.until(f"{LIVE} === '{warning}'")
         is_clean(page, screen)
 
 
 async def test_a_digest_that_is_the_same(program):
     """It is compared once a page is there, and there is no message if it is the same."""
-    for digest, is_said in ((None, False), ("0" * 64, True)):
+    for digest, is_shown in ((None, False), ("0" * 64, True)):
         screen, outlet = served(program), Heard()
         screen.outlets.add(outlet)
         first, server.FIRST_PAGE = server.FIRST_PAGE, 0
@@ -57,14 +57,14 @@ async def test_a_digest_that_is_the_same(program):
             (*_, screen.bench.mirror.digest) = screen.bench.trace.digests()
             screen.bench.mirror.digest = digest or screen.bench.mirror.digest
             await asyncio.sleep(0.05)
-            same((comparing.done(), outlet.told), (False, []))
+            same((comparing.done(), outlet.messages), (False, []))
             screen.requests.is_greeted.set()
             await asyncio.wait_for(comparing, PATIENCE)
         finally:
             server.FIRST_PAGE = first
-        said = [one["why"] for one in outlet.told if one["push"] == "fault"]
-        same(said, ["this screen reads the trace differently from the program"] if is_said else [])
-        same(screen.requests.fault, said[0] if said else None)
+        faults = [one["why"] for one in outlet.messages if one["push"] == "fault"]
+        same(faults, ["this screen reads the trace differently from the program"] if is_shown else [])
+        same(screen.requests.fault, faults[0] if faults else None)
 
 
 async def test_a_schedule_that_is_shown_otherwise(program):
@@ -78,9 +78,9 @@ async def test_a_schedule_that_is_shown_otherwise(program):
         same(await page.run(f"{NOTE}.hidden"), True)
         await page.click(".sched")
         await page.until(f"{ROWS} === 2 && !{NOTE}.hidden")
-        said = await page.run(f"{NOTE}.textContent")
-        assert said.startswith("The program shows this schedule differently from how it is drawn here."), said
-        same(await page.run(f"{NOTE}.querySelector('[role=alert]')?.textContent"), said)  # a screen reader says it
+        note = await page.run(f"{NOTE}.textContent")
+        assert note.startswith("The program shows this schedule differently from how it is drawn here."), note
+        same(await page.run(f"{NOTE}.querySelector('[role=alert]')?.textContent"), note)  # a screen reader says it
         await page.click(".sched", 1)
         await page.until(f"{ROWS} === 1 && {NOTE}.hidden")
         is_clean(page, screen)
@@ -92,17 +92,17 @@ async def test_a_check_is_of_one_moment(program):
     await session(program, 1, "new A\nadd A 0\n")
     bench = Bench(program, Trace("trace").read_at_once(), "log", 1)
     bench.mirror.sync()
-    asked, say = [], bench.say_one
+    questions, say = [], bench.say_one
 
     async def say_one(line):
-        asked.append(line)
-        if len(asked) == 1:
+        questions.append(line)
+        if len(questions) == 1:
             await session(program, 2, "add A 1\n")
         return await say(line)
 
     bench.say_one = say_one
     same(await bench.check("A"), True)
-    same(asked, ["show A", "show A"])
+    same(questions, ["show A", "show A"])
     bench.row("A").events[1] = 2
     same(await bench.check("A"), False)
     await bench.session.stop()

@@ -117,8 +117,8 @@ async def test_a_socket_that_asks_without_end(program):
         with contextlib.suppress(ConnectionResetError):
             for number in range(server.ASKED + 1):  # none is answered until the trace is read
                 await socket.send_str(json.dumps({"id": number, "do": "hello"}))
-        while (told := await socket.receive(timeout=PATIENCE)).type == aiohttp.WSMsgType.TEXT:
-            assert "push" in told.data, told
+        while (message := await socket.receive(timeout=PATIENCE)).type == aiohttp.WSMsgType.TEXT:
+            assert "push" in message.data, message
         same((await status(screen))[0], 200)
 
 
@@ -129,7 +129,7 @@ async def test_requests_at_work_are_few(program):
     room, ended, begun_ones = asyncio.Semaphore(2), asyncio.Event(), []
 
     class Outlet:
-        def send(self, told):
+        def send(self, message):
             pass
 
     async def slow(request):

@@ -28,15 +28,15 @@ async def test_a_witness_that_fits_no_line(program):
     line, steps.LINE = steps.LINE, 500
     events = Trace("trace").read_at_once().events_of[0]
     try:
-        told = await steps.enter(bench, "B", events, (299, 300))
-        same(told, {"answer": "5: done", "entries": [0, 1, 2, 3, 4, 5]})
+        answer = await steps.enter(bench, "B", events, (299, 300))
+        same(answer, {"answer": "5: done", "entries": [0, 1, 2, 3, 4, 5]})
         same(list(bench.row("B").events), list(range(300)))
         same(len(logged()[1].split(" ; ")), 64)
-        told = await steps.propose(bench, (299, 300), events)
-        same(told, {"answer": "not sent: the list is longer than a line of a script may be (65,536 bytes)"})
+        answer = await steps.propose(bench, (299, 300), events)
+        same(answer, {"answer": "not sent: the list is longer than a line of a script may be (65,536 bytes)"})
         same(await steps.enter(bench, "B", events, (299, 300)), {"answer": "refused 43 name taken", "entries": []})
-        told = await steps.undo(bench, [5, 4, 3, 2, 1, 0])
-        same((told["undone"], bench.mirror.rows), (6, {}))
+        answer = await steps.undo(bench, [5, 4, 3, 2, 1, 0])
+        same((answer["undone"], bench.mirror.rows), (6, {}))
     finally:
         steps.LINE = line
         await bench.session.stop()
@@ -48,12 +48,12 @@ async def test_a_run_that_goes_on(program):
     most, steps.MOST = steps.MOST, 130
     try:
         await bench.say("new A")
-        told = await steps.Run(bench, "A").to(0, None)
-        same((told["added"], told["more"], told["entries"]), (130, 170, [1, 2, 3]))
-        told = await steps.Run(bench, "A").to(0, 199)
-        same((told["added"], "more" in told, len(bench.row("A").events)), (70, False, 200))
-        told = await steps.Run(bench, "A").to(0, 150)  # it is there already
-        same(told, {"added": 0, "entries": [], "answer": "nothing to add"})
+        answer = await steps.Run(bench, "A").to(0, None)
+        same((answer["added"], answer["more"], answer["entries"]), (130, 170, [1, 2, 3]))
+        answer = await steps.Run(bench, "A").to(0, 199)
+        same((answer["added"], "more" in answer, len(bench.row("A").events)), (70, False, 200))
+        answer = await steps.Run(bench, "A").to(0, 150)  # it is there already
+        same(answer, {"added": 0, "entries": [], "answer": "nothing to add"})
     finally:
         steps.MOST = most
         await bench.session.stop()
@@ -65,8 +65,8 @@ async def test_an_explanation_of_many_lines(program):
     more = "and {} more: racebench explain TRACE 7 12"
     for number, rest in ((500, [more.format("100 lines")]), (401, [more.format("1 line")]), (400, []), (9, [])):
         bench.program = script("talks", f"#!/bin/sh\nseq 1 {number}\n")
-        told = await pairs.Pairs(bench).explain((7, 12))
-        same(told["lines"], [str(line) for line in range(1, min(number, 400) + 1)] + rest)
+        answer = await pairs.Pairs(bench).explain((7, 12))
+        same(answer["lines"], [str(line) for line in range(1, min(number, 400) + 1)] + rest)
     await bench.session.stop()
 
 

@@ -40,7 +40,7 @@ def all_keys(kind, found):
 
 
 def kinds():
-    return [Mistake, Gone, *PUSHES.values(), *(kind for both in REQUESTS.values() for kind in both)]
+    return [Mistake, Gone, *PUSHES.values(), *(kind for shapes in REQUESTS.values() for kind in shapes)]
 
 
 def test_the_server_answers_each_request(program):
@@ -67,7 +67,7 @@ EVENT = {"event": 1, "thread": 0, "operation": "w", "name": "x", "location": "a:
 
 def test_a_message_that_is_otherwise_is_found(program):
     """A key that is missing, one that is not in the legend, and a value of another kind, however deep."""
-    for given, wrong in (
+    for message, wrong in (
         ({"id": 1, "do": "seen", "log_length": 3}, []),
         ({"id": 1, "do": "seen"}, ["seen: log_length is missing"]),
         ({"id": 1, "do": "seen", "log_length": "3"}, ["seen.log_length: '3' is no int"]),
@@ -75,7 +75,7 @@ def test_a_message_that_is_otherwise_is_found(program):
         ({"id": 1, "do": "see"}, ["see is not in the legend"]),
         ({"id": 1, "do": "pair", "pair": [1, None]}, ["pair.pair: None is no int"]),
     ):
-        same(wrong_request(given), wrong)
+        same(wrong_request(message), wrong)
     for do, answer, number in (
         ("pair", {"id": 1, "accesses": [EVENT]}, 0),
         ("pair", {"id": 1, "accesses": [{**EVENT, "e": 1}]}, 1),

@@ -200,14 +200,14 @@ async def test_keys_say_why_they_do_nothing(program):
         await press(page, "]")
         same(await page.run(SAID), "there is no schedule: n makes one")
         await new(page, 3)
-        for key, said in (
+        for key, note in (
             ("9", "no thread has the digit 9"),
             ("2", "T1 may not come next: not begun: 0 T0 fork T1 has to come first"),
             ("Enter", "refused: not begun: 0 T0 fork T1 has to come firstrefused 46 23 not forked"),
             ("v", "no source: start screen with --source DIR"),
         ):
             await press(page, key)
-            same((await page.run(SAID))[: len(said)], said)
+            same((await page.run(SAID))[: len(note)], note)
         await press(page, "1", "r")
         await press(page, "2", "r")
         await press(page, "2")
@@ -424,7 +424,7 @@ async def test_clients_whose_names_look_alike(program):
     async with Screen(program, "trace", "log", "--client", "9") as screen, Browser() as browser:
         page = await browser.page(screen.link)
         await new(page, 3)
-        for clients, told in (
+        for clients, labels in (
             ((5, 4, 3, 2), f"2 {long}ith true,3 {long}ythe true,4 Sam true,5 Sam true"),
             ((10, 8, 7, 6), "6 4 true,7 you true,Catherine true,10 true"),
         ):
@@ -435,7 +435,7 @@ async def test_clients_whose_names_look_alike(program):
                 await page.size(width, 900)
                 if width < 980:
                     await page.click("#tabs button", 2)
-                await page.until(f"innerWidth === {width} && {MARKS} === {told!r}")
+                await page.until(f"innerWidth === {width} && {MARKS} === {labels!r}")
             await page.key("s")
         titles = "document.querySelector('#schedule-S4').title"
         same(await page.run(titles), "S4: 0 events, made by 4 Sam in entry 2, last changed by 4 Sam in entry 2")

@@ -93,8 +93,8 @@ async def test_schedules_of_one_entry(program):
             await page.key(key)
             await page.until(f"{OPEN} === '{name}'")
         await settled(page)
-        said = "[...document.querySelectorAll('.sched')].map((e) => `${e.ariaPosInSet}/${e.ariaSetSize}`).join()"
-        same(await page.run(said), "1/4,2/4,3/4,4/4")
+        positions = "[...document.querySelectorAll('.sched')].map((e) => `${e.ariaPosInSet}/${e.ariaSetSize}`).join()"
+        same(await page.run(positions), "1/4,2/4,3/4,4/4")
         is_clean(page, screen)
 
 
@@ -236,8 +236,8 @@ async def test_answers_of_the_program_in_words(program):
     async with Screen(program, "trace", "log") as screen, Browser() as browser:
         page = await browser.page(screen.link)
         await new(page, 8)
-        for answer, words in SAYINGS.items():
-            same(await page.run(f"import('/words.js').then((words) => words.said({answer!r}))"), words)
+        for answer, text in SAYINGS.items():
+            same(await page.run(f"import('/words.js').then((words) => words.said({answer!r}))"), text)
         await press(page, "1", "2")
         await page.run("document.getElementById('said').replaceChildren()")
         undo = "import('/act.js').then((page) => void page.act('undo', { entries: [2] }))"
@@ -318,8 +318,8 @@ async def test_a_screen_reader_says_what_is_drawn_beside(program):
     async with Screen(program, "trace", "log") as screen, Browser() as browser:
         page = await browser.page(screen.link)
         await page.until("document.querySelectorAll('.race').length === 1")
-        said = await page.run(LABELS.format(".race"))
-        assert said[0].endswith(", replayed: stands"), said
+        labels = await page.run(LABELS.format(".race"))
+        assert labels[0].endswith(", replayed: stands"), labels
         await page.click(".race")
         await page.until(f"{OPEN} === 'Witness'")
         await press(page, "e")
@@ -415,8 +415,8 @@ async def test_keys_are_read_from_their_beginning(program):
             await page.until("document.getElementById('help').open")
             box = "(({ scrollHeight, clientHeight, scrollTop }) => [scrollHeight > clientHeight, scrollTop])"
             same(await page.run(f"{box}(document.getElementById('help'))"), [True, 0])
-            told = await page.run("[...document.querySelectorAll('#help .key kbd')].map((key) => key.textContent)")
-            same(set(" ".join(told).split()), set(KEYS.split()))
+            keys = await page.run("[...document.querySelectorAll('#help .key kbd')].map((key) => key.textContent)")
+            same(set(" ".join(keys).split()), set(KEYS.split()))
             await page.run("document.getElementById('help').scrollTop = 1e6")
             await page.run("document.getElementById('help').close()")
             await page.run("document.getElementById('keys').click()")
@@ -459,8 +459,8 @@ async def test_a_run_that_is_not_over(program):
         await page.open(screen.link)
         await new(page, 8)
         await press(page, "r")
-        said = await page.run(SAID)
-        assert said.startswith("added 1 event · 1,234 more to come: run again · entry 1"), said
+        note = await page.run(SAID)
+        assert note.startswith("added 1 event · 1,234 more to come: run again · entry 1"), note
         is_clean(page, screen)
 
 
@@ -489,11 +489,11 @@ async def test_news_that_come_while_the_page_is_hidden(program):
         await session(program, 2, "add A 0\n")
         await page.until(counted.format(2))
         same(await page.run(HIDDEN.format("true")), 2)
-        told = await page.run("window.told.length")
+        count = await page.run("window.told.length")
         await session(program, 2, "add A 1\n")
         await page.until(counted.format(3))
         await page.run("new Promise((done) => setTimeout(done, 700))")  # as long as a look takes to count
-        same(await page.run(f"window.told.slice({told})"), [])
+        same(await page.run(f"window.told.slice({count})"), [])
         await page.run(HIDDEN.format("false"))
         same(await page.run(HIDDEN.format("true")), 3)
         is_clean(page, screen)

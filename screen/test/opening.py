@@ -80,16 +80,16 @@ async def test_what_others_did_is_counted_once(program):
     taken, take = [], news.Count.take
     news.Count.take = lambda count, entry: (taken.append(entry.number), take(count, entry))
     try:
-        told = news.News(2)
+        counter = news.News(2)
         first = [{"client": 3, "name": "A", "last": 999, "counts": {"add": 500}}]
-        same(await told.since(0, entries), first)
+        same(await counter.since(0, entries), first)
         entries += [Entry(1000, 2, ["back", "A"])]
-        same(await told.since(0, entries), first)
+        same(await counter.since(0, entries), first)
         same(len(taken), 500)
         entries += [Entry(1001, 3, ["batch", "new", "B", ";", "add", "B", "7", ";", "add", "B", "8"])]
         other = {"client": 3, "name": "B", "last": 1001, "counts": {"new": 1, "add": 2}}
-        same(await told.since(0, entries), [other, *first])
-        same(await told.since(1001, entries), [other])
+        same(await counter.since(0, entries), [other, *first])
+        same(await counter.since(1001, entries), [other])
     finally:
         news.Count.take = take
 
@@ -97,14 +97,14 @@ async def test_what_others_did_is_counted_once(program):
 def test_the_page_asks_for_its_modules_at_once(program):
     """Else each would be requested as soon as the one that imports it was read."""
     with open(os.path.join(STATIC, "index.html"), encoding="utf-8") as file:
-        asked = re.findall(r'(?:modulepreload" href|script type="module" src)="/([a-z]+\.js)"', file.read())
-    same(sorted(asked), sorted(name for name in os.listdir(STATIC) if name.endswith(".js")))
+        modules = re.findall(r'(?:modulepreload" href|script type="module" src)="/([a-z]+\.js)"', file.read())
+    same(sorted(modules), sorted(name for name in os.listdir(STATIC) if name.endswith(".js")))
 
 
-def test_wrong_words_are_told_in_a_line(program):
+def test_wrong_arguments_are_refused_in_a_line(program):
     traces.write("trace", traces.COUNT)
     os.mkfifo("pipe")
-    for words, why in (
+    for arguments, why in (
         (["--client", "33"], "'33' is no number from 1 to 32"),
         (["--client", "0"], "'0' is no number"),
         (["--client", "x"], "'x' is no number"),
@@ -119,9 +119,9 @@ def test_wrong_words_are_told_in_a_line(program):
         (["trace", "none/log"], "none is no folder for a log"),
         (["--program", "none"], "none is no program; name one with --program"),
     ):
-        files = ["trace", "log"] if words[0].startswith("--") else []
+        files = ["trace", "log"] if arguments[0].startswith("--") else []
         done = subprocess.run(
-            ["/usr/bin/python3", SCREEN, *files, "--program", program, *words], capture_output=True, text=True
+            ["/usr/bin/python3", SCREEN, *files, "--program", program, *arguments], capture_output=True, text=True
         )
         same(done.returncode, 2)
         assert why in done.stderr and len(done.stderr) < 400, done.stderr
@@ -141,8 +141,8 @@ def test_a_log_that_may_not_be_written(program):
         ("there/log", "you may not write there/log; name another LOG"),
         ("there/new", "you may not make there/new; name a LOG in a folder of yours"),
     ):
-        words = ["/usr/bin/python3", "-B", "own/screen", "trace", log, "--program", "/bin/true"]
-        done = subprocess.run(words, capture_output=True, text=True, **other)
+        command = ["/usr/bin/python3", "-B", "own/screen", "trace", log, "--program", "/bin/true"]
+        done = subprocess.run(command, capture_output=True, text=True, **other)
         same((done.returncode, done.stderr.splitlines()[-1]), (2, f"screen: error: {why}"))
     os.chmod("there", 0o755)
 

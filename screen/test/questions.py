@@ -14,23 +14,23 @@ REASONS = "[...document.querySelectorAll('.next .reason')].map((r) => r.textCont
 
 async def walked(program):
     """What the page says at each step from a race to its pair, and the log."""
-    said = []
+    answers = []
     async with Screen(program, "trace", "log") as screen, Browser() as browser:
         page = await browser.page(screen.link)
         await page.until("document.querySelectorAll('.race').length === 1")
         await page.click(".race")
         await page.until("!document.getElementById('pair').hidden")
-        said.append(await page.run(f"{LENGTH} + document.getElementById('pair').textContent"))
+        answers.append(await page.run(f"{LENGTH} + document.getElementById('pair').textContent"))
         await page.key("e")
         await page.until(f"{NEXT} === 3")
         await focus(page, "next-list")
         for keys, rows in (("11", 2), ("3", 3), ("2", 4)):
-            said.append(await page.run(SHOWN) + await page.run(REASONS))
+            answers.append(await page.run(SHOWN) + await page.run(REASONS))
             await press(page, *keys)
             await page.until(f"{ROWS} === {rows} && document.getElementById('next-list').dataset.length === '{rows}'")
-        said.append(await page.run(SHOWN) + await page.run(REASONS))
+        answers.append(await page.run(SHOWN) + await page.run(REASONS))
         is_clean(page, screen)
-    return said, logged()
+    return answers, logged()
 
 
 async def test_questions_and_batches_say_the_same(program):

@@ -120,9 +120,9 @@ async def test_runs_are_taken_back_in_their_order(program):
         await settled(page)
         same(await page.run("document.getElementById('feed-count').textContent"), "612")
         steps = (("took back 4 entries", 301), ("entry 616: took back 6", 300), ("took back 5 entries", 0))
-        for said, length in steps:
+        for text, length in steps:
             await press(page, "u")
-            same((await page.run(SAID))[: len(said)], said)
+            same((await page.run(SAID))[: len(text)], text)
             await page.until(f"{LENGTH} === '{length} events'")
         await press(page, "u")
         same([line for line in logged() if line.startswith("1")][-1], "1 undo 0")

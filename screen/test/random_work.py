@@ -57,8 +57,8 @@ class Program:
     """The program's answers about the log, by a client that makes no entry."""
 
     def __init__(self, program):
-        words = [program, "session", "trace", "log", "--client", "31"]
-        self.process = subprocess.Popen(words, stdin=subprocess.PIPE, stdout=subprocess.PIPE)
+        command = [program, "session", "trace", "log", "--client", "31"]
+        self.process = subprocess.Popen(command, stdin=subprocess.PIPE, stdout=subprocess.PIPE)
 
     def ask(self, line):
         self.process.stdin.write(line.encode() + b"\n")
@@ -71,15 +71,15 @@ class Program:
 
     def next(self, name):
         """Each thread's next event, whether it may come next, and the number of the cause if not."""
-        told = self.ask(f"? next {name}")
-        found = [one.split(":") for one in told[3:]] if told[0] == "next" else []
+        answer = self.ask(f"? next {name}")
+        found = [one.split(":") for one in answer[3:]] if answer[0] == "next" else []
         return sorted([int(event), not why, (why or [""])[0]] for event, *why in found)
 
     def entry(self, number):
         """Whether an entry is taken back, and whether client 1 has an undo of it."""
-        words = self.ask(f"? entry {number}")
-        is_dead = words[3] == "undone"
-        client, word = words[6:8] if is_dead else words[5:7]
+        answer = self.ask(f"? entry {number}")
+        is_dead = answer[3] == "undone"
+        client, word = answer[6:8] if is_dead else answer[5:7]
         return is_dead, client == "1" and not is_dead and word not in ("undo", "propose")
 
     def end(self):

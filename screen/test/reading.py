@@ -60,9 +60,9 @@ def test_a_trace_with_odd_lines(program):
     same([list(trace.readers(write)) for write in (0, 2, 8)], [[1], [6], []])
     same([list(own) for own in trace.events_of], [[0, 2, 5, 7], [1], [3, 4], [6], [8]])
     same(trace.fork_of, {3: 5})
-    told = subprocess.run([program, "info", "odd"], capture_output=True)
-    if told.returncode or told.stdout:  # a fake program prints nothing
-        assert b"events 9" in told.stdout, told
+    done = subprocess.run([program, "info", "odd"], capture_output=True)
+    if done.returncode or done.stdout:  # a fake program prints nothing
+        assert b"events 9" in done.stdout, done
 
 
 def command(draw, events):
@@ -161,17 +161,17 @@ def test_the_mirror_is_the_log(program):
         traces.write("trace", traces.COUNT)
         trace = Trace("trace").read_at_once()
         mirror = mirrored(program, random.Random(seed), trace)
-        names = [row["name"] for row in mirror.told_rows()]
-        told = session(program, "1 list\n" + "".join(f"1 show {name}\n" for name in names))
-        same(told[0], " ".join(["names", *names]))
-        for name, line in zip(names, told[1:]):
+        names = [row["name"] for row in mirror.schedule_messages()]
+        answers = session(program, "1 list\n" + "".join(f"1 show {name}\n" for name in names))
+        same(answers[0], " ".join(["names", *names]))
+        for name, line in zip(names, answers[1:]):
             row = mirror.rows[name]
             same(line, " ".join(["shown", *map(str, row.events)]))
             same(len(row.since), len(row.events))
             for entry, event in zip(row.since, row.events):  # what put it there names it, or took it from elsewhere
-                words = " ".join(mirror.entries[entry].words)
+                text = " ".join(mirror.entries[entry].fields)
                 same(mirror.entries[entry].undone, None)
-                assert f" {event}" in words or "adopt" in words or "00" in words, (event, words)
+                assert f" {event}" in text or "adopt" in text or "00" in text, (event, text)
         same([*trace.digests(7)][-1], mirror.digest)
         entries += len(mirror.entries)
         os.remove("log")
@@ -295,11 +295,11 @@ def test_windows_are_parts_of_the_whole(program):
             for section in sheet.sections.all
             if section.begin <= high and (section.end is None or section.end >= low)
         }
-        told = {
+        rows = {
             (lock["lock"], sheet.position[lock["event"]], lock["from"], lock["to"], lock["open"])
             for lock in layout.window(number, 11)["locks"]
         }
-        same(told, held)
+        same(rows, held)
 
 
 def test_the_reads_of_a_write_that_are_named(program):

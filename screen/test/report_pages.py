@@ -35,10 +35,10 @@ def followed(text):
     return json.dumps(entry) + "\n"
 
 
-def written(program, page, *words):
+def written(program, page, *arguments):
     """Writes a page, and returns its address."""
     with open(page, "wb") as out:
-        subprocess.run([program, *words, "--page"], check=True, stdout=out)
+        subprocess.run([program, *arguments, "--page"], check=True, stdout=out)
     return pathlib.Path(page).absolute().as_uri()
 
 

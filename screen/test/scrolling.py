@@ -70,7 +70,7 @@ class Reading:
         )
         await self.page.run(FRAMES)
 
-    async def told(self):
+    async def read(self):
         """Waits until the page has all news, and each answer with rows is held."""
         await self.page.until(f"{LENGTH} === '{self.length} events' && owed === 0 && held.length > 0")
 
@@ -108,7 +108,7 @@ async def test_scrolling_up_while_rows_are_under_way(program):
             for pause in ("", f"await {FRAMES};"):  # the event of it comes after the answer, or before
                 await page.run("hold()")
                 await reading.add()
-                await reading.told()
+                await reading.read()
                 steps = f"const to = {SCROLLED} -= {by}; {pause} letGo(); return to;"
                 to = await page.run(f"(async () => {{ {steps} }})()")
                 await reading.drawn()
@@ -131,7 +131,7 @@ async def test_scrolling_down_while_rows_are_under_way(program):
         await page.until(f"{TOP} === '41' && owed === 0")
         await page.run("hold()")
         await reading.add()
-        await reading.told()
+        await reading.read()
         await page.run(f"{SCROLLED} = 1e9; letGo()")
         await reading.drawn()
         same(await page.run(AT_END), True)
@@ -145,7 +145,7 @@ async def test_another_size_while_rows_are_under_way(program):
             for steps in (f"await {FRAMES}; letGo()", f"letGo(); await {FRAMES}"):
                 await page.run("hold()")
                 await reading.add()
-                await reading.told()
+                await reading.read()
                 await page.size(1440, height)
                 await page.run(f"(async () => {{ {steps}; }})()")
                 await reading.drawn()
@@ -184,10 +184,10 @@ async def test_an_own_step_while_another_adds(program):
         await page.run("hold()")
         await press_at_once(page, "1")
         reading.length += 1
-        await reading.told()
+        await reading.read()
         await session(program, 2, "add A 201\n")
         reading.length += 1
-        await reading.told()
+        await reading.read()
         await page.run("letGo()")
         await reading.drawn()
         same(await page.run(AT_END), True)
@@ -206,7 +206,7 @@ async def test_a_schedule_that_opens_while_another_adds(program):
         await page.until(f"{OPEN} === 'B' && held.length > 0")
         await session(program, 2, "".join(f"add B {event}\n" for event in range(200, 220)))
         reading.length = 220
-        await reading.told()
+        await reading.read()
         await page.run("letGo()")
         await reading.drawn()
         same(await page.run(f"[{AT_END}, !!{LAST.format(219)}]"), [True, True])
@@ -216,7 +216,7 @@ async def test_a_schedule_that_opens_while_another_adds(program):
         await page.until("held.length > 0")
         await session(program, 2, "add B 220\n")
         reading.length = 221
-        await reading.told()
+        await reading.read()
         await page.run("letGo()")
         await page.until(f"{TOP} === '0' && document.querySelector('.row.on')?.dataset.p === '0'")
         await reading.drawn()
@@ -268,7 +268,7 @@ async def test_a_move_above_the_end_stays_in_sight(program):
         await page.key("ArrowUp", ALT)
         await page.until("held.length > 0 && owed === 0")
         await reading.add()
-        await reading.told()
+        await reading.read()
         await page.run("letGo()")
         await reading.drawn()
         await page.until("document.querySelector('.row.on')?.dataset.p === '45'")

@@ -18,18 +18,18 @@ ROUNDS = 60
 async def status(screen, path="/", method="GET", body=None, **headers):
     """The status of one request, whose path is sent as it is written."""
     reader, writer = await asyncio.open_connection("127.0.0.1", screen.port)
-    given = {"Host": f"127.0.0.1:{screen.port}", "Connection": "close", **headers}
+    sent = {"Host": f"127.0.0.1:{screen.port}", "Connection": "close", **headers}
     if body is not None:
-        given["Content-Length"] = str(len(body))
-    head = "".join(f"{name.replace('_', '-')}: {value}\r\n" for name, value in given.items())
+        sent["Content-Length"] = str(len(body))
+    head = "".join(f"{name.replace('_', '-')}: {value}\r\n" for name, value in sent.items())
     writer.write(f"{method} {path} HTTP/1.1\r\n{head}\r\n".encode() + (body or b""))
     answer = await reader.read()
     writer.close()
     return int(answer.split(b" ", 2)[1]), answer
 
 
-async def code(screen, *words, **more):
-    return (await status(screen, *words, **more))[0]
+async def code(screen, *arguments, **more):
+    return (await status(screen, *arguments, **more))[0]
 
 
 def on_count(test):
@@ -113,9 +113,9 @@ async def test_a_socket_needs_the_key_and_the_origin(screen):
 
 async def answer_of(socket):
     """The next message that is no push."""
-    while "push" in (told := json.loads((await socket.receive(timeout=PATIENCE)).data)):
+    while "push" in (message := json.loads((await socket.receive(timeout=PATIENCE)).data)):
         pass
-    return told
+    return message
 
 
 async def let_in(client, screen):
@@ -277,8 +277,8 @@ async def test_nothing_is_smuggled_into_the_session(screen):
     async with Socket(screen) as socket:
         same((await socket.call(do="new", name="A"))["answer"], "0: done")
         for bad in BAD:
-            told = await socket.call(**bad)
-            assert "mistake" in told or told.get("answer", "").startswith("refused"), (bad, told)
+            answer = await socket.call(**bad)
+            assert "mistake" in answer or answer.get("answer", "").startswith("refused"), (bad, answer)
         same(await socket.call(do="source", place="../../../etc/passwd:1", around=3), {"none": True, "id": 1})
         same(logged(), ["1 new A"])
         same((await socket.call(do="add", name="A", event=0))["answer"], "1: done")

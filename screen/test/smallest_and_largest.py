@@ -143,11 +143,11 @@ async def test_how_far_the_look_for_races_is(program):
     traces.write("trace", traces.COUNT)
     traces.write("slow", SLOW.format(program=program))
     os.chmod("slow", 0o755)
-    for told, shown in (("", "1 race"), ("racebench: 95 no memory\n", "racebench: 95 no memory")):
+    for error, shown in (("", "1 race"), ("racebench: 95 no memory\n", "racebench: 95 no memory")):
         async with Screen(os.path.abspath("slow"), "trace", "log") as screen, Browser() as browser:
             page = await browser.page(screen.link)
             await page.until(f"{EMPTY.format('race-list')}?.includes('pairs of places 3 of 8. You can')")
-            traces.write("told", told)
+            traces.write("told", error)
             os.rename("told", "go")  # all of it at once
             await page.until(f"document.getElementById('races').textContent.includes('{shown}')")
             is_clean(page, screen)
@@ -169,11 +169,11 @@ async def test_files_that_are_none(program):
             await page.until("document.getElementById('keys').getBoundingClientRect().right <= innerWidth")
             os.truncate("log", 85)  # in its one entry, which a session that begins anew does not bring back
             await page.until("document.getElementById('live').textContent.includes('shorter than it was')")
-            said = (
+            errors = (
                 "(() => { const b = document.querySelector('#live .bad').getBoundingClientRect(); "
                 "return b.right <= document.getElementById('link').getBoundingClientRect().left && b.height > 20; })()"
             )
-            same(await page.run(said), True)  # all of it is in sight
+            same(await page.run(errors), True)  # all of it is in sight
             is_clean(page, screen)
         for path in ("log.names", "log"):
             os.remove(path)

@@ -40,23 +40,23 @@ ORDER = (
 class Screen:
     """A process `screen`, its link and its port."""
 
-    def __init__(self, program, trace, log, *words):
+    def __init__(self, program, trace, log, *arguments):
         self.has_page = False
-        self.words = ["/usr/bin/python3", SCREEN, trace, log, *words, "--program", program]
+        self.arguments = ["/usr/bin/python3", SCREEN, trace, log, *arguments, "--program", program]
 
     async def __aenter__(self):
         pipe = asyncio.subprocess.PIPE
         self.process = await asyncio.create_subprocess_exec(
-            *self.words, stdin=asyncio.subprocess.DEVNULL, stdout=pipe, stderr=pipe
+            *self.arguments, stdin=asyncio.subprocess.DEVNULL, stdout=pipe, stderr=pipe
         )
-        self.saying = asyncio.ensure_future(self.process.stderr.read())  # so that it never waits for a reader
+        self.errors = asyncio.ensure_future(self.process.stderr.read())  # so that it never waits for a reader
         try:
             self.link = (await within(PATIENCE, self.process.stdout.readline())).decode().strip()
         except asyncio.TimeoutError:
             self.process.kill()
             raise
         if not self.link:
-            raise AssertionError((await self.saying).decode())
+            raise AssertionError((await self.errors).decode())
         self.base, self.ticket = self.link.split("/#")
         self.port = int(re.search(r":(\d+)/", self.link)[1])
         return self
@@ -69,9 +69,9 @@ class Screen:
         except asyncio.TimeoutError:
             self.process.kill()
             raise
-        said = (await self.saying).decode()
+        errors = (await self.errors).decode()
         if self.has_page:  # what a page asks for is never a bad request
-            assert "bad request" not in said and "Traceback" not in said, said
+            assert "bad request" not in errors and "Traceback" not in errors, errors
 
 
 async def keyed(client, screen, key):
@@ -80,8 +80,8 @@ async def keyed(client, screen, key):
         socket = await client.ws_connect(screen.base.replace("http", "ws") + "/ws", origin=screen.base, max_msg_size=0)
         await socket.send_str(key)
         await socket.send_str('{"id": 0, "do": "nothing"}')
-        while (told := await socket.receive()).type == aiohttp.WSMsgType.TEXT:
-            if json.loads(told.data).get("id") == 0:
+        while (message := await socket.receive()).type == aiohttp.WSMsgType.TEXT:
+            if json.loads(message.data).get("id") == 0:
                 return socket
         same(socket.close_code, LATE)
 
@@ -101,12 +101,12 @@ class Socket:
         self.socket = await keyed(self.client, self.screen, self.key)
         return self
 
-    async def call(self, **given):
-        await self.socket.send_str(json.dumps({"id": 1, **given}))
+    async def call(self, **request):
+        await self.socket.send_str(json.dumps({"id": 1, **request}))
         while True:
-            told = json.loads((await self.socket.receive()).data)
-            if told.get("id") == 1:
-                return told
+            answer = json.loads((await self.socket.receive()).data)
+            if answer.get("id") == 1:
+                return answer
 
     async def __aexit__(self, *_):
         await self.socket.close()
@@ -165,11 +165,11 @@ async def press_at_once(page, key, modifiers=0):
     try:
         await page.until(f"{SAYINGS} !== {json.dumps(before)}", what=f"an answer to {key}")
     except AssertionError as why:
-        told = await page.run(
+        pressed = await page.run(
             f"document.activeElement?.id + ' | ' + {SAID} + ' | ' + "
             "(document.querySelector('#next-list .on')?.textContent ?? 'none chosen')"
         )
-        raise AssertionError(f"{why}; {told}") from why
+        raise AssertionError(f"{why}; {pressed}") from why
 
 
 async def new(page, threads, name=None):

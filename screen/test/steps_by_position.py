@@ -76,9 +76,9 @@ async def test_the_entry_that_is_in_the_way(program):
         async with Alone(program) as alone:
             shown = alone.shown()
             await alone.other(*calls)
-            told = await step(shown, what)
+            answer = await step(shown, what)
             moved = {} if what == "back" else {"moved": 0}
-            same((calls, told), (calls, {"answer": NOT_SENT, "made": [], **moved, **changed(entry)}))
+            same((calls, answer), (calls, {"answer": NOT_SENT, "made": [], **moved, **changed(entry)}))
             same(len(logged()), 5 + len(calls))
 
 
@@ -104,10 +104,10 @@ async def test_what_another_does_elsewhere(program):
                 shown = alone.shown()
                 if path == program:
                     await alone.other(*calls)
-                told = await step(shown, what)
+                answer = await step(shown, what)
                 at = 5 + len(calls)
                 moved = {} if what == "back" else {"moved": 1}
-                same((calls, told), (calls, {"answer": f"{at}: done", "made": [at], **moved}))
+                same((calls, answer), (calls, {"answer": f"{at}: done", "made": [at], **moved}))
                 same(alone.events(), events)
 
 
@@ -115,15 +115,15 @@ async def test_own_steps_are_no_others(program):
     """What the page did since then is as it was meant, among what others did elsewhere."""
     async with Alone(program) as alone:
         await alone.bench.say("swap A 2", "add A 4")
-        told = await steps.back(alone.shown([5]))  # it does not name the second entry as its own
-        same(told["changed"], {"entry": 6, "client": 1, "name": "A"})
+        answer = await steps.back(alone.shown([5]))  # it does not name the second entry as its own
+        same(answer["changed"], {"entry": 6, "client": 1, "name": "A"})
         await alone.other("swap A 1")
-        told = await steps.back(alone.shown([5, 6]))
-        same((told, alone.events()), ({"answer": "8: done", "made": [8]}, [0, 3, 1, 2]))
+        answer = await steps.back(alone.shown([5, 6]))
+        same((answer, alone.events()), ({"answer": "8: done", "made": [8]}, [0, 3, 1, 2]))
         await alone.bench.say("swap A 2")
         await alone.other("swap A 2")
-        told = await steps.move(alone.shown([9], length=9), 2, 1)
-        same(told, {"answer": NOT_SENT, "made": [], "moved": 0, **changed(10)})
+        answer = await steps.move(alone.shown([9], length=9), 2, 1)
+        same(answer, {"answer": NOT_SENT, "made": [], "moved": 0, **changed(10)})
 
 
 async def test_own_steps_that_were_shown(program):
@@ -131,8 +131,8 @@ async def test_own_steps_that_were_shown(program):
     async with Alone(program) as alone:
         shown = alone.shown([1, 4])
         await alone.other("swap A 0")
-        told = await steps.move(shown, 2, 1)
-        same((told, alone.events()), ({"answer": "6: done", "made": [6], "moved": 1}, [1, 0, 3, 2]))
+        answer = await steps.move(shown, 2, 1)
+        same((answer, alone.events()), ({"answer": "6: done", "made": [6], "moved": 1}, [1, 0, 3, 2]))
 
 
 async def test_what_another_does_after_the_step(program):
@@ -180,8 +180,8 @@ async def test_a_step_that_is_taken_back(program):
     """The answer has its entry and that of the undo, and whether it stays."""
     for does, more, made in (({}, {"made": 6}, [6, 7]), ({"undo_6": "add A 5"}, {"made": 6, "stays": True}, [6])):
         async with Alone(between(program, back_A="add A 4", **does)) as alone:
-            told = await steps.back(alone.shown())
-            same({**told, "answer": ""}, {"answer": "", "made": made, **changed(5, **more)})
+            answer = await steps.back(alone.shown())
+            same({**answer, "answer": ""}, {"answer": "", "made": made, **changed(5, **more)})
 
 
 async def test_a_refusal_that_is_about_other_events(program):
@@ -189,18 +189,18 @@ async def test_a_refusal_that_is_about_other_events(program):
     text = "T0|w(a)|a:0\nT1|w(b)|a:1\nT1|w(b)|a:2\nT2|w(c)|a:3\n"
     calls = ("new A", "add A 0", "add A 1", "add A 3", "add A 2")
     async with Alone(between(program, swap_A_1="swap A 2"), calls, text) as alone:
-        told = await steps.move(alone.shown(), 1, 1)
-        same(told, {"answer": NOT_SENT, "made": [], "moved": 0, **changed(5)})
+        answer = await steps.move(alone.shown(), 1, 1)
+        same(answer, {"answer": NOT_SENT, "made": [], "moved": 0, **changed(5)})
 
 
-async def test_what_is_told_of_a_batch(program):
+async def test_what_is_sent_of_a_batch(program):
     """What it does to one schedule is a run or a move. What it does to two is neither."""
     swaps = "batch swap A 0 ; swap B 0", "batch swap A 0 ; swap A 1"
     calls = "new A", "new B", "batch add A 0 ; add B 0", "batch add A 1 ; add A 2", "batch add B 1 ; add B 2", *swaps
     async with Alone(program, calls) as alone:
-        told = alone.bench.mirror.told(2, 5)
+        entries = alone.bench.mirror.entry_messages(2, 5)
         same(
-            [(one.get("run"), one.get("swaps")) for one in told],
+            [(one.get("run"), one.get("swaps")) for one in entries],
             [(None, None), ([1, 2], None), ([1, 2], None), (None, None), (None, True)],
         )
 
@@ -223,44 +223,49 @@ async def test_how_far_a_move_goes(program):
         ((2, -2), 2, None, [2, 0, 1, 3, 4]),
     ):
         async with Alone(program, calls, ORDERED) as alone:
-            told = await steps.move(alone.shown(length=6), *what)
-            found = told.get("stop") and (told["stop"]["position"], told["stop"]["with"]["event"])
-            same((what, told["moved"], found, alone.events()), (what, moved, stop, events))
-            same(told["made"], [6] if moved else [])
+            answer = await steps.move(alone.shown(length=6), *what)
+            found = answer.get("stop") and (answer["stop"]["position"], answer["stop"]["with"]["event"])
+            same((what, answer["moved"], found, alone.events()), (what, moved, stop, events))
+            same(answer["made"], [6] if moved else [])
     async with Alone(program, (*calls, "swap A 3"), ORDERED) as alone:  # T3 is between the two of T2
-        told = await steps.move(alone.shown(length=7), 4, -3)
-        same((told["moved"], told["made"], told["stop"]["position"], alone.events()), (1, [7], 2, [0, 1, 2, 3, 4]))
-        told = await steps.move(alone.shown([7], length=7), 2, 2)
-        same((told["moved"], told["stop"]["with"]["event"]), (0, 3))
+        answer = await steps.move(alone.shown(length=7), 4, -3)
+        same(
+            (answer["moved"], answer["made"], answer["stop"]["position"], alone.events()), (1, [7], 2, [0, 1, 2, 3, 4])
+        )
+        answer = await steps.move(alone.shown([7], length=7), 2, 2)
+        same((answer["moved"], answer["stop"]["with"]["event"]), (0, 3))
         same(await steps.move(alone.shown(length=8), 0, -1), {"moved": 0, "answer": "nothing to move"})
         same(await steps.move(alone.shown(length=8), 3, 0), {"moved": 0, "answer": "nothing to move"})
-        told = await steps.move(alone.shown(length=8), 4, 1)  # there is no neighbour
-        same((told["moved"], told["made"], "stop" in told), (0, [], False))
+        answer = await steps.move(alone.shown(length=8), 4, 1)  # there is no neighbour
+        same((answer["moved"], answer["made"], "stop" in answer), (0, [], False))
 
 
 async def test_how_far_a_run_goes(program):
     """Up to the first event that may not come, which the answer has; and what several undos take back."""
     text = "T1|w(a)|a:0\nT2|w(b)|b:0\nT2|r(a)|b:1\nT2|w(b)|b:2\n"
     async with Alone(program, ("new A",), text) as alone:
-        told = await steps.Run(alone.bench, "A").to(1, None)
-        same((told["added"], told["entries"], told["stop"]["event"], told["stop"]["code"]), (1, [1], 2, "24"))
-        told = await steps.Run(alone.bench, "A").to(1, None)
-        same((told["added"], told["entries"], told["stop"]["event"]), (0, [], 2))
-        told = await steps.add(alone.bench, "A", 2)
-        same((told["answer"].startswith("refused 46 24 "), told["why"]["code"]), (True, "24"))
+        answer = await steps.Run(alone.bench, "A").to(1, None)
+        same((answer["added"], answer["entries"], answer["stop"]["event"], answer["stop"]["code"]), (1, [1], 2, "24"))
+        answer = await steps.Run(alone.bench, "A").to(1, None)
+        same((answer["added"], answer["entries"], answer["stop"]["event"]), (0, [], 2))
+        answer = await steps.add(alone.bench, "A", 2)
+        same((answer["answer"].startswith("refused 46 24 "), answer["why"]["code"]), (True, "24"))
         same(await steps.add(alone.bench, "A", 0), {"answer": "2: done"})
-        told = await steps.Run(alone.bench, "A").to(1, 2)
-        same(told, {"added": 1, "entries": [3], "answer": "3: done"})
+        answer = await steps.Run(alone.bench, "A").to(1, 2)
+        same(answer, {"added": 1, "entries": [3], "answer": "3: done"})
         await alone.other("new B")
-        told = await steps.undo(alone.bench, [4, 3])  # of several answers the refusal counts
-        same((told["undone"], told["made"], "rests" in told), (1, [5], False))
-        same(told["answer"].startswith("refused 58 "), True)
-        told = await steps.undo(alone.bench, [1])
-        same((told["undone"], told["made"], told["rests"]["entry"]["number"], told["rests"]["name"]), (0, [], 2, "A"))
-        told = await steps.undo(alone.bench, [])
-        same((told["answer"], told["undone"], told["made"]), ("6: undone 2", 1, [6]))
-        told = await steps.undo(alone.bench, [1, 0])  # of several answers the last counts
-        same(told, {"answer": "8: undone 0", "undone": 2, "made": [7, 8]})
+        answer = await steps.undo(alone.bench, [4, 3])  # of several answers the refusal counts
+        same((answer["undone"], answer["made"], "rests" in answer), (1, [5], False))
+        same(answer["answer"].startswith("refused 58 "), True)
+        answer = await steps.undo(alone.bench, [1])
+        same(
+            (answer["undone"], answer["made"], answer["rests"]["entry"]["number"], answer["rests"]["name"]),
+            (0, [], 2, "A"),
+        )
+        answer = await steps.undo(alone.bench, [])
+        same((answer["answer"], answer["undone"], answer["made"]), ("6: undone 2", 1, [6]))
+        answer = await steps.undo(alone.bench, [1, 0])  # of several answers the last counts
+        same(answer, {"answer": "8: undone 0", "undone": 2, "made": [7, 8]})
 
 
 async def test_a_missed_write_that_is_there(program):
@@ -275,8 +280,8 @@ async def test_a_run_while_another_drops_the_schedule(program):
     """What was refused is done again without the event that may not come, and that is refused too."""
     text = "T1|w(a)|a:0\nT2|w(b)|b:0\nT2|r(a)|b:1\n"
     async with Alone(between(program, batch_add_A_1="drop A"), ("new A",), text) as alone:
-        told = await steps.Run(alone.bench, "A").to(1, None)
-        same(told, {"added": 0, "entries": [], "answer": "refused 70 at 0 42 no such schedule"})
+        answer = await steps.Run(alone.bench, "A").to(1, None)
+        same(answer, {"added": 0, "entries": [], "answer": "refused 70 at 0 42 no such schedule"})
         same(logged(), ["1 new A", "2 drop A"])
 
 
@@ -284,8 +289,8 @@ async def test_a_move_while_another_drops_the_schedule(program):
     """The part of it that may be made is refused too, and the answer has the refusal."""
     calls = ("new A", "add A 0", "add A 1", "add A 2", "add A 4", "add A 3")
     async with Alone(between(program, swap_A_3="drop A"), calls, ORDERED) as alone:
-        told = await steps.move(alone.shown(length=6), 4, -3)
-        same(told, {"moved": 0, "made": [], "answer": "refused 42 no such schedule"})
+        answer = await steps.move(alone.shown(length=6), 4, -3)
+        same(answer, {"moved": 0, "made": [], "answer": "refused 42 no such schedule"})
         same(logged()[6:], ["2 drop A"])
 
 
@@ -295,10 +300,10 @@ async def test_a_witness_that_is_entered(program):
         events = alone.bench.trace.events_of[0][:0]
         same(await steps.enter(alone.bench, "B", events, (0, 1)), {"answer": "2: done"})
         same(logged()[1:], ["1 propose 0 1", "1 batch new B ; adopt B 0"])
-        told = await steps.enter(alone.bench, "C", alone.bench.trace.events_of[0], (0, 1))
-        same((told["answer"].startswith("refused "), len(logged())), (True, 3))
-        told = await steps.enter(alone.bench, "D", alone.bench.trace.events_of[0], None)
-        same(told, {"answer": "4: done", "entries": [3, 4]})
+        answer = await steps.enter(alone.bench, "C", alone.bench.trace.events_of[0], (0, 1))
+        same((answer["answer"].startswith("refused "), len(logged())), (True, 3))
+        answer = await steps.enter(alone.bench, "D", alone.bench.trace.events_of[0], None)
+        same(answer, {"answer": "4: done", "entries": [3, 4]})
         twice = alone.bench.trace.events_of[0] * 2  # no schedule has an event twice
-        told = await steps.enter(alone.bench, "E", twice, None)
-        same((told["answer"].startswith("refused 70 at 1 "), told["entries"]), (True, [5]))
+        answer = await steps.enter(alone.bench, "E", twice, None)
+        same((answer["answer"].startswith("refused 70 at 1 "), answer["entries"]), (True, [5]))

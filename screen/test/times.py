@@ -45,8 +45,8 @@ class Spent:
         await self.page.call("Performance.disable")
 
     async def _now(self):
-        told = (await self.page.call("Performance.getMetrics"))["metrics"]
-        tasks = sum(one["value"] for one in told if one["name"] == "TaskDuration")
+        metrics = (await self.page.call("Performance.getMetrics"))["metrics"]
+        tasks = sum(one["value"] for one in metrics if one["name"] == "TaskDuration")
         return own(self.screen.process.pid), sum(map(own, children(self.screen.process))), tasks
 
     def a_key(self, count):

@@ -53,8 +53,8 @@ async def test_two_analysts(program):
         await other.key("Enter")
         await comes(lambda: logged()[-1] == "2 branch A 2 A.b")
         await press(page, "u")
-        said = await page.run(SAID)
-        assert said.startswith("not taken back: entry 5 of 2 rests on it"), said
+        note = await page.run(SAID)
+        assert note.startswith("not taken back: entry 5 of 2 rests on it"), note
         await page.until("document.querySelectorAll('.entry.flash').length === 1")
         await page.until(f"{AWAY} === '2 A.b made'")
         await page.key("s")
@@ -180,7 +180,7 @@ async def test_what_may_have_ended_the_program(program):
     async with Screen(os.path.abspath("program"), "trace", "log") as screen, Browser() as browser:
         page = await browser.page(screen.link)
         await new(page, 3)
-        for hide, show, told in (
+        for hide, show, reason in (
             (
                 lambda: os.rename("trace", "gone"),
                 lambda: os.rename("gone", "trace"),
@@ -192,9 +192,9 @@ async def test_what_may_have_ended_the_program(program):
             killed = await kill_sessions(screen)
             await comes(lambda: not set(killed).intersection(children(screen.process)))
             await press(page, "Backspace")
-            if told not in await page.run(SAID):  # the screen did not know of its end yet
+            if reason not in await page.run(SAID):  # the screen did not know of its end yet
                 await press(page, "Backspace")
-            same(await page.run(SAID), f"the program ended: racebench: {told}")
+            same(await page.run(SAID), f"the program ended: racebench: {reason}")
             show()
             await page.key("Backspace")
             await page.until(f"{SAID}.startsWith('refused: there is no event to take back')")

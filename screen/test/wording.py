@@ -23,8 +23,8 @@ async def test_news_of_each_kind(program):
         await session(program, 2, "adopt A 0\nswap A 5\nswap A 5\n")
         await page.until(f"{LINES}.join('; ') === '2 A took a proposal, 2 swaps'")
         await session(program, 3, "drop C\nadd B 0\nadd B 1\nback B\nundo\n")
-        told = "3 took back 1 entry; 3 B +2, −1; 3 C dropped; 2 A took a proposal, 2 swaps"
-        await page.until(f"{LINES}.join('; ') === {told!r}")
+        news = "3 took back 1 entry; 3 B +2, −1; 3 C dropped; 2 A took a proposal, 2 swaps"
+        await page.until(f"{LINES}.join('; ') === {news!r}")
         await session(program, 4, "branch A 2 D\nnew E\nnew F\nnew G\n" + PROPOSAL)
         await page.until(
             f"{LINES}.length === 6 && {LINES}.join('; ').startsWith('4 1 proposal; 4 G made; 4 F made; ')"
@@ -235,8 +235,8 @@ async def test_the_schedule_that_was_worked_on_last_opens(program):
     await session(program, 4, "new E\n")
     await session(program, 2, "add E 0\nnew D\nadd D 0\nadd D 1\n")
     for client, name, length in ((1, "A", 1), (2, "D", 2), (3, "D", 2), (4, "E", 1)):
-        words = ("--client", str(client)) if client > 1 else ()
-        async with Screen(program, "trace", "log", *words) as screen, Browser() as browser:
+        arguments = ("--client", str(client)) if client > 1 else ()
+        async with Screen(program, "trace", "log", *arguments) as screen, Browser() as browser:
             page = await browser.page(screen.link)
             await page.until(f"{OPEN} === '{name}' && {ROWS} === {length} && {NEXT} === 3")
             same(await page.run("document.title"), f"trace · client {client}")
@@ -369,7 +369,7 @@ async def test_moves_in_words(program):
         await page.until(f"{ROWS} === 6 && {NEXT} === 0")
         await focus(page, "stage")
         await page.key("Home")
-        for downs, key, words in (
+        for downs, key, text in (
             (0, "ArrowDown", "one forks or joins the thread of the other"),
             (2, "ArrowDown", "both are of lock m"),
             (0, "ArrowUp", "both are of one thread"),
@@ -378,8 +378,8 @@ async def test_moves_in_words(program):
                 await page.key("ArrowDown")
             await settled(page)
             await press_at_once(page, key, ALT)
-            await page.until(f"{STOP} === 'stays: {words}'")
-            assert (await page.run(SAID)).startswith(f"not moved · {words}"), await page.run(SAID)
+            await page.until(f"{STOP} === 'stays: {text}'")
+            assert (await page.run(SAID)).startswith(f"not moved · {text}"), await page.run(SAID)
         same(len(logged()), 7)
         await page.key("End")
         await settled(page)
