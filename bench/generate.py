@@ -250,7 +250,7 @@ def compared_locks(held, written):
     )
 
 
-def told_to_all(events, threads):
+def sent_to_all(events, threads):
     """One thread writes a variable, and then all others read it, again and again: each event learns something."""
     lines = []
     while len(lines) + threads <= events:
@@ -281,7 +281,7 @@ def write_places(folder):
     write_trace(folder, f"scattered_16_{4 * EVENTS}", scattered_places(4 * EVENTS, 16))
     write_trace(folder, f"scattered_widely_16_{EVENTS}", scattered_widely(EVENTS, 16))
     write_trace(folder, f"own_locks_16_{4 * EVENTS}", own_locks(4 * EVENTS, 16))
-    write_trace(folder, f"told_to_all_256_{MOST_EVENTS}", told_to_all(MOST_EVENTS, 256))
+    write_trace(folder, f"told_to_all_256_{MOST_EVENTS}", sent_to_all(MOST_EVENTS, 256))
     write_trace(folder, f"nested_locks_{MOST_EVENTS}", nested_locks(MOST_EVENTS))
     write_trace(folder, f"compared_locks_{sized(1_000)}", compared_locks(sized(1_000), sized(20)))
     write_trace(folder, f"colliding_classes_{sized(90_000)}", colliding_classes(folder, sized(90_000)))

@@ -260,7 +260,7 @@ def script(chance, trace_, length, clients=None):
     for _ in range(length):
         client = chance.choice(clients)
         drawn = call_of_client(chance, log, names, mood, client)
-        told, after = log.answer(client, drawn)
-        calls.append((client, drawn, told, log))
+        answer, after = log.answer(client, drawn)
+        calls.append((client, drawn, answer, log))
         log = after
     return calls, log

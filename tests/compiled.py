@@ -12,7 +12,7 @@ def place_of(access):
     return access["location"].split(" < ")[0] or "?"
 
 
-def said(access):
+def use_of(access):
     return f"{access['thread']} {VERBS[access['operation']]}"
 
 
@@ -26,7 +26,7 @@ def access_lines(access):
     place = place_of(access)
     calls = access["location"].split(" < ")[1 : MOST_CALLS + 1]
     return [
-        f"{place}: note: event {access['event']}: {said(access)} {access['variable']}",
+        f"{place}: note: event {access['event']}: {use_of(access)} {access['variable']}",
         *(f"{place}: note: holds {lock}" for lock in access["holds"]),
         *(call_line(place, call) for call in calls),
     ]
@@ -37,26 +37,26 @@ def counted(count, word):
     return f"{count} {word}" if count == 1 else f"{count} {word}s"
 
 
-def why(told):
-    if told["kind"] == "race":
-        return f"a schedule of {counted(told['events'], 'event')} of {counted(told['threads'], 'thread')} shows it"
-    if told["kind"] == "undecided":
-        return f"no schedule was found for {counted(told['tried'], 'pair')} of events"
+def why(row):
+    if row["kind"] == "race":
+        return f"a schedule of {counted(row['events'], 'event')} of {counted(row['threads'], 'thread')} shows it"
+    if row["kind"] == "undecided":
+        return f"no schedule was found for {counted(row['tried'], 'pair')} of events"
     return "every correct reordering of this trace keeps the two apart"
 
 
 def lines_of(objects):
     """The lines for these objects."""
     lines = []
-    for told in objects:
-        if told["kind"] not in HEADS:
+    for row in objects:
+        if row["kind"] not in HEADS:
             continue
-        first, second = told["accesses"]
+        first, second = row["accesses"]
         lines.append(
-            f"{place_of(second)}: {HEADS[told['kind']]} on {second['variable']}: {said(second)}, {said(first)}"
-            f" at {place_of(first)} [{RULES[told['kind']]}]"
+            f"{place_of(second)}: {HEADS[row['kind']]} on {second['variable']}: {use_of(second)}, {use_of(first)}"
+            f" at {place_of(first)} [{RULES[row['kind']]}]"
         )
         lines += access_lines(second) + access_lines(first)
         events = f"{first['event']} {second['event']}"
-        lines.append(f"{place_of(second)}: note: {why(told)}: racebench explain TRACE {events}")
+        lines.append(f"{place_of(second)}: note: {why(row)}: racebench explain TRACE {events}")
     return lines

@@ -17,7 +17,7 @@ HEAD = 81
 # How many contents are tried after a call.
 MOST_LEFT = 3000
 
-Note = namedtuple("Note", "call file said result data")
+Note = namedtuple("Note", "call file argument result data")
 
 
 def kept_lines(file):
@@ -31,13 +31,13 @@ def kept_lines(file):
 def notes_of(text):
     """The notes: a call, the file's number, its arguments, its result, and the bytes that were written."""
     for line in text.splitlines():
-        call, *words = line.split()
+        call, *fields = line.split()
         if call == "answer":
             yield Note(call, None, None, 0, b"")
         elif call in ("fsync", "link"):
-            yield Note(call, words[0], None, int(words[1]), b"")
+            yield Note(call, fields[0], None, int(fields[1]), b"")
         else:
-            yield Note(call, words[0], words[1], int(words[2]), bytes.fromhex("".join(words[3:])))
+            yield Note(call, fields[0], fields[1], int(fields[2]), bytes.fromhex("".join(fields[3:])))
 
 
 def written(old, place, data):
@@ -51,7 +51,7 @@ def parts_of(size):
 
 def after(old, note):
     """What may be left where this call is not yet synced: as it was, a part of it, or any bytes in its range."""
-    place = int(note.said)
+    place = int(note.argument)
     yield old
     if note.call == "ftruncate":
         yield from (old[:size] for size in {place, (place + len(old)) // 2, max(place, len(old) - 1)})
@@ -85,7 +85,7 @@ class Disk:
         self.turns = self.answers = 0
 
     def lock(self, note):
-        if note.said == "freed":
+        if note.argument == "freed":
             self.end_turn()
             return
         self.is_held, self.is_synced = True, False
@@ -110,7 +110,7 @@ class Disk:
         if not self.is_held:
             raise Wrong(f"{note.call} without the lock")
         self.pending.append(note)
-        place = int(note.said)
+        place = int(note.argument)
         self.seen = written(self.seen, place, note.data) if note.call == "pwrite" else self.seen[:place]
         for content in left_by_crash(self.durable, self.pending):
             left = kept_lines(content)

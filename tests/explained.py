@@ -14,7 +14,7 @@ MOST_RUNS = 11
 LAST_RUNS = 10
 
 # A chain of a forced pair: the printed events, in order, and the reasons between each two.
-Chain = collections.namedtuple("Chain", "events words")
+Chain = collections.namedtuple("Chain", "events reasons")
 
 
 class Lines:
@@ -117,15 +117,15 @@ SHB_LINKS = {**LINKS, "lets the lock go that is taken by": lets_go}
 READ = "is read by"
 
 
-def without_note(trace, tally, first, words, second):
+def without_note(trace, tally, first, reason, second):
     """The reason of a link without the note that a write and its read race. The note must be there exactly if the two
     are a candidate."""
-    if not words.startswith(READ):
-        return words
+    if not reason.startswith(READ):
+        return reason
     is_race = trace.conflict(first, second) and trace.is_candidate(first, second)
     wanted = READ + (f" (these two race: explain {first} {second})" if is_race else "")
-    if words != wanted:
-        raise Wrong(f"of {first} and {second} the words are {words!r}, and plainly {wanted!r}")
+    if reason != wanted:
+        raise Wrong(f"of {first} and {second} the words are {reason!r}, and plainly {wanted!r}")
     tally["reads that race" if is_race else "reads that do not race"] += 1
     return READ
 
@@ -222,12 +222,12 @@ def waiters_of(trace, listed):
 
 def judge_wait(trace, tally, listed, last, waiter, line):
     """Judges a line: this event waits for the last one of a run, for the printed reason."""
-    words = line.removesuffix(f" {numbered(trace, waiter)}").removeprefix("  ")
-    if line != f"  {words} {numbered(trace, waiter)}" or words not in WAITS:
+    reason = line.removesuffix(f" {numbered(trace, waiter)}").removeprefix("  ")
+    if line != f"  {reason} {numbered(trace, waiter)}" or reason not in WAITS:
         raise Wrong(f"no line that says for what {waiter} waits: {line!r}")
-    if not WAITS[words](trace, listed, last, waiter):
+    if not WAITS[reason](trace, listed, last, waiter):
         raise Wrong(f"of {last} that is not so: {line!r}")
-    tally[f"waits|{words}"] += 1
+    tally[f"waits|{reason}"] += 1
 
 
 def judge_race(trace, tally, text, how, pair, listed, is_all):
@@ -261,7 +261,7 @@ def chain_of(trace, lines, depth):
     blanks = 2 * depth
     chain = Chain([event_of(trace, lines.take(), blanks)], [])
     while lines.next() is not None and blanks_of(lines.next()) == blanks + 2:
-        chain.words.append(lines.take()[blanks + 2 :])
+        chain.reasons.append(lines.take()[blanks + 2 :])
         chain.events.append(event_of(trace, lines.take(), blanks))
     return chain
 
@@ -271,18 +271,18 @@ def section_begun(trace, release):
     return next(acquire for acquire in trace.acquires(range(release)) if trace.section_end(acquire) == release)
 
 
-def judge_link(trace, tally, first, words, second):
+def judge_link(trace, tally, first, reason, second):
     """Judges a link of a chain. Of one that ends a section, the event that begins it and the event before which it has
     to end; else None."""
-    words = without_note(trace, tally, first, words, second)
-    if words in LINKS:
-        if not LINKS[words](trace, first, second):
-            raise Wrong(f"of {first} and {second} that is not so: {words}")
-        tally[f"links|{words}"] += 1
+    reason = without_note(trace, tally, first, reason, second)
+    if reason in LINKS:
+        if not LINKS[reason](trace, first, second):
+            raise Wrong(f"of {first} and {second} that is not so: {reason}")
+        tally[f"links|{reason}"] += 1
         return None
     lock = trace.events[first].name
-    if not trace.does(first, "rel", lock) or words != f"ends a section of {lock} that comes before the one of":
-        raise Wrong(f"no words of a link from {first}: {words!r}")
+    if not trace.does(first, "rel", lock) or reason != f"ends a section of {lock} that comes before the one of":
+        raise Wrong(f"no words of a link from {first}: {reason!r}")
     acquire = section_begun(trace, first)
     if not trace.ends_first(acquire, second):
         raise Wrong(f"{second} lies in no section of {lock} in another thread than {first}")
@@ -294,28 +294,30 @@ def cause_line(trace, begun, depth):
     """The lines that may come before the chain that shows why this section began first."""
     acquire, event = begun
     lock = trace.events[acquire].name
-    words = []
+    verbs = []
     if lock in trace.locks_before(event):
-        words.append("holds")
+        verbs.append("holds")
     if trace.does(event, "acq", lock):
-        words.append("takes")
+        verbs.append("takes")
     blanks = "  " * (depth - 1)
     return [
-        f"{blanks}for {trace.thread(event)} {word} {lock} at {event}, and that section began before:" for word in words
+        f"{blanks}for {trace.thread(event)} {word} {lock} at {event}, and that section began before:" for word in verbs
     ]
 
 
 def judge_causes(needs):
     """Judges that each needed chain was printed, and rests on no chain that rests on it. `needs` has for each chain,
     by its ends, the ends of the chains that it needs."""
-    told = set()
+    ended = set()
     while True:
-        next_told = {ends for ends, needed in needs.items() if told.issuperset(needed)}
-        if next_told == told:
+        next_ended = {ends for ends, needed in needs.items() if ended.issuperset(needed)}
+        if next_ended == ended:
             break
-        told = next_told
-    if told != set(needs):
-        raise Wrong(f"these chains rest on themselves, or on chains that are not printed: {sorted(set(needs) - told)}")
+        ended = next_ended
+    if ended != set(needs):
+        raise Wrong(
+            f"these chains rest on themselves, or on chains that are not printed: {sorted(set(needs) - ended)}"
+        )
 
 
 def judge_forced(trace, tally, text, pair):
@@ -334,12 +336,14 @@ def judge_forced(trace, tally, text, pair):
             raise Wrong(f"the chain from {ends[0]} to {ends[1]} is printed twice")
         if depth and ends not in open_needs[depth - 1]:
             raise Wrong(f"no chain above needs the one from {ends[0]} to {ends[1]}")
-        links = zip(chain.events, chain.words, chain.events[1:])
+        links = zip(chain.events, chain.reasons, chain.events[1:])
         begun = [judge_link(trace, tally, *link) for link in links]
         needs[ends] = [section for section in begun if section]
         open_needs[depth:] = [needs[ends]]
         tally[f"chains|{depth}"] += 1
-        if not depth and (ends != pair or chain.words[-1] not in ("and later in its thread", "begins the thread of")):
+        if not depth and (
+            ends != pair or chain.reasons[-1] not in ("and later in its thread", "begins the thread of")
+        ):
             raise Wrong(f"the first chain does not lead from {pair[0]} to the base of {pair[1]}, and on")
         if lines.next() is None:
             break
@@ -377,8 +381,8 @@ def judge_undecided(trace, tally, text, pair):
     lines.end()
     if (chain.events[0], chain.events[-1]) != pair:
         raise Wrong(f"the chain leads from {chain.events[0]} to {chain.events[-1]}")
-    for first, noted, second in zip(chain.events, chain.words, chain.events[1:]):
-        words = without_note(trace, tally, first, noted, second)
-        if words not in SHB_LINKS or not SHB_LINKS[words](trace, first, second):
-            raise Wrong(f"of {first} and {second} that is not so: {words}")
-        tally[f"SHB|{words}"] += 1
+    for first, noted, second in zip(chain.events, chain.reasons, chain.events[1:]):
+        reason = without_note(trace, tally, first, noted, second)
+        if reason not in SHB_LINKS or not SHB_LINKS[reason](trace, first, second):
+            raise Wrong(f"of {first} and {second} that is not so: {reason}")
+        tally[f"SHB|{reason}"] += 1

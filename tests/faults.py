@@ -81,11 +81,11 @@ def library(folder):
     return running.library(pathlib.Path(folder) / "refuse.so", TOP / "tools/refuse.c", TOP / "tools/disk.c")
 
 
-def runs_of(made, program, words, stdin, here, way, files, left=None):
+def runs_of(made, program, arguments, stdin, here, way, files, left=None):
     """The program's runs in the folder `here` with each call of one kind failing in turn; the last one met none. Where
     they change files, each finds those of the folder `files`. With what each left of the file `left`."""
     report = made.parent / "report"
-    told = {
+    environment = {
         "REFUSE": way[0],
         "REFUSE_HOW": way[1],
         "REFUSE_IN": str(stdin),
@@ -93,11 +93,11 @@ def runs_of(made, program, words, stdin, here, way, files, left=None):
         "LD_PRELOAD": str(made),
     }
     if files:
-        told["REFUSE_FILES"] = str(files)
+        environment["REFUSE_FILES"] = str(files)
     if left:
-        told["REFUSE_LEFT"] = str(left)
+        environment["REFUSE_LEFT"] = str(left)
     status = subprocess.run(
-        [program, *words], cwd=here, env={**os.environ, **told}, timeout=LONGEST, check=False
+        [program, *arguments], cwd=here, env={**os.environ, **environment}, timeout=LONGEST, check=False
     ).returncode
     if status != 0:
         raise Wrong(f"the runs were not made: status {status}")
@@ -128,7 +128,7 @@ def are_but_for_notes(lines, known):
     """Whether the lines are the known ones, in their order, except for notes that are missing or say less."""
     at = 0
     for line in known:
-        if lines[at : at + 1] == [line] or any(says_less(told, line) for told in lines[at : at + 1]):
+        if lines[at : at + 1] == [line] or any(says_less(printed, line) for printed in lines[at : at + 1]):
             at += 1
         elif not line.startswith(b"note: "):
             return False
@@ -200,7 +200,7 @@ def is_well(run, wanted):
     return run.status == 0 and (not run.err or (wanted.status == 0 and run.err == wanted.err))
 
 
-def is_told_in_threads(run, wanted):
+def is_reported_in_threads(run, wanted):
     """Whether one call's line reports out of memory, and there are lines for as many scripts as there are."""
     lines, known = run.out.splitlines(), wanted.out.splitlines()
     clients = [line for line in lines if line.startswith(b"client ")]
@@ -212,7 +212,7 @@ def is_told_in_threads(run, wanted):
     )
 
 
-def is_told_in_session(run, wanted):
+def is_reported_in_session(run, wanted):
     """Whether one line is answered by out of memory, those before it as the case wants, and each after it by
     something."""
     lines, known = run.out.splitlines(), wanted.out.splitlines()
@@ -235,20 +235,20 @@ def parts_of(out):
 
 def lacks_a_slice(run, wanted):
     """Whether the run ended well, and one proposal is missing of the log that the case wants."""
-    told, known = parts_of(run.out), parts_of(wanted.out)
-    if (run.status, run.err) != (0, b"") or told is None or known is None or told[0] != known[0]:
+    found, known = parts_of(run.out), parts_of(wanted.out)
+    if (run.status, run.err) != (0, b"") or found is None or known is None or found[0] != known[0]:
         return False
     return any(
-        b" propose " in entry and told[1] == known[1][:at] + known[1][at + 1 :] for at, entry in enumerate(known[1])
+        b" propose " in entry and found[1] == known[1][:at] + known[1][at + 1 :] for at, entry in enumerate(known[1])
     )
 
 
 def has_disk_fault(run, wanted, kind):
     """Whether a call on the log's file that failed leads to a message, after the answers of the turns before."""
-    is_told = has_fault(run, b"write failed", wanted, b"note: ") or (
+    is_reported = has_fault(run, b"write failed", wanted, b"note: ") or (
         kind == "flock" and has_fault(run, b"read failed", wanted, b"note: ")
     )
-    return is_told and wanted.out.startswith(run.out)
+    return is_reported and wanted.out.startswith(run.out)
 
 
 def is_right(run, wanted, kind, how):
@@ -265,25 +265,25 @@ def is_right(run, wanted, kind, how):
     if kind == "memory":
         if wanted.has_workers and has_fault(run, b"no thread", wanted) and not run.out:
             return True
-        if wanted.in_session and is_told_in_session(run, wanted):
+        if wanted.in_session and is_reported_in_session(run, wanted):
             return True
-        if (wanted.in_threads and is_told_in_threads(run, wanted)) or (
+        if (wanted.in_threads and is_reported_in_threads(run, wanted)) or (
             wanted.has_workers and lacks_a_slice(run, wanted)
         ):
             return True
-        is_told = (
+        is_reported = (
             has_fault(run, b"out of memory", wanted)
             and wanted.out.startswith(run.out)
             and not (wanted.in_threads and run.out)
         )
-        lacks_words = lacks_notes(run, wanted) or differs_in_notes(run, wanted) or lacks_a_reason(run, wanted)
-        return is_told or (wanted.err and lacks_words)
+        lacks_lines = lacks_notes(run, wanted) or differs_in_notes(run, wanted) or lacks_a_reason(run, wanted)
+        return is_reported or (wanted.err and lacks_lines)
     if kind in ("read", "open"):
         is_begun = wanted.out.startswith(run.out) if wanted.in_session else not run.out
-        is_told = has_fault(run, b"read failed", wanted, b"note: ") or (
+        is_reported = has_fault(run, b"read failed", wanted, b"note: ") or (
             wanted.in_session and kind == "open" and has_fault(run, b"write failed", wanted, b"note: ")
         )
-        return (is_told and is_begun) or (wanted.err and lacks_notes(run, wanted))
+        return (is_reported and is_begun) or (wanted.err and lacks_notes(run, wanted))
     if run.out != wanted.out:
         return has_fault(run, b"write failed", wanted, b"note: ") and wanted.out.startswith(run.out)
     return run.status == wanted.status and lacks_a_write(run.err, wanted.err)

@@ -45,9 +45,9 @@ REACHED = [
     *["accesses under 8 locks", "accesses under more locks"],
     "reads that race",
     "reads that do not race",
-    *[f"links|{words}" for words in explained.LINKS],
+    *[f"links|{arguments}" for arguments in explained.LINKS],
     *["SHB|and later in its thread", "SHB|lets the lock go that is taken by"],
-    *[f"waits|{words}" for words in explained.WAITS if not words.startswith("forks")],
+    *[f"waits|{arguments}" for arguments in explained.WAITS if not arguments.startswith("forks")],
 ]
 
 
@@ -57,25 +57,26 @@ class Judge:
     def __init__(self, run):
         self.program, self.tally = run.program, run.tally
 
-    def printed(self, *words):
+    def printed(self, *arguments):
         """What the program prints, where it ends well."""
-        status, out, err = running.ended(self.program, words)
+        status, out, err = running.ended(self.program, arguments)
         if status != 0 or err:
-            raise explained.Wrong(f"{' '.join(words)}: status {status}: {err[:300]!r}")
+            raise explained.Wrong(f"{' '.join(arguments)}: status {status}: {err[:300]!r}")
         return out.decode("utf-8")
 
-    def expect(self, text, *words):
+    def expect(self, text, *arguments):
         """Compares what the program prints with this text."""
-        printed = self.printed(*words)
+        printed = self.printed(*arguments)
         if printed != text:
-            raise explained.Wrong(f"{' '.join(words)} printed\n{printed}--- and plainly\n{text}")
+            raise explained.Wrong(f"{' '.join(arguments)} printed\n{printed}--- and plainly\n{text}")
 
-    def expect_fault(self, told, *words):
+    def expect_fault(self, fault, *arguments):
         """Compares why the program stops with this text; it has to print nothing else."""
-        status, out, err = running.ended(self.program, words)
-        if (status, out, err) != (1, b"", f"racebench: {told}\n".encode("ascii")):
+        status, out, err = running.ended(self.program, arguments)
+        if (status, out, err) != (1, b"", f"racebench: {fault}\n".encode("ascii")):
             raise explained.Wrong(
-                f"{' '.join(words)}: status {status}, printed {out[:300]!r}, and {err[:300]!r}, which is not {told!r}"
+                f"{' '.join(arguments)}: status {status}, printed {out[:300]!r}, and {err[:300]!r}, "
+                f"which is not {fault!r}"
             )
 
     def judge_trace(self, trace, chance):
@@ -102,12 +103,12 @@ class Judge:
         verdict, listed = verdict_of(trace, pair)
         self.tally[verdict] += 1
         self.tally["pairs"] += 1
-        words = [str(event) for event in (pair if chance.random() < 0.5 else pair[::-1])]
+        arguments = [str(event) for event in (pair if chance.random() < 0.5 else pair[::-1])]
         is_all = chance.random() < 0.3
-        text = self.printed("explain", "trace", *words, *["--all"] * is_all)
+        text = self.printed("explain", "trace", *arguments, *["--all"] * is_all)
         try:
             if verdict in ("candidate", "beyond", "turned"):
-                shown = self.judge_witness(trace, pair, words, listed)
+                shown = self.judge_witness(trace, pair, arguments, listed)
                 explained.judge_race(trace, self.tally, text, verdict, pair, shown, is_all)
                 return
             if verdict == "forced":
@@ -117,13 +118,13 @@ class Judge:
             else:
                 explained.judge_undecided(trace, self.tally, text, pair)
         except explained.Wrong as what:
-            raise explained.Wrong(f"{what}\n--- explain {' '.join(words)}, which is {verdict}\n{text}") from what
+            raise explained.Wrong(f"{what}\n--- explain {' '.join(arguments)}, which is {verdict}\n{text}") from what
         kind = trace.kind(*pair)
-        self.expect_fault(f"not shown: {kind}", "witness", "trace", *words, *chance.choice(FORMS))
+        self.expect_fault(f"not shown: {kind}", "witness", "trace", *arguments, *chance.choice(FORMS))
 
-    def judge_witness(self, trace, pair, words, listed):
+    def judge_witness(self, trace, pair, arguments, listed):
         """The schedule that is printed, where it shows the pair, and has the events of this list, if one is given."""
-        lines = explained.Lines(self.printed("witness", "trace", *words))
+        lines = explained.Lines(self.printed("witness", "trace", *arguments))
         shown = []
         while lines.next() is not None:
             shown.append(explained.event_of(trace, lines.take(), 0))
@@ -132,28 +133,28 @@ class Judge:
             raise explained.Wrong(f"this list does not show the pair: {shown}")
         if listed is not None and tuple(sorted(shown)) != listed:
             raise explained.Wrong(f"the schedule is {shown}, and its events are to be {listed}")
-        self.judge_script(trace, pair, words, shown)
-        self.judge_std(trace, words, shown + pair)
-        pictured.judge_picture(trace, self.tally, self.printed("witness", "trace", *words, "--svg"), pair, shown)
+        self.judge_script(trace, pair, arguments, shown)
+        self.judge_std(trace, arguments, shown + pair)
+        pictured.judge_picture(trace, self.tally, self.printed("witness", "trace", *arguments, "--svg"), pair, shown)
         return shown
 
-    def judge_script(self, trace, pair, words, shown):
+    def judge_script(self, trace, pair, arguments, shown):
         """Judges the script of the schedule, and what `replay` answers to it."""
         script = "".join(["1 new S\n", *[f"1 add S {event}\n" for event in shown], "1 races S\n"])
-        self.expect(script, "witness", "trace", *words, "--script")
+        self.expect(script, "witness", "trace", *arguments, "--script")
         running.write("script", script)
-        told = trace.shown_pairs(shown)
-        if pair not in told:
-            raise explained.Wrong(f"the pair is none of those that are shown: {told}")
+        pairs = trace.shown_pairs(shown)
+        if pair not in pairs:
+            raise explained.Wrong(f"the pair is none of those that are shown: {pairs}")
         answers = [f"{number}: done\n" for number in range(len(shown) + 1)]
         self.expect(
-            "".join(answers) + " ".join(["pairs", *[f"{a}-{b}" for a, b in told]]) + "\n", "replay", "trace", "script"
+            "".join(answers) + " ".join(["pairs", *[f"{a}-{b}" for a, b in pairs]]) + "\n", "replay", "trace", "script"
         )
 
-    def judge_std(self, trace, words, events):
+    def judge_std(self, trace, arguments, events):
         """Judges the trace with these events, the pair last, and what `info` prints about it."""
         std = plain.Trace(trace.events[event] for event in events)
-        self.expect(std.text(), "witness", "trace", *words, "--std")
+        self.expect(std.text(), "witness", "trace", *arguments, "--std")
         running.write("std", std.text())
         if (len(events) - 2, len(events) - 1) not in std.candidates():
             raise explained.Wrong(f"the pair is no candidate of the schedule's trace\n{std.text()}")

@@ -79,10 +79,10 @@ def executable(path, text):
     os.chmod(path, 0o755)
 
 
-def ran(words, **more):
+def ran(command, **more):
     """The status of the command, with these variables in the environment besides."""
     environment = {**os.environ, **more}
-    return subprocess.run(words, capture_output=True, check=False, env=environment, timeout=900).returncode
+    return subprocess.run(command, capture_output=True, check=False, env=environment, timeout=900).returncode
 
 
 def read(path):
@@ -123,15 +123,17 @@ def judge_names(script):
 
 def judge_parallel(wanted):
     judge_names("parallel.sh")
-    words = ["sh", os.path.join(FARM, "parallel.sh"), *TRACES.values()]
+    command = ["sh", os.path.join(FARM, "parallel.sh"), *TRACES.values()]
     # A job that is killed is run again.
-    if ran(words, PARTS="parallel", RACEBENCH=os.path.abspath("once"), JOBS="4") != 0 or not os.path.exists("failed"):
+    if ran(command, PARTS="parallel", RACEBENCH=os.path.abspath("once"), JOBS="4") != 0 or not os.path.exists(
+        "failed"
+    ):
         raise Wrong("parallel.sh does not repeat a job that was killed")
     is_one(wanted, "parallel")
     # A trace that is refused leaves nothing merged; the others stay.
     with open("bad.std", "w", encoding="ascii") as out:
         out.write("no trace\n")
-    if ran([*words, "bad.std"], PARTS="parallel", RACEBENCH=os.path.abspath("always")) != 1 or os.path.exists(
+    if ran([*command, "bad.std"], PARTS="parallel", RACEBENCH=os.path.abspath("always")) != 1 or os.path.exists(
         os.path.join("parallel", "merged.json")
     ):
         raise Wrong("parallel.sh merges although a trace was refused")
@@ -143,7 +145,7 @@ def judge_parallel(wanted):
         os.utime(f"parallel/{name}", (now - 10, now - 10))
     before = {name: os.stat(f"parallel/{name}").st_mtime_ns for name in TRACES}
     os.utime("count.std")
-    if ran([*words, "count.std"], PARTS="parallel", RACEBENCH="./always") != 0:
+    if ran([*command, "count.std"], PARTS="parallel", RACEBENCH="./always") != 0:
         raise Wrong("parallel.sh does not go on after a failure")
     is_one(wanted, "parallel")
     again = [name for name in TRACES if os.stat(f"parallel/{name}").st_mtime_ns != before[name]]
@@ -154,15 +156,15 @@ def judge_parallel(wanted):
 def judge_slurm(wanted):
     judge_names("slurm.sh")
     shutil.rmtree("failed", ignore_errors=True)
-    words = ["sh", os.path.join(FARM, "slurm.sh"), *TRACES.values()]
+    command = ["sh", os.path.join(FARM, "slurm.sh"), *TRACES.values()]
     more = {
         "PARTS": "slurm",
         "RACEBENCH": os.path.abspath("once"),
         "PATH": f"{os.path.abspath('bin')}:{os.environ['PATH']}",
     }
-    if ran(words, **more) != 0 or os.path.exists(os.path.join("slurm", "merged.json")):
+    if ran(command, **more) != 0 or os.path.exists(os.path.join("slurm", "merged.json")):
         raise Wrong("slurm.sh merges although a task was killed")
-    if ran(words, **more) != 0:
+    if ran(command, **more) != 0:
         raise Wrong("slurm.sh does not go on after a failure")
     is_one(wanted, "slurm")
 
@@ -171,19 +173,19 @@ def judge_nodes(wanted, slurm):
     """The same with Slurm itself: two nodes, a task that is killed, a node that is lost, and a part that is made
     twice."""
     shutil.rmtree("failed", ignore_errors=True)
-    words = ["sh", os.path.join(FARM, "slurm.sh"), "count.std", *TRACES.values()]
+    command = ["sh", os.path.join(FARM, "slurm.sh"), "count.std", *TRACES.values()]
     more = {**slurm.environment, "PARTS": "nodes", "RACEBENCH": os.path.abspath("once")}
-    if ran(words, **more) != 0:
+    if ran(command, **more) != 0:
         raise Wrong("slurm.sh does not start its jobs")
     slurm.wait()
     if not os.path.exists("failed") or os.path.exists(os.path.join("nodes", "merged.json")):
         raise Wrong("slurm.sh merges although a task was killed")
-    if ran(words, **more) != 0:
+    if ran(command, **more) != 0:
         raise Wrong("slurm.sh does not go on after a failure")
     slurm.wait()
     is_one(wanted, "nodes")
     more |= {"PARTS": "lost", "RACEBENCH": os.path.abspath("held-once")}
-    if ran(words, **more) != 0:
+    if ran(command, **more) != 0:
         raise Wrong("slurm.sh does not start its jobs")
     slurmed.wait_for("a task to lose", lambda: os.path.exists("held/who"))
     node, task = read("held/who").decode().split()

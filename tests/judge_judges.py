@@ -166,12 +166,12 @@ def gate_ran(folder: pathlib.Path, parts: Parts) -> subprocess.CompletedProcess[
         (folder / "tools" / name).write_text(text, encoding="ascii")
         (folder / "tools" / name).chmod(mode)
     shutil.copy(HERE / "second_tries.py", folder / "tests")
-    words = [sys.executable, "-B", str(shutil.copy(GATE, folder / "tools/test"))]
+    command = [sys.executable, "-B", str(shutil.copy(GATE, folder / "tools/test"))]
     alone = {"PATH": str(folder / "tools")}
-    return subprocess.run(words, capture_output=True, text=True, timeout=LONGEST, check=False, env=alone)
+    return subprocess.run(command, capture_output=True, text=True, timeout=LONGEST, check=False, env=alone)
 
 
-def gate_told(folder: pathlib.Path) -> list[str]:
+def gate_reports(folder: pathlib.Path) -> list[str]:
     """What is wrong with the gate on parts that cannot start."""
     done = gate_ran(folder, PARTS)
     last = done.stdout.splitlines()[-1:]
@@ -181,7 +181,7 @@ def gate_told(folder: pathlib.Path) -> list[str]:
     return [f"it does not say why {part} cannot start" for part in unable if f"\n{part}: " not in done.stdout]
 
 
-def gate_told_again(folder: pathlib.Path) -> list[str]:
+def gate_reports_again(folder: pathlib.Path) -> list[str]:
     """What is wrong with the gate on parts that try cases again."""
     done = gate_ran(folder, AGAIN)
     last = done.stdout.splitlines()[-1:]
@@ -196,7 +196,7 @@ def fails(path: pathlib.Path, times: int) -> None:
         raise judging.Wrong("as it has to")
 
 
-def record_told(folder: pathlib.Path) -> list[str]:
+def record_reports(folder: pathlib.Path) -> list[str]:
     """What is wrong with the recorder's judge on cases that fail never, once, and always."""
     tries = {times: folder / f"tries-{times}" for times in (0, 1, 9)}
     run = judging.Run("", [], [])
@@ -219,19 +219,19 @@ def wrong_program(folder: pathlib.Path, program: str, what: str) -> str:
     return str(path)
 
 
-def told_of(judge: str, program: str, arguments: list[str]) -> list[str]:
+def complaints_of(judge: str, program: str, arguments: list[str]) -> list[str]:
     """What is wrong with the judge on a program that it has to refuse."""
-    words = [sys.executable, "-B", str(HERE / f"{judge}.py"), program, *arguments]
+    command = [sys.executable, "-B", str(HERE / f"{judge}.py"), program, *arguments]
     try:
         done = subprocess.run(
-            words, capture_output=True, timeout=LONGEST, check=False, env={**os.environ, "TMPDIR": os.getcwd()}
+            command, capture_output=True, timeout=LONGEST, check=False, env={**os.environ, "TMPDIR": os.getcwd()}
         )
     except subprocess.TimeoutExpired:
         return [f"it is not done after {LONGEST} seconds"]
-    said = (done.stdout + done.stderr).decode(errors="replace")
+    output = (done.stdout + done.stderr).decode(errors="replace")
     if done.returncode != 1:
-        return [f"status {done.returncode}, and not 1: {said[-300:]}"]
-    return [f"it breaks: {said[-600:]}"] if "Traceback (most recent call last)" in said else []
+        return [f"status {done.returncode}, and not 1: {output[-300:]}"]
+    return [f"it breaks: {output[-600:]}"] if "Traceback (most recent call last)" in output else []
 
 
 def cases_of(run: judging.Run, judges: list[str]) -> list[tuple[str, str, list[str]]]:
@@ -246,14 +246,14 @@ def judged(run: judging.Run) -> None:
     judges = [name for name in names if not run.texts or name in run.texts]
     cases = cases_of(run, judges)
     with concurrent.futures.ThreadPoolExecutor(len(os.sched_getaffinity(0))) as pool:
-        for case, wrong in zip(cases, pool.map(told_of, *zip(*cases))):
+        for case, wrong in zip(cases, pool.map(complaints_of, *zip(*cases))):
             judge, program, arguments = case
             run.case(f"{judge}, {os.path.basename(program)} {' '.join(arguments)}", wrong)
     if not run.texts or "gate" in run.texts:
         folder = pathlib.Path.cwd()
-        run.case("the gate, on parts that cannot start", gate_told(folder / "gate"))
-        run.case("the gate, on parts that try cases again", gate_told_again(folder / "again"))
-        run.case("the recorder's judge, on cases that fail", record_told(folder))
+        run.case("the gate, on parts that cannot start", gate_reports(folder / "gate"))
+        run.case("the gate, on parts that try cases again", gate_reports_again(folder / "again"))
+        run.case("the recorder's judge, on cases that fail", record_reports(folder))
 
 
 if __name__ == "__main__":

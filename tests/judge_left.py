@@ -59,7 +59,7 @@ REACHED = [
 
 def places_of(pair):
     """The two locations of a pair, the lesser first."""
-    return tuple(sorted(access["location"].encode() for access in pair.told["accesses"]))
+    return tuple(sorted(access["location"].encode() for access in pair.row["accesses"]))
 
 
 def named_in(text):
@@ -71,14 +71,14 @@ def named_in(text):
         elif lines is not None and line.startswith("  ") and not line.startswith("   "):
             lines.append(line.strip(" \t\r"))
             if len(lines) == 2:
-                found.add(tuple(sorted(told.split("|", 2)[2].strip(" \t\r").encode() for told in lines)))
+                found.add(tuple(sorted(line.split("|", 2)[2].strip(" \t\r").encode() for line in lines)))
                 lines = None
     return found
 
 
 def is_about(entry, pair, parts):
     """Whether the entry is about the races of a pair: each race is on one variable, which the entry names."""
-    one, other = (access["location"] for access in pair.told["accesses"])
+    one, other = (access["location"] for access in pair.row["accesses"])
     fits = judge_triage_file.fits
     if not (fits(entry, 0, one) and fits(entry, 1, other) or fits(entry, 0, other) and fits(entry, 1, one)):
         return False
@@ -106,23 +106,23 @@ class Wanted:
         self.hide = [drawn_word(chance, pairs) for _ in range(chance.choice([0, 0, 1, 2]))]
         self.seen = seen
 
-    def words(self):
+    def arguments(self):
         """The flags, after the files that they name were written."""
-        words = [word for text in self.only for word in ("--only", text)]
-        words += [word for text in self.hide for word in ("--hide", text)]
+        arguments = [word for text in self.only for word in ("--only", text)]
+        arguments += [word for text in self.hide for word in ("--hide", text)]
         if self.known is not None:
             judge_merge.write("known.txt", self.known.encode())
-            words += ["--known", "known.txt"]
+            arguments += ["--known", "known.txt"]
         if self.entries is not None:
             judge_merge.write("triage.toml", judge_triage_file.text_of(self.entries).encode())
-            words += ["--triage", "triage.toml", "--today", DAY]
-        return words
+            arguments += ["--triage", "triage.toml", "--today", DAY]
+        return arguments
 
     def keeps(self, pair):
         """Whether the filters keep the block of a pair."""
         lines = [
             f"{access['thread']}|{access['operation']}({access['variable']})|{access['location']}"
-            for access in pair.told["accesses"]
+            for access in pair.row["accesses"]
         ]
 
         def has(text):
@@ -149,8 +149,8 @@ class Wanted:
         self.seen["hidden"] += len(kept) > len(stay) and bool(self.hide)
         self.seen["only"] += len(kept) > len(stay) and bool(self.only)
         self.seen["known alone"] += bool(known) and all(pair.rank for pair in stay)
-        told = self.known is not None or self.entries is not None
-        return stay, len(known) if told else None, len(kept) - len(stay) if self.only or self.hide else None
+        counts_known = self.known is not None or self.entries is not None
+        return stay, len(known) if counts_known else None, len(kept) - len(stay) if self.only or self.hide else None
 
     def notes(self, parts):
         """What standard error must have."""
@@ -161,7 +161,7 @@ class Wanted:
             bare = {key: value for key, value in entry.items() if key != "variables"}
             near = [pair for pair in races if is_about(bare, pair, parts)] if not met else []
             self.seen["other variable"] += bool(near)
-            self.seen["several variables"] += any(pair.told["variables"] > 1 for pair in near)
+            self.seen["several variables"] += any(pair.row["variables"] > 1 for pair in near)
             if entry["verdict"] == "fixed" and met:
                 lines.append(f"racebench: triage.toml: entry {number} says fixed, and there is a race\n")
                 self.seen["fixed"] += 1
@@ -178,9 +178,9 @@ def known_text(chance, pairs):
     """A text with the blocks of some pairs, of which some say that they are races."""
     blocks = []
     for pair in chance.sample(pairs, chance.randint(0, len(pairs))):
-        told = dict(pair.told)
-        accesses = chance.sample(told["accesses"], 2)
-        head, *lines = plain.block({**told, "accesses": accesses})
+        row = dict(pair.row)
+        accesses = chance.sample(row["accesses"], 2)
+        head, *lines = plain.block({**row, "accesses": accesses})
         if chance.random() < 0.3:
             head = "race " + head
         blocks.append("\n".join([head, *lines, *chance.choice([[], ["    part b.json"], ["known 3"]])]) + "\n")
@@ -191,7 +191,7 @@ def drawn_entry(chance, pairs):
     """An entry that resembles a pair, or anything."""
     pair = chance.choice(pairs) if pairs and chance.random() < 0.9 else None
     accesses = (
-        pair.told["accesses"] if pair else [{"location": place} for place in chance.sample(judge_merge.PLACES, 2)]
+        pair.row["accesses"] if pair else [{"location": place} for place in chance.sample(judge_merge.PLACES, 2)]
     )
     locations = [access["location"] for access in accesses]
     sides = [side_of(location) for location in locations]
@@ -211,7 +211,7 @@ def drawn_word(chance, pairs):
     """A text that a block may have."""
     if not pairs:
         return "x"
-    access = chance.choice(chance.choice(pairs).told["accesses"])
+    access = chance.choice(chance.choice(pairs).row["accesses"])
     return chance.choice(["(x)", "T1|", "w(", access["location"][:5] or "T2", access["variable"], "nowhere"])
 
 
@@ -221,14 +221,14 @@ class Judge(judge_merge.Judge):
         self.sarif = judge_merged_sarif.Judge(run.program)
         self.sarif.tally = collections.Counter()
 
-    def ends(self, words, status, out, err):
+    def ends(self, arguments, status, out, err):
         """The program ends so."""
-        found = running.ended(self.program, words)
+        found = running.ended(self.program, arguments)
         if found != (status, out, err):
-            said, wanted = (found[1] + found[2]).decode(), (out + err).decode()
-            raise Wrong(f"{words} ends with {found[0]}, and prints\n{said}and not\n{wanted}")
+            printed, wanted = (found[1] + found[2]).decode(), (out + err).decode()
+            raise Wrong(f"{arguments} ends with {found[0]}, and prints\n{printed}and not\n{wanted}")
 
-    def texts(self, parts, wanted, words):
+    def texts(self, parts, wanted, arguments):
         """The text, with its notes and its status."""
         stay, known, hidden = wanted.left(parts)
         races = any(pair.rank == 0 for pair in stay)
@@ -237,16 +237,16 @@ class Judge(judge_merge.Judge):
         for flags in [[], ["--apart"], ["--fail"]]:
             text = plain.merged_of(stay, len(parts), "--apart" in flags) + tail
             status, line = judge_merge.failed(parts, races) if flags == ["--fail"] else (0, b"")
-            self.ends(["merge", *parts, *words, *flags], status, text.encode(), wanted.notes(parts) + line)
+            self.ends(["merge", *parts, *arguments, *flags], status, text.encode(), wanted.notes(parts) + line)
             self.seen["no events"] += status == 4
         self.seen["failed" if races else "not failed"] += 1
 
-    def lines(self, parts, wanted, words):
+    def lines(self, parts, wanted, arguments):
         """The JSON: what stays, how much is left out, and all parts whole."""
         stay, known, hidden = wanted.left(parts)
         head = {"kind": "merged", "parts": len(parts), "pairs": len(stay), "version": 1}
         head |= {name: count for name, count in [("known", known), ("hidden", hidden)] if count is not None}
-        _, out, err = running.ended(self.program, ["merge", *parts, *words, "--json"])
+        _, out, err = running.ended(self.program, ["merge", *parts, *arguments, "--json"])
         objects = [json.loads(line) for line in out.decode().splitlines()]
         if err != wanted.notes(parts) or not out.startswith(judge_merge.line(head).encode()):
             raise Wrong(f"the first line is {objects[0]} and not {head}; {err.decode()}")
@@ -266,33 +266,33 @@ class Judge(judge_merge.Judge):
             raise Wrong("what was left out is not there when the report is merged again")
         self.seen["merged again"] += 1
 
-    def logs(self, parts, wanted, words):
+    def logs(self, parts, wanted, arguments):
         """The log: a result for each pair that stays, and how much is left out."""
         stay, known, hidden = wanted.left(parts)
         left = {name: count for name, count in [("known", known), ("hidden", hidden)] if count is not None}
         for flags, folder in [([], ""), (["--apart"], ""), (["--apart"], "code")]:
             code = ["--source", folder] if folder else []
-            _, out, err = running.ended(self.program, ["merge", *parts, *words, *flags, "--sarif", *code])
+            _, out, err = running.ended(self.program, ["merge", *parts, *arguments, *flags, "--sarif", *code])
             if err != wanted.notes(parts):
                 raise Wrong(f"with the log standard error has {err.decode()}")
             shown = [pair for pair in stay if flags or pair.rank < 2]
             self.sarif.check_run(json.loads(out)["runs"][0], parts, shown, folder, left)
         self.seen["line of code"] = self.sarif.tally["line of code"]
 
-    def pages(self, parts, wanted, words):
+    def pages(self, parts, wanted, arguments):
         """The page: a row for each pair that stays, and how much is left out."""
         stay, known, hidden = wanted.left(parts)
-        said = f"; {compiled.counted(known, 'known race')} left out" if known is not None else ""
+        counts = f"; {compiled.counted(known, 'known race')} left out" if known is not None else ""
         if hidden is not None:
-            said += f"; {compiled.counted(hidden, 'pair')} left out by --only and --hide"
-        self.page([*parts, *words], parts, stay, said)
+            counts += f"; {compiled.counted(hidden, 'pair')} left out by --only and --hide"
+        self.page([*parts, *arguments], parts, stay, counts)
         self.seen["page without a race"] += bool(known) and all(pair.rank for pair in stay)
 
-    def printed(self, words):
+    def printed(self, arguments):
         """As in judge_merge, except for the notes."""
-        status, out, err = running.ended(self.program, ["merge", *words])
+        status, out, err = running.ended(self.program, ["merge", *arguments])
         if status != 0 or any(not line.startswith(b"racebench: ") for line in err.splitlines()):
-            raise Wrong(f"merge {words} ends with {status}: {err.decode()}")
+            raise Wrong(f"merge {arguments} ends with {status}: {err.decode()}")
         return out
 
     def windows(self, chance):
@@ -303,8 +303,8 @@ class Judge(judge_merge.Judge):
         objects = [json.loads(line) for line in report.splitlines()]
         texts = {part["name"]: part["text"] for part in objects if part["kind"] == "part"}
         parts = {name: [json.loads(line) for line in text.splitlines()] for name, text in texts.items()}
-        words = Wanted(chance, parts, self.seen).words()
-        if not words:
+        arguments = Wanted(chance, parts, self.seen).arguments()
+        if not arguments:
             return
         code = ["--sarif", "--source", "code"]
         for flags in [[], ["--apart"], ["--json"], ["--page"], ["--sarif"], code, ["--fail"]]:
@@ -313,14 +313,16 @@ class Judge(judge_merge.Judge):
                 judge_merge.write("windows.json", apart)
             else:
                 judge_merge.write("windows.json", report)
-            status, out, err = running.ended(self.program, ["triage", "trace", most, *words, *flags])
-            wanted = running.ended(self.program, ["merge", "windows.json", *words, *flags])
+            status, out, err = running.ended(self.program, ["triage", "trace", most, *arguments, *flags])
+            wanted = running.ended(self.program, ["merge", "windows.json", *arguments, *flags])
             if flags in ([], ["--apart"], ["--fail"]):
                 out = out.split(b"\n", 4)[4]
             wanted = (*wanted[:2], wanted[2].replace(b": no part has events:", b": the trace has no events:"))
             if (status, out, err) != wanted:
-                said = (out + err).decode()
-                raise Wrong(f"triage {most} {words} {flags} ends with {status}, and prints\n{said}and not\n{wanted}")
+                printed = (out + err).decode()
+                raise Wrong(
+                    f"triage {most} {arguments} {flags} ends with {status}, and prints\n{printed}and not\n{wanted}"
+                )
         self.seen["windows"] += 1
 
     def judge(self, seed):
@@ -329,12 +331,12 @@ class Judge(judge_merge.Judge):
         write_code()
         for _ in range(3):
             wanted = Wanted(chance, parts, self.seen)
-            words = wanted.words()
-            if words:
-                self.texts(parts, wanted, words)
-                self.lines(parts, wanted, words)
-                self.logs(parts, wanted, words)
-                self.pages(parts, wanted, words)
+            arguments = wanted.arguments()
+            if arguments:
+                self.texts(parts, wanted, arguments)
+                self.lines(parts, wanted, arguments)
+                self.logs(parts, wanted, arguments)
+                self.pages(parts, wanted, arguments)
         self.windows(chance)
 
 

@@ -115,7 +115,7 @@ def tool(name: str) -> ModuleType:
 def complaints_without(rules: ModuleType, missing: list[str], left_out: set[str]) -> tuple[dict[str, list[str]], str]:
     """What the tools complain of if these are missing and the others find nothing, and what is printed."""
     rules.missing_tools = lambda: missing  # type: ignore[attr-defined]
-    rules.complaints = lambda *words: []  # type: ignore[attr-defined]
+    rules.complaints = lambda *command: []  # type: ignore[attr-defined]
     printed = io.StringIO()
     with contextlib.redirect_stdout(printed):
         found = dict(rules.by_tools(left_out))
@@ -126,8 +126,8 @@ def judge_promises(run: judging.Run) -> None:
     promises = tool("promises")
     calls = promises.Reader(CALLS).calls
     texts = [promises.promise(call, [], set()) for call in calls]
-    said = tuple((call.label(), text, promises.only_named(call, text)) for call, text in zip(calls, texts))
-    run.case("promises", [] if said == SAID else [f"{said}, and not {SAID}"])
+    found = tuple((call.label(), text, promises.only_named(call, text)) for call, text in zip(calls, texts))
+    run.case("promises", [] if found == SAID else [f"{found}, and not {SAID}"])
 
 
 def judge_keys(run: judging.Run) -> None:

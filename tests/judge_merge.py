@@ -67,37 +67,37 @@ def access(chance, place):
 
 def row(chance, places):
     kind = chance.choice(plain.RANKS)
-    told = {"accesses": [access(chance, place) for place in places], "kind": kind, "pairs": chance.randint(1, 9)}
+    found = {"accesses": [access(chance, place) for place in places], "kind": kind, "pairs": chance.randint(1, 9)}
     if kind != "apart":
-        told["variables"] = chance.randint(1, 3)
+        found["variables"] = chance.randint(1, 3)
     if kind == "race":
-        told |= {
+        found |= {
             "events": chance.randint(0, 4),
             "how": chance.choice(["candidate", "beyond", "turned"]),
             "threads": chance.randint(2, 3),
         }
     if kind == "undecided":
-        told["tried"] = chance.randint(0, 16)
-    return told
+        found["tried"] = chance.randint(0, 16)
+    return found
 
 
 def part(chance):
     """The objects of a part."""
     pairs = [(one, other) for one in PLACES for other in PLACES if one <= other]
     rows = [row(chance, chance.sample(pair, 2)) for pair in chance.sample(pairs, chance.choice([0, 1, 2, 5, 12]))]
-    rows.sort(key=lambda told: plain.RANKS.index(told["kind"]))
+    rows.sort(key=lambda one: plain.RANKS.index(one["kind"]))
     counts = {
-        word: sum(told["kind"] == kind for told in rows)
+        word: sum(one["kind"] == kind for one in rows)
         for word, kind in [("races", "race"), ("undecided", "undecided"), ("apart", "apart")]
     }
     if chance.random() < 0.2:
-        rows = [told for told in rows if told["kind"] != "apart"]
+        rows = [one for one in rows if one["kind"] != "apart"]
     events = 0 if not rows and chance.random() < 0.9 else chance.randint(0, 99)
     return [{"kind": "counts", "events": events, "threads": 3, **counts}, *rows]
 
 
-def line(told):
-    return json.dumps(told, sort_keys=True, separators=(",", ":"), ensure_ascii=False) + "\n"
+def line(row):
+    return json.dumps(row, sort_keys=True, separators=(",", ":"), ensure_ascii=False) + "\n"
 
 
 def write(name, text):
@@ -105,34 +105,34 @@ def write(name, text):
         out.write(text)
 
 
-def outcome_of(told):
+def outcome_of(row):
     """What the page says of a row in short."""
-    if told["kind"] == "race":
-        return f"{told['how']}, a schedule with events: {told['events']}, threads: {told['threads']}"
-    return f"undecided, tried: {told['tried']}" if told["kind"] == "undecided" else "apart"
+    if row["kind"] == "race":
+        return f"{row['how']}, a schedule with events: {row['events']}, threads: {row['threads']}"
+    return f"undecided, tried: {row['tried']}" if row["kind"] == "undecided" else "apart"
 
 
 def row_of(pair, parts):
     """The texts of a row of the page: its title, its facts, its two accesses, and what the parts say."""
-    told, counts, name = pair.told, pair.counts, pair.part
+    row, counts, name = pair.row, pair.counts, pair.part
     uses = [
         f"{'read' if access['operation'] == 'r' else 'write'} at {access['location'].split(' < ')[0]}"
-        for access in told["accesses"]
+        for access in row["accesses"]
     ]
-    first, second = (access["event"] for access in told["accesses"])
+    first, second = (access["event"] for access in row["accesses"])
     accesses = [
         (
             access["event"],
             f"{access['thread']}|{access['operation']}({access['variable']})|{access['location']}",
             access["holds"],
         )
-        for access in told["accesses"]
+        for access in row["accesses"]
     ]
     races, undecided, apart = counts
     tally = f"Race: {races}, undecided: {undecided}, apart: {apart}, not met: {len(parts) - sum(counts)}."
     return (
-        f"{told['accesses'][0]['variable']}: {uses[0]}, {uses[1]}",
-        f"Events {first} and {second}: {outcome_of(told)}",
+        f"{row['accesses'][0]['variable']}: {uses[0]}, {uses[1]}",
+        f"Events {first} and {second}: {outcome_of(row)}",
         accesses,
         [tally, f"This row is of the part {name}."],
     )
@@ -147,7 +147,7 @@ def row_in(details):
         summary.one("h3").text(),
         " ".join(facts),
         [judge_page.access_of(line, lambda locks: "".join(f"{lock} " for lock in locks)) for line in lines],
-        [words.text() for words in details.all("p")],
+        [paragraph.text() for paragraph in details.all("p")],
     )
 
 
@@ -164,14 +164,15 @@ class Judge:
     def __init__(self, run):
         self.program, self.seen = run.program, run.tally
 
-    def printed(self, words):
-        return running.printed(self.program, ["merge", *words])
+    def printed(self, arguments):
+        return running.printed(self.program, ["merge", *arguments])
 
-    def refused(self, words, text):
+    def refused(self, arguments, text):
         """The arguments lead to this fault, and nothing is written before it."""
-        if running.ended(self.program, ["merge", *words]) != (1, b"", f"racebench: {text}\n".encode()):
+        if running.ended(self.program, ["merge", *arguments]) != (1, b"", f"racebench: {text}\n".encode()):
             raise Wrong(
-                f"merge {words} does not end with `{text}`, but {running.ended(self.program, ['merge', *words])}"
+                f"merge {arguments} does not end with `{text}`, "
+                f"but {running.ended(self.program, ['merge', *arguments])}"
             )
         self.seen["refused"] += 1
 
@@ -182,7 +183,7 @@ class Judge:
             if seed % 3 == 0:
                 running.write("trace", by_chance.trace(chance, chance.choice([8, 14])).text())
                 text = running.printed(self.program, ["triage", "trace", "--json", *chance.choice([[], ["--apart"]])])
-                parts[name] = [json.loads(told) for told in text.splitlines()]
+                parts[name] = [json.loads(row) for row in text.splitlines()]
                 write(name, text)
                 self.seen["triage"] += 1
             else:
@@ -191,32 +192,32 @@ class Judge:
 
     def note(self, parts):
         for objects in parts.values():
-            self.seen.update(told["kind"] for told in objects[1:])
-            self.seen["no parts apart"] += objects[0]["apart"] > sum(told["kind"] == "apart" for told in objects[1:])
+            self.seen.update(row["kind"] for row in objects[1:])
+            self.seen["no parts apart"] += objects[0]["apart"] > sum(row["kind"] == "apart" for row in objects[1:])
         met = collections.Counter(
-            tuple(sorted(access["location"] for access in told["accesses"]))
+            tuple(sorted(access["location"] for access in row["accesses"]))
             for objects in parts.values()
-            for told in objects[1:]
+            for row in objects[1:]
         )
         self.seen["least"] += any(count > 1 for count in met.values())
         self.seen["unmet"] += any(count < len(parts) for count in met.values())
 
-    def same(self, words, parts):
+    def same(self, arguments, parts):
         """Both texts for these arguments are those of the parts."""
         for flags in [[], ["--apart"]]:
             wanted = plain.merged(parts, bool(flags)).encode()
-            found = self.printed([*words, *flags])
+            found = self.printed([*arguments, *flags])
             if found != wanted:
-                raise Wrong(f"merge {words} {flags} prints\n{found.decode()}and not\n{wanted.decode()}")
+                raise Wrong(f"merge {arguments} {flags} prints\n{found.decode()}and not\n{wanted.decode()}")
 
-    def page(self, words, parts, pairs=None, left=""):
+    def page(self, arguments, parts, pairs=None, left=""):
         """The page for these arguments has the rows of all pairs of the parts, or of `pairs`, and names what was left
         out."""
         with_apart = bool(self.seen["page"] % 2)
-        found = self.printed([*words, "--page", *(["--apart"] if with_apart else [])])
+        found = self.printed([*arguments, "--page", *(["--apart"] if with_apart else [])])
         root = judge_page.read(found)
         pairs = plain.merged_pairs(parts) if pairs is None else pairs
-        kinds = [pair.told["kind"] for pair in pairs]
+        kinds = [pair.row["kind"] for pair in pairs]
         races, count = kinds.count("race"), len(parts)
         begin = f"{races or 'No'} race{'' if races == 1 else 's'} in {count} part{'' if count == 1 else 's'}{left}"
         if root.one("h1").text() != begin or root.one("title").text() != begin:
@@ -227,7 +228,7 @@ class Judge:
             raise Wrong("the page has other sections")
         for section, kind in zip(sections, plain.RANKS):
             rows = [row_in(details) for details in section.all("details")]
-            wanted = [row_of(pair, parts) for pair in pairs if pair.told["kind"] == kind]
+            wanted = [row_of(pair, parts) for pair in pairs if pair.row["kind"] == kind]
             if kind != "apart" or with_apart:
                 if rows != wanted:
                     raise Wrong(f"the page has the rows {rows} and not {wanted}")
@@ -261,8 +262,8 @@ class Judge:
 
     def judge_refusals(self, chance, parts):
         name = chance.choice(list(parts))
-        with open(name, "rb") as given:
-            text = given.read()
+        with open(name, "rb") as source:
+            text = source.read()
         objects = parts[name]
         ends = [place + 1 for place in range(len(text) - 1) if text[place : place + 1] == b"\n"]
         at = chance.choice(ends) if ends and chance.random() < 0.5 else chance.randrange(len(text))
@@ -270,10 +271,10 @@ class Judge:
         kept = objects[:lines]
         write("cut", text[:at])
         whole = text[:at].endswith(b"\n") and all(
-            sum(told["kind"] == kind for told in kept) == objects[0][word]
+            sum(row["kind"] == kind for row in kept) == objects[0][word]
             for word, kind in [("races", "race"), ("undecided", "undecided")]
         )
-        if whole and not any(told["kind"] == "apart" for told in kept):
+        if whole and not any(row["kind"] == "apart" for row in kept):
             self.same(["cut"], {"cut": kept})
         else:
             self.refused(["cut"], f"cut line {lines + 1}: no line of a report")
@@ -306,8 +307,8 @@ class Judge:
         self.refused(["cut"], f"cut line {number}: no line of a report")
         lines = whole.decode().splitlines(keepends=True)
         index = chance.randint(1, len(names))
-        told = json.loads(lines[index])
-        lines[index] = line({**told, "text": told["text"][:-1]})
+        row = json.loads(lines[index])
+        lines[index] = line({**row, "text": row["text"][:-1]})
         write("spoiled", "".join(lines).encode())
         self.refused(["spoiled"], f"spoiled line {index + 1}: no line of a report")
         self.seen["spoiled"] += 1
@@ -340,16 +341,16 @@ class Judge:
     def judge_absent(self, chance, parts, races):
         """Judges the report if some parts say that their recordings are not whole, by the one if none does."""
         form = chance.choice(["", "--page", "--sarif"])
-        words = [*parts, *[form] * bool(form)]
-        plain_report = self.printed(words)
+        arguments = [*parts, *[form] * bool(form)]
+        plain_report = self.printed(arguments)
         names = chance.sample(list(parts), chance.randint(1, len(parts)))
         texts = {name: pathlib.Path(name).read_bytes() for name in names}
         for name, text in texts.items():
-            write(name, missing.said("--json", chance.choice(missing.ENDS[2:])[1], text))
+            write(name, missing.missing_line("--json", chance.choice(missing.ENDS[2:])[1], text))
         absent = f"{len(names)} of {len(parts)} part" + "s" * (len(parts) != 1)
-        status, out, err = running.ended(self.program, ["merge", *words, "--fail"])
-        if missing.sorted_log(form, absent, out) != missing.said(form, absent, plain_report):
-            raise Wrong(f"{words} with {absent} not whole prints {out!r}")
+        status, out, err = running.ended(self.program, ["merge", *arguments, "--fail"])
+        if missing.sorted_log(form, absent, out) != missing.missing_line(form, absent, plain_report):
+            raise Wrong(f"{arguments} with {absent} not whole prints {out!r}")
         _, line = failed(parts, races)
         line += b"" if races else f"racebench: not whole: {absent}\n".encode()
         if (status, err) != (3 if races else 4, line):

@@ -51,11 +51,11 @@ REACHED = [
 class Access(judge_sarif.Event):
     """An access of a row."""
 
-    def __init__(self, told):
-        self.thread, self.word, self.name = told["thread"], told["operation"], told["variable"]
-        self.location = told["location"]
+    def __init__(self, fields):
+        self.thread, self.word, self.name = fields["thread"], fields["operation"], fields["variable"]
+        self.location = fields["location"]
 
-    def words(self):
+    def text(self):
         verb = {"r": "reads", "w": "writes"}.get(self.word, self.word)
         return f"{self.thread} {verb} {self.name} at {self.place() or '?'}"
 
@@ -76,12 +76,12 @@ def print_of(accesses, root):
 def message_of(pair, accesses, parts):
     """What a result has to say of a pair of places."""
     first, second = accesses
-    kind = pair.told["kind"]
+    kind = pair.row["kind"]
     found = f"{judge_sarif.FOUND[kind]} on {second.name}"
-    head = f"{found}: {second.words()}, and {first.words()}; {compiled.why(pair.told)}"
+    head = f"{found}: {second.text()}, and {first.text()}; {compiled.why(pair.row)}"
     races, undecided, apart = pair.counts
     tally = f"Of {compiled.counted(parts, 'part')}, race in {races}, undecided in {undecided}, apart in {apart}"
-    events = " and ".join(str(access["event"]) for access in pair.told["accesses"])
+    events = " and ".join(str(access["event"]) for access in pair.row["accesses"])
     origin = f"{'Shortest schedule' if kind == 'race' else 'Shown'}: events {events} of part {pair.part}"
     is_window = pair.part.split(" ")[-2:-1] == ["--window"]
     return f"{head}. {tally}. {origin}" + (f". Window: racebench cut {pair.part}" if is_window else "")
@@ -89,12 +89,12 @@ def message_of(pair, accesses, parts):
 
 class Judge(judge_sarif.Judge):
     def check_pair(self, result, pair, parts, root):
-        kind = pair.told["kind"]
+        kind = pair.row["kind"]
         self.tally[kind] += 1
         self.tally["several parts"] += sum(pair.counts) > 1
         self.tally["window" if "Window:" in result["message"]["text"] else "no window"] += 1
         self.equal((result["ruleId"], result["kind"], result["level"]), judge_sarif.RULES[kind], "the rule")
-        accesses = first, second = [Access(told) for told in pair.told["accesses"]]
+        accesses = first, second = [Access(access) for access in pair.row["accesses"]]
         self.tally["other verb"] += first.word not in "rw"
         self.equal(result["message"]["text"], message_of(pair, accesses, parts), "the message")
         self.check_access(result["locations"][0], second, root)
@@ -108,8 +108,8 @@ class Judge(judge_sarif.Judge):
         self.equal(print_, print_of(accesses, root), "the fingerprint")
         self.tally["line of code"] += root is not None and any(line.endswith(";") for line in print_.split("\n"))
 
-    def run_of(self, words):
-        out = running.printed(self.program, words)
+    def run_of(self, arguments):
+        out = running.printed(self.program, arguments)
         self.equal((out[-1:], out.count(b"\n")), (b"\n", 1), "the end of the log")
         log = json.loads(out.decode("utf-8"))
         sarif_rules.check(log)
@@ -148,8 +148,8 @@ class Judge(judge_sarif.Judge):
         """Writes a part of this name, and answers its objects."""
         if seed % 2:
             objects = judge_merge.part(chance)
-            for told in objects[1:]:
-                told["accesses"][0]["operation"] = chance.choice(["r", "w", "frees"])
+            for row in objects[1:]:
+                row["accesses"][0]["operation"] = chance.choice(["r", "w", "frees"])
             judge_merge.write(name, "".join(map(judge_merge.line, objects)).encode())
             return objects
         with open("trace", "w", encoding="utf-8") as out:
@@ -158,7 +158,7 @@ class Judge(judge_sarif.Judge):
         judge_merge.write(name, text)
         for folder in ("", "code"):
             self.check_same(name, folder)
-        return [json.loads(told) for told in text.splitlines()]
+        return [json.loads(row) for row in text.splitlines()]
 
     def judge(self, seed):
         chance = random.Random(seed)

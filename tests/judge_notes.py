@@ -103,23 +103,23 @@ def runs():
     for word, usage in USAGES.items():
         line = f"7 {word}" + " A 0 B 1" * (word in ("undo", "list"))
         running.write(f"script_{word}", f"\n{line}\n")
-        told = (
+        notes = (
             f"note: line 2 of script_{word} is `{line}`\nnote: the command is `{word}`\nnote: it is written "
             f"`{usage}`\n"
         )
-        scripts.append((["replay", "good", f"script_{word}"], "racebench: script line 2: 81 bad word\n", told))
+        scripts.append((["replay", "good", f"script_{word}"], "racebench: script line 2: 81 bad word\n", notes))
     return RUNS + scripts
 
 
-def user_of(words):
+def user_of(arguments):
     """What makes a run on files that may not be read that of a user for whom it is so."""
-    is_shut = any(word in SHUT for word in words)
+    is_shut = any(word in SHUT for word in arguments)
     return {"user": 65534, "group": 65534, "extra_groups": []} if is_shut and os.geteuid() == 0 else {}
 
 
-def off_terminal(words, line, notes):
+def off_terminal(arguments, line, notes):
     """What is written off a terminal if the environment does not decide."""
-    return line if not words or words[0] in QUIET else line + notes
+    return line if not arguments or arguments[0] in QUIET else line + notes
 
 
 def environment(value):
@@ -128,29 +128,29 @@ def environment(value):
     return kept if value is None else {**kept, "RACEBENCH_NOTES": value}
 
 
-def through_pipe(program, words, value):
+def through_pipe(program, arguments, value):
     done = subprocess.run(
-        [program, *words],
+        [program, *arguments],
         stdin=subprocess.DEVNULL,
         capture_output=True,
         env=environment(value),
         timeout=running.PATIENCE,
         check=False,
-        **user_of(words),
+        **user_of(arguments),
     )
     return done.stderr.decode("ascii")
 
 
-def on_terminal(program, words):
+def on_terminal(program, arguments):
     mine, theirs = os.openpty()
     tty.setraw(theirs)
     with subprocess.Popen(
-        [program, *words],
+        [program, *arguments],
         stdin=subprocess.DEVNULL,
         stdout=subprocess.DEVNULL,
         stderr=theirs,
         env=environment(None),
-        **user_of(words),
+        **user_of(arguments),
     ) as run:
         os.close(theirs)
         shown = b""
@@ -175,11 +175,11 @@ def output_of(how):
     return None
 
 
-def through_output(program, words, how, value):
+def through_output(program, arguments, how, value):
     """Standard error, if standard output is of this kind."""
     output = output_of(how)
     done = subprocess.run(
-        [program, *words],
+        [program, *arguments],
         input=b"1 list\n",
         stdout=subprocess.PIPE if output is None else output,
         stderr=subprocess.PIPE,
@@ -187,7 +187,7 @@ def through_output(program, words, how, value):
         timeout=running.PATIENCE,
         check=False,
         preexec_fn=(lambda: os.close(1)) if how == "nothing" else None,
-        **user_of(words),
+        **user_of(arguments),
     )
     if output is not None:
         os.close(output)
@@ -196,12 +196,12 @@ def through_output(program, words, how, value):
 
 def judge_unwritten(program, tally):
     """Judges the notes on what was not written."""
-    for words, how, note in UNWRITTEN:
-        told, noted = "racebench: write failed\n", f"note: {note}\n"
-        judge(words, f"with {how} and no notes", through_output(program, words, how, "0"), told)
-        usual = off_terminal(words, told, noted)
-        judge(words, f"with {how}, by default", through_output(program, words, how, None), usual)
-        judge(words, f"with {how}", through_output(program, words, how, "1"), told + noted)
+    for arguments, how, note in UNWRITTEN:
+        fault, noted = "racebench: write failed\n", f"note: {note}\n"
+        judge(arguments, f"with {how} and no notes", through_output(program, arguments, how, "0"), fault)
+        usual = off_terminal(arguments, fault, noted)
+        judge(arguments, f"with {how}, by default", through_output(program, arguments, how, None), usual)
+        judge(arguments, f"with {how}", through_output(program, arguments, how, "1"), fault + noted)
         tally["unwritten"] += 1
 
 
@@ -220,8 +220,8 @@ def make_files(program):
     os.mkdir("held")
     os.chmod("held", 0o555)
     for log, mode in (("kept", 0o444), ("log", 0o666)):
-        words = [program, "session", "good", log]
-        subprocess.run(words, stdin=subprocess.DEVNULL, timeout=running.PATIENCE, check=False)
+        command = [program, "session", "good", log]
+        subprocess.run(command, stdin=subprocess.DEVNULL, timeout=running.PATIENCE, check=False)
         os.chmod(log, mode)
 
 
@@ -229,18 +229,18 @@ def judge_reading(program):
     """Judges the note on what is read from a terminal, before its end comes, and that it needs a terminal."""
     mine, theirs = os.openpty()
     os.write(mine, b"\x04")
-    given = {"stdout": subprocess.DEVNULL, "stderr": subprocess.PIPE, "timeout": running.PATIENCE, "check": False}
+    options = {"stdout": subprocess.DEVNULL, "stderr": subprocess.PIPE, "timeout": running.PATIENCE, "check": False}
     for value, wanted in ((None, ""), ("1", READING + NO_SCRIPT)):
-        done = subprocess.run([program], stdin=theirs, env=environment(value), **given)
+        done = subprocess.run([program], stdin=theirs, env=environment(value), **options)
         judge([], f"on a terminal, with RACEBENCH_NOTES {value!r}", done.stderr.decode("ascii"), wanted)
         os.write(mine, b"\x04")
     os.close(mine)
     os.close(theirs)
 
 
-def judge(words, how, shown, wanted):
+def judge(arguments, how, shown, wanted):
     if shown != wanted:
-        raise Wrong(f"{words} {how} writes {shown!r}, and not {wanted!r}")
+        raise Wrong(f"{arguments} {how} writes {shown!r}, and not {wanted!r}")
 
 
 def judged(run):
@@ -249,13 +249,13 @@ def judged(run):
     os.chmod(program, 0o755)
     os.chmod(".", 0o755)
     make_files(program)
-    for words, line, notes in runs():
-        judge(words, "with RACEBENCH_NOTES 0", through_pipe(program, words, "0"), line)
-        usual = off_terminal(words, line, notes)
+    for arguments, line, notes in runs():
+        judge(arguments, "with RACEBENCH_NOTES 0", through_pipe(program, arguments, "0"), line)
+        usual = off_terminal(arguments, line, notes)
         for value in (None, "", "11"):
-            judge(words, f"with RACEBENCH_NOTES {value!r}", through_pipe(program, words, value), usual)
-        judge(words, "with RACEBENCH_NOTES 1", through_pipe(program, words, "1"), line + notes)
-        judge(words, "on a terminal", on_terminal(program, words), line + notes)
+            judge(arguments, f"with RACEBENCH_NOTES {value!r}", through_pipe(program, arguments, value), usual)
+        judge(arguments, "with RACEBENCH_NOTES 1", through_pipe(program, arguments, "1"), line + notes)
+        judge(arguments, "on a terminal", on_terminal(program, arguments), line + notes)
         run.tally["runs"] += 1
     judge_unwritten(program, run.tally)
     judge_reading(program)

@@ -27,15 +27,15 @@ COMMANDS = [
 ]
 
 
-def ended(words):
-    done = subprocess.run(words, capture_output=True, check=False, timeout=900)
+def ended(arguments):
+    done = subprocess.run(arguments, capture_output=True, check=False, timeout=900)
     return done.returncode, done.stdout, done.stderr
 
 
 def needed(path):
     """The newest version of the C library that a file takes something of."""
-    told = subprocess.run(["readelf", "--version-info", "--wide", path], capture_output=True, check=True).stdout
-    return max(tuple(map(int, found.split(b"."))) for found in re.findall(rb"GLIBC_([0-9.]+)", told))
+    versions = subprocess.run(["readelf", "--version-info", "--wide", path], capture_output=True, check=True).stdout
+    return max(tuple(map(int, found.split(b"."))) for found in re.findall(rb"GLIBC_([0-9.]+)", versions))
 
 
 def in_old_root(root, folder):
@@ -63,12 +63,12 @@ def judged(run):
     systems = {"this system": [os.path.abspath("older/bin/racebench")]}
     if os.environ.get("OLD_ROOT"):
         systems["OLD_ROOT"] = in_old_root(os.environ["OLD_ROOT"], os.getcwd())
-    for words in COMMANDS:
-        wanted = ended([run.program, *words])
+    for arguments in COMMANDS:
+        wanted = ended([run.program, *arguments])
         for system, program in systems.items():
             run.tally[system] += 1
-            if ended([*program, *words]) != wanted:
-                raise Wrong(f"{words} on {system}: {ended([*program, *words])}, and not {wanted}")
+            if ended([*program, *arguments]) != wanted:
+                raise Wrong(f"{arguments} on {system}: {ended([*program, *arguments])}, and not {wanted}")
     return "older: " + ", ".join(f"{count} commands on {system}" for system, count in run.tally.items())
 
 

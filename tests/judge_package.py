@@ -25,8 +25,8 @@ import judging
 import man_pages
 
 
-def printed(*words, **more):
-    return subprocess.run(words, capture_output=True, text=True, check=True, **more).stdout
+def printed(*command, **more):
+    return subprocess.run(command, capture_output=True, text=True, check=True, **more).stdout
 
 
 def text_of(*path):
@@ -67,17 +67,17 @@ class Words:
         return sorted({flag for flags in self.flags.values() for flag in flags})
 
 
-def page_lacks(words):
+def page_lacks(commands):
     page = re.sub(r"\\f[A-Z]", "", text_of("package", "racebench.1")).replace("\\-", "-").replace("\\ ", " ")
     faults = part(
         r"^## Faults\n(.*?)^### ", text_of("docs", "formats", "faults.md"), "table of faults in docs/formats/faults.md"
     )
     wanted = [
-        f"command {name}" for name in words.commands if not re.search(rf"^\.B[IR]? {name}\b", page, re.MULTILINE)
+        f"command {name}" for name in commands.commands if not re.search(rf"^\.B[IR]? {name}\b", page, re.MULTILINE)
     ]
-    wanted += [f"flag {flag}" for flag in words.all_flags() if not re.search(rf"(?<![\w-]){flag}(?![\w-])", page)]
+    wanted += [f"flag {flag}" for flag in commands.all_flags() if not re.search(rf"(?<![\w-]){flag}(?![\w-])", page)]
     wanted += [
-        f"script word {name}" for name in words.script if not re.search(rf"^\.B[IR]? {name}\b", page, re.MULTILINE)
+        f"script word {name}" for name in commands.script if not re.search(rf"^\.B[IR]? {name}\b", page, re.MULTILINE)
     ]
     for number, fault in re.findall(r"^\| (\d+) \| `([^`]*)`", faults, re.MULTILINE):
         if not re.search(rf"^{number} {re.escape(fault)}", page, re.MULTILINE):
@@ -85,65 +85,69 @@ def page_lacks(words):
     return wanted
 
 
-def zsh_lacks(words):
+def zsh_lacks(commands):
     text = text_of("package", "_racebench")
-    lacks = [f"command {name}" for name in words.offered if f"'{name}:" not in text or f"        {name})" not in text]
-    for command in words.commands:
+    lacks = [
+        f"command {name}" for name in commands.offered if f"'{name}:" not in text or f"        {name})" not in text
+    ]
+    for command in commands.commands:
         case = (re.search(rf"^        {command}\)(.*?);;", text, re.MULTILINE | re.DOTALL) or [None, ""])[1]
         lacks += [
             f"flag {flag} of {command}"
-            for flag in words.flags[command]
+            for flag in commands.flags[command]
             if not re.search(rf"(?<![\w-]){flag}(?![\w-])", case)
         ]
-    return lacks + [f"flag {flag}" for flag in words.flags[""] if not re.search(rf"(?<![\w-]){flag}(?![\w-])", text)]
+    return lacks + [
+        f"flag {flag}" for flag in commands.flags[""] if not re.search(rf"(?<![\w-]){flag}(?![\w-])", text)
+    ]
 
 
-def completed(*given, command="racebench"):
+def completed(*typed, command="racebench"):
     """What bash offers for the last argument, after the command."""
     line = (
         'source package/$0.bash; COMP_WORDS=($0 "$@"); COMP_CWORD=$#; _${0//-/_}; printf \'%s\\n\' "${COMPREPLY[@]}"'
     )
-    return printed("bash", "-c", line, command, *given, cwd=TOP).split()
+    return printed("bash", "-c", line, command, *typed, cwd=TOP).split()
 
 
-def bash_lacks(words):
+def bash_lacks(commands):
     lacks = []
-    for given in ([""], ["help", ""]):
-        offered = completed(*given)
-        lacks += [f"command {name} after {given[:-1]}" for name in words.offered if name not in offered]
-    for command, flags in words.flags.items():
+    for typed in ([""], ["help", ""]):
+        offered = completed(*typed)
+        lacks += [f"command {name} after {typed[:-1]}" for name in commands.offered if name not in offered]
+    for command, flags in commands.flags.items():
         offered = completed(*([command] if command else []), "-")
         lacks += [f"flag {flag} of `racebench {command}`" for flag in flags if flag not in offered]
         lacks += [f"flag {flag} of `racebench {command}` is none" for flag in offered if flag not in flags]
     return lacks
 
 
-def screen_words():
+def screen_commands():
     """The options of the screen, and its arguments."""
-    told = printed("/usr/bin/python3", "screen/screen", "--help", cwd=TOP)
+    help_text = printed("/usr/bin/python3", "screen/screen", "--help", cwd=TOP)
     options = re.findall(
-        r"(?<![\w-])--?[a-z][\w-]*", part(r"^options:\n(.*)", told, "options in --help of the screen")
+        r"(?<![\w-])--?[a-z][\w-]*", part(r"^options:\n(.*)", help_text, "options in --help of the screen")
     )
-    return options, re.findall(r"^  ([A-Z]+)$", told, re.MULTILINE)
+    return options, re.findall(r"^  ([A-Z]+)$", help_text, re.MULTILINE)
 
 
 def screen_lacks(name):
     """Each option and each argument of the screen that a file does not have."""
     page = text_of("package", name).replace("\\-", "-")
-    options, arguments = screen_words()
+    options, arguments = screen_commands()
     return [word for word in options + arguments if not re.search(rf"(?<![\w-]){word}(?![\w-])", page, re.IGNORECASE)]
 
 
 def screen_bash_lacks():
     """Each option of the screen that bash does not offer, and each that it offers and the screen lacks."""
-    return sorted(set(screen_words()[0]) ^ set(completed("-", command="racebench-screen")))
+    return sorted(set(screen_commands()[0]) ^ set(completed("-", command="racebench-screen")))
 
 
 def recorder_page_lacks(command, page):
     """Each option that a command of the recorder names, and each part that a page has."""
     page = page.replace("\\-", "-").replace("\\fB", "").replace("\\fR", "")
     wanted = [f"section {name}" for name in ("NAME", "SYNOPSIS", "DESCRIPTION") if f"\n.SH {name}\n" not in page]
-    named = set(re.findall(r"(?<![\w-])--[a-z][\w-]*", man_pages.told(command)))
+    named = set(re.findall(r"(?<![\w-])--[a-z][\w-]*", man_pages.help_of(command)))
     if command not in ("racebench-cc", "racebench-c++", "racebench-rustc") and not named:
         wanted.append("any option")
     return wanted + [f"option {word}" for word in sorted(named) if not re.search(rf"(?<![\w-]){word}(?![\w-])", page)]
@@ -167,10 +171,10 @@ def page_warnings(name):
         return []
     path = os.path.join(TOP, "package", name)
     environment = dict(os.environ, MANWIDTH="80", LC_ALL="C.UTF-8", MANROFFOPT="")
-    told = subprocess.run(
+    warnings = subprocess.run(
         ["man", "--warnings=w", "--local-file", path], capture_output=True, text=True, check=False, env=environment
     )
-    return told.stderr.splitlines()
+    return warnings.stderr.splitlines()
 
 
 def packing():
@@ -196,17 +200,17 @@ def languages_lack():
             there |= set(depends)
             lacks += [] if depends[0] == "planecarmine (= 0.1.0)" else [f"planecarmine-{word} of {depends[0]}"]
         if shutil.which("lintian"):
-            said = subprocess.run(["lintian", *paths], capture_output=True, text=True, check=False)
-            lacks += [line for line in said.stdout.splitlines() if line[:2] in ("E:", "W:")]
+            done = subprocess.run(["lintian", *paths], capture_output=True, text=True, check=False)
+            lacks += [line for line in done.stdout.splitlines() if line[:2] in ("E:", "W:")]
     if not shutil.which("lintian"):
         print("packages of the languages: not read by lintian, which is not here")
     return lacks + [f"{name}, which tools/needs names" for name in needed if name not in there]
 
 
 def judged(run):
-    words = Words(run.program)
-    run.case("package/racebench.1 lacks", page_lacks(words))
-    run.case("package/_racebench lacks", zsh_lacks(words))
+    commands = Words(run.program)
+    run.case("package/racebench.1 lacks", page_lacks(commands))
+    run.case("package/_racebench lacks", zsh_lacks(commands))
     run.case("package/racebench.1, read by man", page_warnings("racebench.1"))
     run.case("package/racebench-screen.1 lacks", screen_lacks("racebench-screen.1"))
     run.case("package/_racebench-screen lacks", screen_lacks("_racebench-screen"))
@@ -216,7 +220,7 @@ def judged(run):
     for name, wrong in recorder_pages():
         run.case(name, wrong)
     if shutil.which("bash"):
-        run.case("package/racebench.bash lacks", bash_lacks(words))
+        run.case("package/racebench.bash lacks", bash_lacks(commands))
         run.case("package/racebench-screen.bash lacks", screen_bash_lacks())
 
 

@@ -276,8 +276,8 @@ def counted(number, word):
 def left_out(lines):
     """What the first line of the page says of rows that the text counts after its blocks."""
     counts = dict(line.decode("ascii").split() for line in lines if re.fullmatch(rb"(known|hidden) \d+", line))
-    said = f"; {counted(counts['known'], 'known race')} left out" if "known" in counts else ""
-    return said + (
+    text = f"; {counted(counts['known'], 'known race')} left out" if "known" in counts else ""
+    return text + (
         f"; {counted(counts['hidden'], 'pair')} left out by --only and --hide" if "hidden" in counts else ""
     )
 
@@ -403,18 +403,18 @@ def commands_of(block, name):
 
 def more_of(sort, kept, name):
     """What is under this many rows of a sort, of which not all are there, or not all have a picture."""
-    told, word = [], shell_word(name)
+    lines, word = [], shell_word(name)
     if sort == "race" and kept > MOST_PICTURES:
         left = counted(str(kept - MOST_PICTURES), "race")
-        told += [
+        lines += [
             f"Without a picture here: {left}. The picture of one, by its two events:",
             f"racebench witness {word} FIRST SECOND --svg > picture.svg\n",
         ]
     if kept > MOST_ROWS:
         left = counted(str(kept - MOST_ROWS), "row")
         option = " --apart" if sort == "apart" else ""
-        told += [f"Left out here: {left}. All of them, as text:", f"racebench triage {word}{option}\n"]
-    return told
+        lines += [f"Left out here: {left}. All of them, as text:", f"racebench triage {word}{option}\n"]
+    return lines
 
 
 def texts_in(element, *tags):
@@ -546,12 +546,12 @@ class Judge:
         self.followed = None
         self.locations = {}
 
-    def raw_explained(self, name, block, *words):
-        out = running.printed(self.program, ["explain", name, str(block.first), str(block.second), *words])
+    def raw_explained(self, name, block, *arguments):
+        out = running.printed(self.program, ["explain", name, str(block.first), str(block.second), *arguments])
         return out.split(b"\n")[:-1]
 
-    def explained(self, name, block, *words):
-        return [shown(line) for line in self.raw_explained(name, block, *words)]
+    def explained(self, name, block, *arguments):
+        return [shown(line) for line in self.raw_explained(name, block, *arguments)]
 
     def judge_picture(self, name, block):
         """Judges the picture of the row of a race: it is that of the schedule which `witness` prints, and that shows
@@ -587,18 +587,18 @@ class Judge:
         locations = self.locations[pair]
         entry = entry_on(self.followed, locations)
         word = beside(entry)
-        told = [paragraph.text() for paragraph in row.all("p")]
+        texts = [paragraph.text() for paragraph in row.all("p")]
         if seen != [word] or heads[1] != "Seen in a run, not proved":
             raise Wrong(f"{seen} beside {pair}, and plainly {word}")
         self.tally[word] += 1
         if entry is None:
-            if told != [WHY[word]]:
-                raise Wrong(f"{told} beside {pair}")
+            if texts != [WHY[word]]:
+                raise Wrong(f"{texts} beside {pair}")
             return 0
         why = shown(entry.get("why", "").encode())
         wanted = [WHY[word] + (f": {why}" if why else "") + "."] + [ELSEWHERE] * (entry["events"] != list(pair))
-        if told != wanted:
-            raise Wrong(f"{told} beside {pair}, and plainly {wanted}")
+        if texts != wanted:
+            raise Wrong(f"{texts} beside {pair}, and plainly {wanted}")
         table = list(row.all("table"))[1]
         if heads_of(table) != FOLLOWED[: 3 if word == "departed" else 4]:
             raise Wrong(f"over the columns beside {pair} stand {heads_of(table)}")
@@ -619,7 +619,7 @@ class Judge:
         self.tally["told twice"] += entry_on(self.followed[self.followed.index(entry) + 1 :], locations) is not None
         return 1
 
-    def told(self, name, block, listed):
+    def listed_runs(self, name, block, listed):
         """The lines about the schedule of a race, and whether they have all runs."""
         whole = self.raw_explained(name, block, "--all")
         runs = int(re.search(rb" in (\d+) runs? both are next$", whole[0])[1])
@@ -644,13 +644,13 @@ class Judge:
     def judge_schedule(self, row, runs, block, name):
         """Judges the picture of the row of a race, what is over it, and the runs of the schedule in words."""
         listed = self.judge_picture(name, block)
-        told, is_told = self.told(name, block, listed)
+        lines, are_all = self.listed_runs(name, block, listed)
         wanted = f"After {counted(str(len(listed)), 'event')} both are next: {block.first} and {block.second}. "
-        wanted += f"{DRAWN} {ALL_TOLD if is_told else LAST_TOLD}"
+        wanted += f"{DRAWN} {ALL_TOLD if are_all else LAST_TOLD}"
         if row.one("figcaption").text() != wanted:
             raise Wrong(f"the caption is {row.one('figcaption').text()!r}, and plainly {wanted!r}")
-        if runs.text().split("\n")[:-1] != [shown(line) for line in told]:
-            raise Wrong(f"{runs.text()}, and not {told}")
+        if runs.text().split("\n")[:-1] != [shown(line) for line in lines]:
+            raise Wrong(f"{runs.text()}, and not {lines}")
         boxes = len(list(row.one("svg").all("rect")))
         if boxes > MOST_BOXES:
             raise Wrong(f"the picture has {boxes} rectangles")
@@ -697,13 +697,13 @@ class Judge:
         self.tally["locks"] += sum(len(access[1]) for access in block.accesses)
         self.tally["replaced"] += any("\ufffd" in access[0] for access in block.accesses)
 
-    def judge(self, name, words, followed=None):
+    def judge(self, name, arguments, followed=None):
         """Judges the page that these words give, with the lines of followed races if there are such."""
-        lines = running.printed(self.program, ["triage", name, *words]).split(b"\n")[:-1]
+        lines = running.printed(self.program, ["triage", name, *arguments]).split(b"\n")[:-1]
         if followed is not None:
             running.write("followed", "".join(json.dumps(entry, sort_keys=True) + "\n" for entry in followed))
-            words = [*words, "--confirmed", "followed"]
-        page = running.printed(self.program, ["triage", name, "--page", *words])
+            arguments = [*arguments, "--confirmed", "followed"]
+        page = running.printed(self.program, ["triage", name, "--page", *arguments])
         self.followed = followed
         self.locations = locations_of(lines)
         root = read(page)
@@ -717,33 +717,33 @@ class Judge:
             raise Wrong(f"the first line is {root.one('h1').text()!r}, and plainly {first!r}")
         sections = list(root.one("main").all("section"))
         self.judge_counts(sections[-2].one("tbody"), lines[:11])
-        sorts = ["race", "undecided"] + ["apart"] * ("--apart" in words)
+        sorts = ["race", "undecided"] + ["apart"] * ("--apart" in arguments)
         headings = ["Races", "Undecided", "Apart"][: len(sorts)] + ["Counts", "What the words mean"]
         if [section.one("h2").text() for section in sections] != headings:
             raise Wrong("other sections")
         for sort, section in zip(sorts, sections):
             self.judge_section(section, sort, [block for block in blocks if block.sort == sort], name)
-        self.judge_words(root.one("main"), sections[-1], lines[11:], "--apart" in words)
+        self.judge_notes(root.one("main"), sections[-1], lines[11:], "--apart" in arguments)
 
     def judge_counts(self, table, lines):
         """Judges the table of counts: each line has a word, its number and what it means."""
-        told = [tuple(cell.text() for cell in line.children) for line in table.all("tr")]
-        words = [line.decode("ascii").split(" ") for line in lines]
-        wanted = [(word, number, COUNTED[word]) for word, number in words]
-        if told != wanted:
-            raise Wrong(f"the counts are {told}, and plainly {wanted}")
+        rows = [tuple(cell.text() for cell in line.children) for line in table.all("tr")]
+        fields = [line.decode("ascii").split(" ") for line in lines]
+        wanted = [(word, number, COUNTED[word]) for word, number in fields]
+        if rows != wanted:
+            raise Wrong(f"the counts are {rows}, and plainly {wanted}")
 
-    def judge_words(self, main, meanings, left, is_apart):
+    def judge_notes(self, main, meanings, left, is_apart):
         """Judges what is between the rows and the counts, and the meanings of words."""
-        told = [UNLISTED] * (not is_apart)
+        texts = [UNLISTED] * (not is_apart)
         for line in left:
             if re.fullmatch(rb"(known|hidden) [1-9]\d*", line):
                 word, number = line.decode("ascii").split(" ")
                 end = " left out as known before." if word == "known" else " left out by --only and --hide."
-                told.append(counted(number, "row") + end)
+                texts.append(counted(number, "row") + end)
                 self.tally[word] += 1
-        if texts_in(main, "p", "pre") != told:
-            raise Wrong(f"over the counts stands {texts_in(main, 'p', 'pre')}, and plainly {told}")
+        if texts_in(main, "p", "pre") != texts:
+            raise Wrong(f"over the counts stands {texts_in(main, 'p', 'pre')}, and plainly {texts}")
         wanted = [begin + rest for begin, rest in MEANINGS.items()] + [BESIDE_RACES] * (self.followed is not None)
         if [paragraph.text() for paragraph in meanings.all("p")] != wanted:
             raise Wrong("the words mean something else")
@@ -752,12 +752,12 @@ class Judge:
         rows = list(section.all("details"))
         if len(rows) != min(len(blocks), MOST_ROWS):
             raise Wrong(f"{len(rows)} rows of {len(blocks)}")
-        told = ["None."] * (not blocks)
+        texts = ["None."] * (not blocks)
         if self.followed is not None and sort == "race" and blocks:
-            told.append(BESIDE + counted(str(len(self.followed)), "line") + ".")
-        told += more_of(sort, len(blocks), name)
-        if texts_in(section, "p", "pre") != told:
-            raise Wrong(f"a section has {texts_in(section, 'p', 'pre')}, and plainly {told}")
+            texts.append(BESIDE + counted(str(len(self.followed)), "line") + ".")
+        texts += more_of(sort, len(blocks), name)
+        if texts_in(section, "p", "pre") != texts:
+            raise Wrong(f"a section has {texts_in(section, 'p', 'pre')}, and plainly {texts}")
         self.tally["left out"] += len(blocks) > MOST_ROWS
         self.tally["apart left out"] += len(blocks) > MOST_ROWS and sort == "apart"
         pictures = len(list(section.all("svg")))
@@ -935,11 +935,11 @@ def judge_padded(judge, lines, at, size):
     """A page of this trace, after the location of one event was made so long that words have this many bytes."""
     text = b"".join(line + b"\n" for line in lines)
     write("padded", text)
-    words = ["--all"] if size > LAST_BYTES + 1 else []
+    arguments = ["--all"] if size > LAST_BYTES + 1 else []
     blocks = blocks_of(running.printed(judge.program, ["triage", "padded"]).split(b"\n")[11:-1])
-    told = judge.raw_explained("padded", blocks[-1], *words)
-    start = 0 if words else next(at for at, line in enumerate(told) if line.startswith(b"run"))
-    more = size - bytes_of(told[start:])
+    explained = judge.raw_explained("padded", blocks[-1], *arguments)
+    start = 0 if arguments else next(at for at, line in enumerate(explained) if line.startswith(b"run"))
+    more = size - bytes_of(explained[start:])
     write("padded", b"".join(line + b"p" * (more * (number == at)) + b"\n" for number, line in enumerate(lines)))
     judge.judge("padded", [])
 
@@ -1028,9 +1028,9 @@ def judge_drawn(judge, chance):
     running.write("known", known)
     # A text without a race would be said on standard error.
     choices = [[], ["--apart"], ["--known", "known"] if "\nrace " in known else [], ["--hide", "p0.c"]]
-    words = ["--tries", chance.choice(["0", "1", "16"]), *chance.choice(choices)]
-    with judging.about(str(words), "trace"):
-        judge.judge("trace", words, followed_lines(chance, judge, "trace") if chance.random() < 0.5 else None)
+    arguments = ["--tries", chance.choice(["0", "1", "16"]), *chance.choice(choices)]
+    with judging.about(str(arguments), "trace"):
+        judge.judge("trace", arguments, followed_lines(chance, judge, "trace") if chance.random() < 0.5 else None)
 
 
 def judged(run):

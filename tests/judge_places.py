@@ -121,9 +121,9 @@ class Located:
         tally[["whole", "path", "part"][best]] += 1
         return {event for event, how in fits.items() if how == best}, False
 
-    def pair(self, words, tally):
+    def pair(self, arguments, tally):
         """The pair of events that the arguments name, if they name one."""
-        (ones, one_is_event), (others, other_is_event) = (self.named(word, tally) for word in words)
+        (ones, one_is_event), (others, other_is_event) = (self.named(word, tally) for word in arguments)
         if one_is_event and other_is_event:
             found = tuple(sorted(ones | others))
             return found if found in self.trace.conflicting() else None
@@ -182,8 +182,8 @@ class Judge:
         running.write("trace", located.text())
         events = len(located.trace.events)
         for _ in range(QUESTIONS):
-            words = [self.word(located, chance, events) for _ in range(2)]
-            self.judge_question(located, words, chance)
+            arguments = [self.word(located, chance, events) for _ in range(2)]
+            self.judge_question(located, arguments, chance)
         self.tally["traces"] += 1
 
     def word(self, located, chance, events):
@@ -195,16 +195,16 @@ class Judge:
             return location if chance.random() < 0.5 else location.split(" < ")[0]
         return chance.choice(WORDS)
 
-    def judge_question(self, located, words, chance):
-        pair = located.pair(words, self.tally)
+    def judge_question(self, located, arguments, chance):
+        pair = located.pair(arguments, self.tally)
         form = chance.choice(FORMS)
         for command, flags in [("explain", []), ("witness", form)]:
-            told = running.ended(self.program, [command, "trace", *flags, "--", *words])
+            answer = running.ended(self.program, [command, "trace", *flags, "--", *arguments])
             wanted = (1, b"", b"racebench: no such pair\n")
             if pair is not None:
                 wanted = running.ended(self.program, [command, "trace", *flags, *map(str, pair)])
-            if told != wanted:
-                raise Wrong(f"{command} of {words}, which name {pair}, answers {told}, and not {wanted}")
+            if answer != wanted:
+                raise Wrong(f"{command} of {arguments}, which name {pair}, answers {answer}, and not {wanted}")
         self.tally["questions"] += 1
         self.tally["pairs"] += pair is not None
 

@@ -59,13 +59,15 @@ class TooFew(Exception):
 class Shown:
     """A run whose standard error is a terminal; without a named file its standard output is the same terminal."""
 
-    def __init__(self, program, words, output):
+    def __init__(self, program, arguments, output):
         mine, theirs = os.openpty()
         tty.setraw(theirs)
         with open(output, "wb") if output else os.fdopen(os.dup(theirs), "wb") as out:
             start = time.monotonic()
-            as_told = {name: value for name, value in os.environ.items() if name != "RACEBENCH_NOTES"}
-            run = subprocess.Popen([program, *words], stdin=subprocess.DEVNULL, stdout=out, stderr=theirs, env=as_told)
+            environment = {name: value for name, value in os.environ.items() if name != "RACEBENCH_NOTES"}
+            run = subprocess.Popen(
+                [program, *arguments], stdin=subprocess.DEVNULL, stdout=out, stderr=theirs, env=environment
+            )
         os.close(theirs)
         self.quiet, sent = None, b""
         try:
@@ -83,7 +85,7 @@ class Shown:
 def judge_shown(run, events, pairs, rest=""):
     """Judges what a terminal was sent: lines of rising numbers, the wiping, and the rest. Answers how many lines told
     of more pairs of places."""
-    at, longest, judged, told = 0, 0, 0, 0
+    at, longest, judged, rising = 0, 0, 0, 0
     while line := SHOWN.match(run.sent, at):
         at = line.end()
         longest = max(longest, len(line[0]) - 1)
@@ -92,7 +94,7 @@ def judge_shown(run, events, pairs, rest=""):
         if line[2] is not None:
             if not judged <= int(line[2]) <= int(line[3]) or int(line[3]) != pairs:
                 raise Wrong(f"behind {judged} of {pairs} pairs of places {line[0]!r} was shown")
-            told += int(line[2]) > judged
+            rising += int(line[2]) > judged
             judged = int(line[2])
     wiped = WIPED.match(run.sent, at)
     if longest and (not wiped or len(wiped[0]) - 2 < longest):
@@ -100,64 +102,64 @@ def judge_shown(run, events, pairs, rest=""):
     at = wiped.end() if longest else at
     if run.sent[at:] != rest:
         raise Wrong(f"{run.sent[at:][:300]!r} came behind the line, and not {rest[:300]!r}")
-    if run.seconds >= LEAST_SECONDS and told < LEAST_LINES:
-        raise TooFew(f"in {run.seconds:.1f} s {told} lines told of more pairs of places: {run.sent[:300]!r}")
+    if run.seconds >= LEAST_SECONDS and rising < LEAST_LINES:
+        raise TooFew(f"in {run.seconds:.1f} s {rising} lines told of more pairs of places: {run.sent[:300]!r}")
     if longest and run.quiet < QUIET_SECONDS:
         raise Wrong(f"something was shown after {run.quiet:.2f} s")
-    return told
+    return rising
 
 
-def judge_status(words, status, wanted):
+def judge_status(arguments, status, wanted):
     if status != wanted:
-        raise Wrong(f"{words}: status {status} beside a terminal, and not {wanted}")
+        raise Wrong(f"{arguments}: status {status} beside a terminal, and not {wanted}")
 
 
-def judge_output(words, wanted):
+def judge_output(arguments, wanted):
     """Compares standard output with that of a run without a terminal."""
     with open("out", "rb") as out:
         if out.read() != wanted:
-            raise Wrong(f"{words}: another standard output beside a terminal")
+            raise Wrong(f"{arguments}: another standard output beside a terminal")
 
 
 def judge_quick(program):
     """What is quick shows nothing, whether it ends well or with a fault."""
     running.write("quick", "T1|w(x)|1\nT2|w(x)|2\n")
-    for words in (["triage", "quick"], ["triage", "none"]):
-        status, out, err = running.ended(program, words, {"RACEBENCH_NOTES": "1"})
-        run = Shown(program, words, "out")
-        judge_status(words, run.status, status)
-        judge_output(words, out)
+    for arguments in (["triage", "quick"], ["triage", "none"]):
+        status, out, err = running.ended(program, arguments, {"RACEBENCH_NOTES": "1"})
+        run = Shown(program, arguments, "out")
+        judge_status(arguments, run.status, status)
+        judge_output(arguments, out)
         if run.seconds < QUIET_SECONDS and run.sent != err.decode("ascii"):
-            raise Wrong(f"{words} shows {run.sent!r}, and writes {err!r} where no terminal is")
+            raise Wrong(f"{arguments} shows {run.sent!r}, and writes {err!r} where no terminal is")
 
 
 def judge_windows(program):
     """With `--windows` a terminal gets a line for each window at once, as a pipe does with `--progress`."""
     running.write("quick", "T1|w(x)|1\nT2|w(x)|2\nT1|w(y)|3\nT2|w(y)|4\n")
-    words = ["triage", "quick", "--windows=2"]
-    status, out, err = running.ended(program, [*words, "--progress"])
-    run = Shown(program, words, "out")
-    judge_status(words, run.status, status)
-    judge_output(words, out)
+    arguments = ["triage", "quick", "--windows=2"]
+    status, out, err = running.ended(program, [*arguments, "--progress"])
+    run = Shown(program, arguments, "out")
+    judge_status(arguments, run.status, status)
+    judge_output(arguments, out)
     if len(err.splitlines()) != 3 or run.sent != err.decode("ascii"):
-        raise Wrong(f"{words} shows {run.sent!r}, and writes {err!r} with --progress")
+        raise Wrong(f"{arguments} shows {run.sent!r}, and writes {err!r} with --progress")
 
 
-def judge_asked(program, events, pairs, wanted):
+def judge_requested(program, events, pairs, wanted):
     """With `--progress` a pipe is sent lines of rising numbers, and standard output is as without it."""
     status, out, err = running.ended(program, ["triage", "trace", "--progress"])
     if (status, out) != (0, wanted):
         raise Wrong(f"status {status} with --progress, or another standard output")
-    told = [
+    matches = [
         re.fullmatch(r"events (\d+)|pairs of places (\d+) of (\d+)", line) for line in err.decode("ascii").splitlines()
     ]
-    if not all(told):
+    if not all(matches):
         raise Wrong(f"with --progress a pipe is sent {err[:300]!r}")
-    if len(told) < LEAST_LINES:
+    if len(matches) < LEAST_LINES:
         raise TooFew(f"with --progress a pipe is sent {err[:300]!r} only")
-    counts = [int(line[2]) for line in told if line[2]]
+    counts = [int(line[2]) for line in matches if line[2]]
     if counts != sorted(counts) or any(
-        int(line[1] or events) != events or int(line[3] or pairs) != pairs for line in told
+        int(line[1] or events) != events or int(line[3] or pairs) != pairs for line in matches
     ):
         raise Wrong(f"with --progress other numbers are sent: {err[:300]!r}")
 
@@ -195,15 +197,15 @@ def judge_lines(program, run, events, pairs):
     if status != 0 or err:
         raise Wrong(f"status {status} where no terminal is, and on standard error {err[:300]!r}")
     judge_output(["triage", "trace"], out)
-    judge_asked(program, events, pairs, out)
+    judge_requested(program, events, pairs, out)
     lines = judge_shown(run, events, pairs)
-    words = ["triage", "trace", "--workers", "1"]
-    run = Shown(program, words, None)
-    judge_status(words, run.status, 0)
+    arguments = ["triage", "trace", "--workers", "1"]
+    run = Shown(program, arguments, None)
+    judge_status(arguments, run.status, 0)
     lines += judge_shown(run, events, pairs, out.decode("ascii"))
-    words = ["triage", "trace"]
-    run = Shown(program, words, "/dev/full")
-    judge_status(words, run.status, 1)
+    arguments = ["triage", "trace"]
+    run = Shown(program, arguments, "/dev/full")
+    judge_status(arguments, run.status, 1)
     note = "note: standard output cannot be written: the disk is full\n"
     return lines + judge_shown(run, events, pairs, f"racebench: write failed\n{note}")
 

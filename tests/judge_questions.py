@@ -74,20 +74,20 @@ class Asked:
 
     def cause(self, events, event):
         """The item of an event: its number, and why it may not come next."""
-        told = self.trace.cause(events, event)
-        if told is None:
+        answer = self.trace.cause(events, event)
+        if answer is None:
             self.tally["free"] += 1
             return str(event)
-        words = told.split(" ")
-        self.tally[words[0]] += 1
+        fields = answer.split(" ")
+        self.tally[fields[0]] += 1
         more = (
-            [words[4], words[6]]
-            if words[0] == "24"
-            else [str(self.trace.threads().index(words[-1]))]
-            if words[0] == "25"
+            [fields[4], fields[6]]
+            if fields[0] == "24"
+            else [str(self.trace.threads().index(fields[-1]))]
+            if fields[0] == "25"
             else []
         )
-        return ":".join([str(event), words[0], *more])
+        return ":".join([str(event), fields[0], *more])
 
     def next_events(self, events):
         """The first event of each thread that is not among these."""
@@ -176,17 +176,17 @@ class Asked:
         return line, getattr(self, word)(name, *about)
 
 
-def judge_witness(trace, first, second, told, tally):
+def judge_witness(trace, first, second, answer, tally):
     """The answer to `? witness`: a schedule that shows the pair, or why no schedule does."""
     if not (trace.is_event(first) and trace.is_event(second) and trace.conflict(first, second)):
         wanted = "refused 98 no such pair"
-        tally["98"] += told == wanted
-        return told == wanted
+        tally["98"] += answer == wanted
+        return answer == wanted
     kind = trace.kind(*sorted((first, second)))
-    if told.startswith("refused 99 not shown: "):
+    if answer.startswith("refused 99 not shown: "):
         tally["99"] += 1
-        return told == f"refused 99 not shown: {kind}" and kind != "candidate"
-    word, how, *events = told.split(" ")
+        return answer == f"refused 99 not shown: {kind}" and kind != "candidate"
+    word, how, *events = answer.split(" ")
     listed = tuple(map(int, events))
     tally["race"] += 1
     right = trace.is_reordering(listed) and trace.shows(listed, first, second)
@@ -219,27 +219,27 @@ def judge_session(program, seed, tally):
     if os.path.exists("log"):
         os.remove("log")
     lines, wanted, pairs = [], [], {}
-    for client, call, told, before in [*calls, (None, None, None, log)]:
+    for client, call, answers, before in [*calls, (None, None, None, log)]:
         for _ in range(2):
-            asked, answer = Asked(before, chance, tally).drawn(by_chance.SCHEDULES[:5])
-            lines.append(asked)
+            question, answer = Asked(before, chance, tally).drawn(by_chance.SCHEDULES[:5])
+            lines.append(question)
             wanted.append(answer)
         if chance.random() < 0.1:
             lines.append(chance.choice(FAULTY))
             wanted.append(f"line {len(lines)}: 87 bad question")
             tally["faulty"] += 1
         if call is not None:
-            lines.append(f"{client} {plain.words_of(call)}")
-            wanted.append(told)
+            lines.append(f"{client} {plain.call_text(call)}")
+            wanted.append(answers)
     for _ in range(6):
         first, second = (chance.randint(0, len(trace.events)) for _ in range(2))
         pairs[len(wanted)] = (first, second)
         lines.append(f"? witness {first} {second}")
         wanted.append(None)
-    told = session(program, lines)
-    if len(told) != len(wanted):
-        raise Wrong(f"{len(told)} answers to {len(wanted)} lines")
-    for at, (line, one, other) in enumerate(zip(lines, told, wanted)):
+    answers = session(program, lines)
+    if len(answers) != len(wanted):
+        raise Wrong(f"{len(answers)} answers to {len(wanted)} lines")
+    for at, (line, one, other) in enumerate(zip(lines, answers, wanted)):
         if not (judge_witness(trace, *pairs[at], one, tally) if at in pairs else one == other):
             raise Wrong(f"`{line}` is answered `{one}`, and not `{other}`")
     if len(running.printed(program, ["log", "log"]).splitlines()) != len(log.entries):

@@ -88,11 +88,11 @@ OPENMP = ("openmp.c", "teams.c", "region.c", "taskloop.c")
 FORKS = "each_kind.c"
 
 
-def done(words, wanted=0, **more):
+def done(command, wanted=0, **more):
     """What a command wrote on standard output and on standard error."""
-    ran = names_of_runs.run(words, capture_output=True, timeout=PATIENCE, check=False, **more)
+    ran = names_of_runs.run(command, capture_output=True, timeout=PATIENCE, check=False, **more)
     if ran.returncode != wanted:
-        raise Wrong(f"{' '.join(words)}: status {ran.returncode}: {ran.stderr.decode(errors='replace')[:600]}")
+        raise Wrong(f"{' '.join(command)}: status {ran.returncode}: {ran.stderr.decode(errors='replace')[:600]}")
     return ran.stdout.decode(), ran.stderr.decode(errors="replace")
 
 
@@ -105,9 +105,9 @@ def compilers():
 
 def has_hooks(compiler, language):
     try:
-        words = [compiler, "-fsanitize=thread", "-pthread", "-x", language, "-", "-c", "-o", os.devnull]
+        command = [compiler, "-fsanitize=thread", "-pthread", "-x", language, "-", "-c", "-o", os.devnull]
         text = "#include <pthread.h>\nint main() { return 0; }\n"
-        return subprocess.run(words, input=text.encode(), capture_output=True, check=False).returncode == 0
+        return subprocess.run(command, input=text.encode(), capture_output=True, check=False).returncode == 0
     except OSError:
         return False
 
@@ -144,25 +144,25 @@ def compiled(source, c, cxx):
     """Compiles a source, in one call or in two, to `program`."""
     environment = dict(os.environ, RECORD_CC=c, RECORD_CXX=cxx or "")
     path, language = os.path.join(TOP, source), os.path.join(RECORD, "c++" if source.endswith(".cpp") else "cc")
-    words = ["-std=c++17"] if source.endswith(".cpp") else ["-fopenmp"] if source.endswith(OPENMP) else []
+    flags = ["-std=c++17"] if source.endswith(".cpp") else ["-fopenmp"] if source.endswith(OPENMP) else []
     if c == "gcc":
-        done([language, "-O1", *words, path, "-o", "program"], env=environment)
+        done([language, "-O1", *flags, path, "-o", "program"], env=environment)
     else:
-        done([language, "-O1", *words, "-c", path, "-o", "part.o"], env=environment)
+        done([language, "-O1", *flags, "-c", path, "-o", "part.o"], env=environment)
         done([language, "part.o", "-o", "program"], env=environment)
 
 
-def recorded(words, seed, forks=False):
+def recorded(options, seed, forks=False):
     """Records `program`; the trace is in `trace.std`. It is whole, if the program does not fork."""
     for _ in range(AGAIN):
-        run = [os.path.join(RECORD, "run"), "--seed", str(seed), *words, "./program"]
-        trace, said = done(run, wanted=4 if forks else 0)
-        if said.endswith(", 0 taken by force\n"):
+        run = [os.path.join(RECORD, "run"), "--seed", str(seed), *options, "./program"]
+        trace, errors = done(run, wanted=4 if forks else 0)
+        if errors.endswith(", 0 taken by force\n"):
             break
-    if not re.search(r"^record/run: recorded \d+ events, \d+ turns, \d+ taken by force$", said, re.MULTILINE):
-        raise Wrong(f"the recorder did not say what it recorded: {said[:600]}")
-    if "left out" in said or "not made by pthread_create" in said:
-        raise Wrong(f"something was left out, or has no fork: {said[:600]}")
+    if not re.search(r"^record/run: recorded \d+ events, \d+ turns, \d+ taken by force$", errors, re.MULTILINE):
+        raise Wrong(f"the recorder did not say what it recorded: {errors[:600]}")
+    if "left out" in errors or "not made by pthread_create" in errors:
+        raise Wrong(f"something was left out, or has no fork: {errors[:600]}")
     last = "LEFT OUT 1 FROM 0: FORK" if forks else "WHOLE"
     if not trace.startswith("recording|begin(RECORDED)|\n") or not trace.endswith(f"\nrecording|end({last})|\n"):
         raise Wrong(f"the first and the last line do not say {last}: {trace[:40]!r} {trace[-60:]!r}")
@@ -171,18 +171,18 @@ def recorded(words, seed, forks=False):
     return trace
 
 
-def judge_program(racebench, source, words, races, c, cxx, seeds):
+def judge_program(racebench, source, options, races, c, cxx, seeds):
     wanted = {lines_at_race(source) if pair in ("RACE", "TRIAGED") else pair for pair in races}
     found_in = shown if "TRIAGED" in races else candidates
     compiled(source, c, cxx)
     for seed in seeds:
-        trace = recorded(words, seed, source.endswith(FORKS))
+        trace = recorded(options, seed, source.endswith(FORKS))
         found = found_in(racebench, "trace.std")
         if found != wanted:
             raise Wrong(f"seed {seed}: the races are {sorted(found)}, and not {sorted(wanted)}")
         if source.endswith("barrier.c"):
             judge_barrier(racebench, trace)
-    recorded_options.judge_decoder(source, [*words, "--seed", "1"], c)
+    recorded_options.judge_decoder(source, [*options, "--seed", "1"], c)
 
 
 def judge_barrier(racebench, trace):
@@ -215,9 +215,9 @@ def judge_example(c, cxx):
 
 def judge_stranger():
     """A program that was not compiled so is refused, and nothing is written."""
-    out, said = done([os.path.join(RECORD, "run"), "true"], wanted=1)
-    if out or "was not compiled with record/cc" not in said:
-        raise Wrong(f"a program without the recorder: {out}{said}")
+    out, errors = done([os.path.join(RECORD, "run"), "true"], wanted=1)
+    if out or "was not compiled with record/cc" not in errors:
+        raise Wrong(f"a program without the recorder: {out}{errors}")
 
 
 def cases_of(racebench, pairs):
@@ -241,7 +241,7 @@ def cases_of(racebench, pairs):
             cases += recorded_strangers.more_cases(racebench, c, cxx)
         if cxx:
             cases.append((f"regions of OpenMP, {c}", recorded_strangers.judge_regions, (c, cxx)))
-        for source, words, races in PROGRAMS:
+        for source, options, races in PROGRAMS:
             if source.endswith(OPENMP) and c != "gcc":
                 continue
             if source.endswith(".cpp") and cxx is None:
@@ -249,7 +249,7 @@ def cases_of(racebench, pairs):
                 continue
             runs = MANY if place == 0 and "TRIAGED" in races else seeds
             cases.append(
-                (" ".join([source, *words, c]), judge_program, (racebench, source, words, races, c, cxx, runs))
+                (" ".join([source, *options, c]), judge_program, (racebench, source, options, races, c, cxx, runs))
             )
     return cases
 

@@ -61,9 +61,9 @@ REACHED = """
 class Tally(collections.Counter):
     """How often each kind of answer was compared."""
 
-    def note(self, log, client, call, told):
+    def note(self, log, client, call, answer):
         word = call[0]
-        parts = told.split(" ")
+        parts = answer.split(" ")
         if parts[0] == "refused":
             behind = {"46": parts[2:3], "47": parts[2:3], "70": parts[4:5]}.get(parts[1], [])
             self["|".join([word, "-".join(parts[1:2] + behind)])] += 1
@@ -78,8 +78,8 @@ class Tally(collections.Counter):
         else:
             self[f"{word}|{parts[0] if word in ('show', 'list') else parts[1]}"] += 1
         if word == "swap" and parts[1] == "47":
-            words = [log.trace.events[event].word for event in log.rows[call[1]].events[call[2] : call[2] + 2]]
-            self["swap|fork-join"] += words == ["fork", "join"]
+            operations = [log.trace.events[event].word for event in log.rows[call[1]].events[call[2] : call[2] + 2]]
+            self["swap|fork-join"] += operations == ["fork", "join"]
         if word == "adopt" and parts[1] == "done":
             whose = [entry.client for entry in log.entries if entry.kind == "proposed"][call[2]]
             self["adopt|anothers"] += whose != client
@@ -107,13 +107,13 @@ class Tally(collections.Counter):
 
     def note_batch(self, commands):
         """What an accepted batch has."""
-        words = [command[0] for command in commands]
+        kinds = [command[0] for command in commands]
         for at, name in enumerate(plain.written(command) for command in commands):
             later = [command for command in commands[at + 1 :] if name in plain.touches(command)]
             self["batch|twice-on-one"] += bool(later)
-            self["batch|made-and-dropped"] += words[at] in ("new", "branch") and ("drop", name) in later
-            self["batch|dropped-and-made"] += words[at] == "drop" and name in [plain.written(other) for other in later]
-            self["batch|copies-its-own"] += words[at] in ("new", "branch") and any(
+            self["batch|made-and-dropped"] += kinds[at] in ("new", "branch") and ("drop", name) in later
+            self["batch|dropped-and-made"] += kinds[at] == "drop" and name in [plain.written(other) for other in later]
+            self["batch|copies-its-own"] += kinds[at] in ("new", "branch") and any(
                 other[:2] == ("branch", name) for other in later
             )
         self["batch|longest"] += len(commands) == plain.BATCH_LIMIT
@@ -146,15 +146,15 @@ class Judge:
         self.program = program
         self.tally = Tally()
 
-    def compare(self, expected, *words):
+    def compare(self, expected, *arguments):
         """Ends with the first line that the program prints otherwise, if there is such a line, and with the program's
         input."""
-        printed = running.printed(self.program, words)
+        printed = running.printed(self.program, arguments)
         if printed == expected.encode("ascii"):
             return
         pairs = itertools.zip_longest(expected.encode("ascii").split(b"\n"), printed.split(b"\n"))
         at, (wanted, found) = next((at, pair) for at, pair in enumerate(pairs, start=1) if pair[0] != pair[1])
-        raise Wrong(f"{words[0]}, line {at}: {found!r}, and plainly {wanted!r}{judging.given(words[1:])}")
+        raise Wrong(f"{arguments[0]}, line {at}: {found!r}, and plainly {wanted!r}{judging.texts_of(arguments[1:])}")
 
     def judge_info(self, trace):
         running.write("trace", trace.text())
@@ -166,12 +166,12 @@ class Judge:
     def judge_script(self, trace, calls, log=None):
         """Judges the script by `replay`, or, if a log is expected, by `threads`."""
         running.write("trace", trace.text())
-        running.write("script", "".join(f"{client} {plain.words_of(call)}\n" for client, call, _, _ in calls))
-        told = "".join(line + "\n" for _, _, line, _ in calls)
+        running.write("script", "".join(f"{client} {plain.call_text(call)}\n" for client, call, _, _ in calls))
+        answers = "".join(line + "\n" for _, _, line, _ in calls)
         if log is None:
-            self.compare(told, "replay", "trace", "script")
+            self.compare(answers, "replay", "trace", "script")
         else:
-            self.compare(f"client 1\n{told}{log.text()}", "threads", "trace", "script")
+            self.compare(f"client 1\n{answers}{log.text()}", "threads", "trace", "script")
             self.tally["entries"] += len(log.entries)
         for client, call, line, before in calls:
             self.tally.note(before, client, call, line)
@@ -187,8 +187,8 @@ def seen(log):
 def looked_at(calls, log, chance):
     """The calls, and after some calls all that the log has come to then, seen by the same client."""
     longer = []
-    for (client, call, told, before), after in zip(calls, [before for _, _, _, before in calls[1:]] + [log]):
-        longer.append((client, call, told, before))
+    for (client, call, answer, before), after in zip(calls, [before for _, _, _, before in calls[1:]] + [log]):
+        longer.append((client, call, answer, before))
         if call[0] == "undo" or chance.random() < 0.1:
             longer += [(client, look, after.answer(client, look)[0], after) for look in seen(after)]
     return longer
@@ -200,10 +200,10 @@ def probes(trace, log):
     for name in log.names():
         for event in range(len(trace.events) + 1):
             for call in [("add", name, event), ("back", name)]:
-                told, after = log.answer(1, call)
-                calls.append((1, call, told, log))
+                answer, after = log.answer(1, call)
+                calls.append((1, call, answer, log))
                 log = after
-                if told.startswith("refused"):
+                if answer.startswith("refused"):
                     break
     return calls
 
@@ -312,8 +312,8 @@ def in_order(log, group, commands, order):
     calls = []
     for client, call in steps:
         number = group * UNDOING + client + 1
-        told, after = log.answer(number, call)
-        calls.append((number, call, told, log))
+        answer, after = log.answer(number, call)
+        calls.append((number, call, answer, log))
         log = after
     return calls, log
 

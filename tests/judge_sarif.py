@@ -131,7 +131,7 @@ class Event:
     def place(self):
         return self.location.split(" < ")[0]
 
-    def words(self):
+    def text(self):
         return f"{self.thread} {VERBS[self.word]} {self.name} at {self.place() or '?'}"
 
 
@@ -179,10 +179,10 @@ class Judge:
         if found != wanted:
             raise Wrong(f"{what} is {found!r}, and not {wanted!r}")
 
-    def check_location(self, location, place, function, words, root):
-        """Judges that a location has the place, the function and the text. `root` is the folder of the code, if there is
-        one."""
-        self.equal(location["message"]["text"], words, "the message of a location")
+    def check_location(self, location, place, function, text, root):
+        """Judges that a location has the place, the function and the text. `root` is the folder of the code, if there
+        is one."""
+        self.equal(location["message"]["text"], text, "the message of a location")
         self.equal(
             [one["fullyQualifiedName"] for one in location.get("logicalLocations", [])],
             [function] if function else [],
@@ -211,10 +211,10 @@ class Judge:
             self.equal("region" in physical, False, "a line that is none")
 
     def check_access(self, location, event, root):
-        self.check_location(location, event.place(), calls_of(event.location)[0], event.words(), root)
+        self.check_location(location, event.place(), calls_of(event.location)[0], event.text(), root)
 
     def check_stack(self, stack, event, root):
-        self.equal(stack["message"]["text"], event.words(), "the message of a stack")
+        self.equal(stack["message"]["text"], event.text(), "the message of a stack")
         own, *frames = [frame["location"] for frame in stack["frames"]]
         self.check_access(own, event, root)
         calls = calls_of(event.location)[1]
@@ -256,14 +256,14 @@ class Judge:
                 )
                 self.check_access(step["location"], events[event], root)
 
-    def check_result(self, result, told, events, root, is_drawn):
-        kind = told["kind"]
+    def check_result(self, result, row, events, root, is_drawn):
+        kind = row["kind"]
         self.tally[kind] += 1
         self.equal((result["ruleId"], result["kind"], result["level"]), RULES[kind], "the rule")
-        pair = [access["event"] for access in told["accesses"]]
+        pair = [access["event"] for access in row["accesses"]]
         first, second = (events[event] for event in pair)
-        head = f"{FOUND[kind]} on {second.name}: {second.words()}, and {first.words()}; "
-        wanted = f"{head}{compiled.why(told)}. More: racebench explain TRACE {pair[0]} {pair[1]}"
+        head = f"{FOUND[kind]} on {second.name}: {second.text()}, and {first.text()}; "
+        wanted = f"{head}{compiled.why(row)}. More: racebench explain TRACE {pair[0]} {pair[1]}"
         self.equal(result["message"]["text"], wanted, "the message")
         self.equal(
             (len(result["locations"]), len(result["relatedLocations"]), len(result["stacks"])),
@@ -280,15 +280,15 @@ class Judge:
         else:
             self.equal("codeFlows" in result, False, "a code flow of what is not drawn")
 
-    def log_of(self, words):
-        out = running.printed(self.program, ["triage", "trace", "--sarif", *words])
+    def log_of(self, arguments):
+        out = running.printed(self.program, ["triage", "trace", "--sarif", *arguments])
         if not out.endswith(b"\n") or out.count(b"\n") != 1:
             raise Wrong("the log is no line")
         log = json.loads(out.decode("utf-8"))
         sarif_rules.check(log)
         rules = log["runs"][0]["tool"]["driver"]["rules"]
-        told = [(rule["id"], rule["defaultConfiguration"]["level"]) for rule in rules]
-        self.equal(told, [(rule, level) for rule, _, level in RULES.values()], "the rules, and the level of each")
+        found = [(rule["id"], rule["defaultConfiguration"]["level"]) for rule in rules]
+        self.equal(found, [(rule, level) for rule, _, level in RULES.values()], "the rules, and the level of each")
         return log
 
     def check_lines(self, folder):
@@ -300,24 +300,24 @@ class Judge:
         self.equal(coded.splitlines(), [coded_line(line, code) for line in plain.splitlines()], "the lines")
         self.tally["other line"] += coded != plain
 
-    def check(self, lines, words, root=None):
+    def check(self, lines, arguments, root=None):
         """Judges the log of a trace with these lines. Returns the fingerprints of its results."""
         with open("trace", "w", encoding="utf-8") as out:
             out.write("".join(line + "\n" for line in lines))
         events = [Event(line) for line in lines]
-        run = self.log_of(words + (["--source", root] if root else []))["runs"][0]
-        told = [
+        run = self.log_of(arguments + (["--source", root] if root else []))["runs"][0]
+        rows = [
             json.loads(line)
-            for line in running.printed(self.program, ["triage", "trace", "--json", *words]).splitlines()
+            for line in running.printed(self.program, ["triage", "trace", "--json", *arguments]).splitlines()
         ]
-        blocks = [one for one in told if one["kind"] in RULES]
+        blocks = [one for one in rows if one["kind"] in RULES]
         self.equal(len(run["results"]), len(blocks), "the number of results")
         code = code_folders.CodeFolder(root) if root else None
         for at, (result, block) in enumerate(zip(run["results"], blocks)):
             self.check_result(result, block, events, code, at < MOST_FLOWS)
         self.equal(
             run["properties"],
-            {one["kind"]: one["count"] for one in told if one["kind"] in ("known", "hidden")},
+            {one["kind"]: one["count"] for one in rows if one["kind"] in ("known", "hidden")},
             "what was left out",
         )
         self.equal(run["originalUriBaseIds"], base_of(code), "the folder of the code")

@@ -60,25 +60,28 @@ class Sessions:
         self.program = program
         self.tally = collections.Counter()
 
-    def run(self, text, *words, status=0, error=b"", **more):
+    def run(self, text, *options, status=0, error=b"", **more):
         """What a session writes on this input."""
-        given = ["session", "trace", "log", *words]
+        arguments = ["session", "trace", "log", *options]
         done = subprocess.run(
-            [self.program, *given], input=text, capture_output=True, timeout=running.PATIENCE, check=False, **more
+            [self.program, *arguments], input=text, capture_output=True, timeout=running.PATIENCE, check=False, **more
         )
         if done.returncode != status or (error is not None and done.stderr != error):
-            fail(f"{given}: status {done.returncode}, and not {status}: {done.stderr.decode()[:300]}")
+            fail(f"{arguments}: status {done.returncode}, and not {status}: {done.stderr.decode()[:300]}")
         return done.stdout
 
-    def start(self, *words):
+    def start(self, *options):
         return subprocess.Popen(
-            [self.program, "session", "trace", "log", *words], stdin=subprocess.PIPE, stdout=subprocess.PIPE, bufsize=0
+            [self.program, "session", "trace", "log", *options],
+            stdin=subprocess.PIPE,
+            stdout=subprocess.PIPE,
+            bufsize=0,
         )
 
     def entries(self):
         """The lines of the log that count, as pairs of a client and a call's words."""
         lines = running.printed(self.program, ["log", "log"]).decode("ascii").splitlines()
-        return [(int(client), words) for client, words in (line.split(" ", 1) for line in lines)]
+        return [(int(client), call) for client, call in (line.split(" ", 1) for line in lines)]
 
     def history(self, trace):
         """The logs that the lines lead to, each of which is accepted there."""
@@ -94,7 +97,7 @@ def fresh():
 
 
 def script_lines(calls):
-    return [f"{client} {plain.words_of(call)}\n".encode("ascii") for client, call, _, _ in calls]
+    return [f"{client} {plain.call_text(call)}\n".encode("ascii") for client, call, _, _ in calls]
 
 
 def at_rest(what):
@@ -115,14 +118,14 @@ def judge_scripts(sessions, seed):
     running.write("script", b"".join(lines).decode("ascii"))
     wanted = running.printed(sessions.program, ["replay", "trace", "script"])
     cuts = sorted(chance.choices(range(len(lines) + 1), k=chance.randint(0, 3)))
-    told = b"".join(sessions.run(b"".join(lines[begin:end])) for begin, end in zip([0, *cuts], [*cuts, len(lines)]))
-    if told != wanted:
+    printed = b"".join(sessions.run(b"".join(lines[begin:end])) for begin, end in zip([0, *cuts], [*cuts, len(lines)]))
+    if printed != wanted:
         fail(f"seed {seed}: cut at {cuts}, a script is answered otherwise than by replay")
     at_rest(f"seed {seed}")
     if sessions.history(trace)[-1].text() != log.text():
         fail(f"seed {seed}: the lines of the log are not those of its entries")
-    sessions.tally["undo"] += any(words.startswith("undo ") for _, words in sessions.entries())
-    if any(words == "undo" for _, words in sessions.entries()):
+    sessions.tally["undo"] += any(call.startswith("undo ") for _, call in sessions.entries())
+    if any(call == "undo" for _, call in sessions.entries()):
         fail(f"seed {seed}: an undo has no number in the log")
     sessions.tally["scripts"] += 1
 
@@ -132,7 +135,7 @@ def judge_client(sessions):
     goes on."""
     fresh()
     running.write("trace", "T1|w(x)|1\nT2|w(x)|2\n")
-    told = sessions.run(
+    printed = sessions.run(
         b"  new A \r\n\n\t\nfoo\nnew\nnew -\n1 new A\nadd A x\nraces A\nundo\nnew " + b"x" * 65533 + b"\nundo 7",
         "--client",
         "12",
@@ -142,13 +145,13 @@ def judge_client(sessions):
         b"number\npairs 0-1\n2: undone 1\n"
         b"line 11: 85 line too long\nrefused 57 no such entry\n"
     )
-    if told != wanted:
-        fail(f"a client is told {told}")
+    if printed != wanted:
+        fail(f"a client is told {printed}")
     if sessions.entries() != [(12, "new A"), (12, "new -"), (12, "undo 1")]:
         fail(f"the log has {sessions.entries()}")
-    told = sessions.run(b"33 new A\nnew A\n1 list\n")
-    if told != b"line 1: 83 bad client\nline 2: 83 bad client\nnames A\n":
-        fail(f"without a client is told {told}")
+    printed = sessions.run(b"33 new A\nnew A\n1 list\n")
+    if printed != b"line 1: 83 bad client\nline 2: 83 bad client\nnames A\n":
+        fail(f"without a client is told {printed}")
 
 
 def read_lines(process, lines):
@@ -175,47 +178,49 @@ def judge_kills(sessions, kills, seed=1):
             names = by_chance.SCHEDULES[:3]
             calls.append(by_chance.call_of_client(chance, log, names, by_chance.GROWING, 1))
         process = sessions.start("--client", "1")
-        told = []
+        lines = []
         sent = 0
         if chance.random() < 0.9:
-            os.write(process.stdin.fileno(), (plain.words_of(calls[0]) + "\n").encode("ascii"))
+            os.write(process.stdin.fileno(), (plain.call_text(calls[0]) + "\n").encode("ascii"))
             sent = 1
             select.select([process.stdout], [], [], running.PATIENCE)
         deadline = time.monotonic() + chance.uniform(0.0, 0.03)
         try:
             while time.monotonic() < deadline and sent < len(calls):
                 some = calls[sent : sent + chance.randint(1, 9)]
-                os.write(process.stdin.fileno(), "".join(plain.words_of(call) + "\n" for call in some).encode("ascii"))
+                os.write(
+                    process.stdin.fileno(), "".join(plain.call_text(call) + "\n" for call in some).encode("ascii")
+                )
                 sent += len(some)
-                read_lines(process, told)
+                read_lines(process, lines)
         except BrokenPipeError:
             fail("a session ended by itself")
         process.send_signal(signal.SIGKILL)
         process.wait()
-        read_lines(process, told)
-        told = b"".join(told).decode("ascii").splitlines()
-        logs = judge_killed(sessions, trace, log, calls[:sent], told)
+        read_lines(process, lines)
+        lines = b"".join(lines).decode("ascii").splitlines()
+        logs = judge_killed(sessions, trace, log, calls[:sent], lines)
         log = logs[-1]
         sessions.tally["kills"] += 1
-        sessions.tally["answered"] += len(told)
+        sessions.tally["answered"] += len(lines)
     if sessions.run(b"1 list\n")[:5] != b"names":
         fail("the last session does not go on")
 
 
-def judge_killed(sessions, trace, log, calls, told):
+def judge_killed(sessions, trace, log, calls, lines):
     """The log after a kill: the entries from before, those of the calls that were answered, and perhaps those of
     further ones."""
     logs = sessions.history(trace)
-    if sessions.entries()[: len(log.entries)] != [entry_words(log, number) for number in range(len(log.entries))]:
+    if sessions.entries()[: len(log.entries)] != [entry_of(log, number) for number in range(len(log.entries))]:
         fail("a kill changed entries from before")
     state = log
     for number, call in enumerate(calls):
         line, after = state.answer(1, call)
-        if number < len(told) and told[number] != line:
-            fail(f"{plain.words_of(call)} was answered {told[number]}, and plainly {line}")
+        if number < len(lines) and lines[number] != line:
+            fail(f"{plain.call_text(call)} was answered {lines[number]}, and plainly {line}")
         if len(after.entries) > len(logs[-1].entries):
-            if number < len(told):
-                fail(f"{plain.words_of(call)} was answered {told[number]}, and the log has lost it")
+            if number < len(lines):
+                fail(f"{plain.call_text(call)} was answered {lines[number]}, and the log has lost it")
             break
         state = after
     if state.text() != logs[-1].text():
@@ -223,9 +228,9 @@ def judge_killed(sessions, trace, log, calls, told):
     return logs
 
 
-def entry_words(log, number):
-    _, client, words = log.line(number).split(" ", 2)
-    return (int(client), words)
+def entry_of(log, number):
+    _, client, call = log.line(number).split(" ", 2)
+    return (int(client), call)
 
 
 def judge_cuts(sessions):
@@ -255,9 +260,9 @@ def judge_cuts(sessions):
     answers = f"{len(lines)}: done\n{len(lines) + 1}: done\n".encode("ascii")
     for torn in [b"1 new D\n 1 ad", b" 1 new D\n 1 new E\n"]:
         pathlib.Path("log").write_bytes(whole + torn)
-        told = sessions.run(b"3 new Z\n3 add Z 0\n")
+        printed = sessions.run(b"3 new Z\n3 add Z 0\n")
         left = pathlib.Path("log").read_bytes()
-        if told != answers or left != whole[:-1] + b" 3 new Z\n 3 add Z 0\n!":
+        if printed != answers or left != whole[:-1] + b" 3 new Z\n 3 add Z 0\n!":
             fail(f"with {torn} behind the closed gate the file is {left}")
 
 
@@ -295,15 +300,15 @@ def judge_edits(sessions):
         fail("the log is not that of its trace")
 
 
-def is_told(process, wanted):
+def is_answered(process, wanted):
     """Whether a session answers so next, in one piece or more."""
-    told = b""
-    while len(told) < len(wanted) and select.select([process.stdout], [], [], running.PATIENCE)[0]:
+    printed = b""
+    while len(printed) < len(wanted) and select.select([process.stdout], [], [], running.PATIENCE)[0]:
         piece = os.read(process.stdout.fileno(), 100)
-        told += piece
+        printed += piece
         if not piece:
             break
-    return told == wanted
+    return printed == wanted
 
 
 def judge_shorter(sessions):
@@ -318,15 +323,15 @@ def judge_shorter(sessions):
         bufsize=0,
     )
     os.write(process.stdin.fileno(), b"new A\nnew B\n")
-    if not is_told(process, b"0: done\n1: done\n"):
+    if not is_answered(process, b"0: done\n1: done\n"):
         fail("a session does not answer")
     cut = pathlib.Path("log").read_bytes()[: HEAD + 3]
     os.truncate("log", HEAD + 3)
-    told, error = process.communicate(b"new C\n", timeout=running.PATIENCE)
-    if (told, error, process.returncode) != (b"", b"racebench: log file line 3\n", 1) or pathlib.Path(
+    printed, error = process.communicate(b"new C\n", timeout=running.PATIENCE)
+    if (printed, error, process.returncode) != (b"", b"racebench: log file line 3\n", 1) or pathlib.Path(
         "log"
     ).read_bytes() != cut:
-        fail(f"of a file that is shorter is said {told} {error}")
+        fail(f"of a file that is shorter is said {printed} {error}")
 
 
 def judge_at_once(sessions, seed, count=CALLS_AT_ONCE):
@@ -350,16 +355,16 @@ def judge_at_once(sessions, seed, count=CALLS_AT_ONCE):
         for process, calls, lines in zip(processes, pending, read):
             some = calls[: chance.randint(0, 3)]
             del calls[: len(some)]
-            os.write(process.stdin.fileno(), "".join(plain.words_of(call) + "\n" for call in some).encode("ascii"))
+            os.write(process.stdin.fileno(), "".join(plain.call_text(call) + "\n" for call in some).encode("ascii"))
             read_lines(process, lines)
     for process, lines in zip(processes, read):
         lines.append(process.communicate(timeout=running.PATIENCE)[0])
-    told = [b"".join(lines).decode("ascii").splitlines() for lines in read]
+    lines_read = [b"".join(lines).decode("ascii").splitlines() for lines in read]
     if any(process.returncode for process in processes):
         fail("a session at once with others failed")
     at_rest(f"seed {seed}")
     try:
-        seen = legal.judge(trace, drawn, told, sessions.entries())
+        seen = legal.judge(trace, drawn, lines_read, sessions.entries())
     except legal.Wrong as what:
         fail(f"seed {seed}, sessions at once: {what}")
     sessions.tally["at once"] += seen["calls"]
@@ -374,12 +379,12 @@ def judge_opened(sessions):
         if os.path.exists("log"):
             os.remove("log")
         processes = [sessions.start("--client", str(client)) for client in (1, 2, 3)]
-        told = [
+        printed = [
             process.communicate(f"new {name}\n".encode("ascii"), timeout=running.PATIENCE)[0]
             for process, name in zip(processes, "ABC")
         ]
-        if sorted(told) != [b"0: done\n", b"1: done\n", b"2: done\n"] or len(sessions.entries()) != 3:
-            fail(f"sessions opened at once are told {told}")
+        if sorted(printed) != [b"0: done\n", b"1: done\n", b"2: done\n"] or len(sessions.entries()) != 3:
+            fail(f"sessions opened at once are told {printed}")
         sessions.tally["opened"] += 1
     at_rest("opened at once")
 
@@ -400,9 +405,11 @@ def judge_full(sessions):
 
         noted = {**os.environ, "RACEBENCH_NOTES": "1"}
         error = b"racebench: write failed\nnote: log cannot be written: the disk may be full\n"
-        told = sessions.run(b"1 new long-name-of-a-schedule\n", status=1, error=error, preexec_fn=limited, env=noted)
-        if told or sessions.entries() != [(1, "new A")]:
-            fail(f"with {more} bytes left is told {told}, and the log has {sessions.entries()}")
+        printed = sessions.run(
+            b"1 new long-name-of-a-schedule\n", status=1, error=error, preexec_fn=limited, env=noted
+        )
+        if printed or sessions.entries() != [(1, "new A")]:
+            fail(f"with {more} bytes left is told {printed}, and the log has {sessions.entries()}")
         if sessions.run(b"1 list\n") != b"names A\n" or pathlib.Path("log").read_bytes() != before:
             fail(f"behind a full disk, with {more} bytes left, the session does not go on")
         sessions.tally["full"] += 1
@@ -420,13 +427,13 @@ def judge_waits(sessions):
         (b"list\nsho", b"names A B\n"),
     ]:
         os.write(process.stdin.fileno(), text)
-        if not is_told(process, wanted):
+        if not is_answered(process, wanted):
             fail(f"{text} is not answered by {wanted}")
         if select.select([process.stdout], [], [], 0.1)[0]:
             fail(f"behind {text} something more is told")
-    told = process.communicate(b"w A", timeout=running.PATIENCE)[0]
-    if told != b"shown 0\n" or process.returncode:
-        fail(f"the last line is answered by {told}")
+    printed = process.communicate(b"w A", timeout=running.PATIENCE)[0]
+    if printed != b"shown 0\n" or process.returncode:
+        fail(f"the last line is answered by {printed}")
 
 
 def judge_closed(sessions):
@@ -436,9 +443,11 @@ def judge_closed(sessions):
     for closed in [(0,), (1,), (2,), (0, 1), (0, 2), (1, 2), (0, 1, 2)]:
         pathlib.Path("log").unlink(missing_ok=True)
         sessions.run(b"1 new A\n1 add A 0\n")
-        words = [sessions.program, "session", "trace", "log"]
+        command = [sessions.program, "session", "trace", "log"]
         streams = dict.fromkeys(["stdin", "stdout", "stderr"], subprocess.PIPE)
-        with subprocess.Popen(words, **streams, preexec_fn=lambda: [os.close(stream) for stream in closed]) as process:
+        with subprocess.Popen(
+            command, **streams, preexec_fn=lambda: [os.close(stream) for stream in closed]
+        ) as process:
             out, _ = process.communicate(b"2 new B\n2 list\n", timeout=running.PATIENCE)
         is_written = closed == (2,)
         if (out, process.returncode) != ((b"2: done\nnames A B\n", 0) if is_written else (b"", 1)):

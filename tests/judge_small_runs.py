@@ -49,16 +49,16 @@ def scripts(chance, trace):
 
 
 def judge_run(program, tally, room, trace, drawn):
-    words = ["threads", *room, "trace"] + [f"script{client}" for client in range(1, len(drawn) + 1)]
+    arguments = ["threads", *room, "trace"] + [f"script{client}" for client in range(1, len(drawn) + 1)]
     running.write("trace", trace.text())
     for client, calls in enumerate(drawn, start=1):
-        running.write(f"script{client}", "".join(f"{client} {plain.words_of(call)}\n" for call in calls))
-    printed = running.printed(program, words).decode("ascii")
+        running.write(f"script{client}", "".join(f"{client} {plain.call_text(call)}\n" for call in calls))
+    printed = running.printed(program, arguments).decode("ascii")
     try:
-        told, entries = running.parts_of(printed.splitlines(), [len(calls) for calls in drawn])
-        seen = legal.judge(trace, drawn, told, entries)
+        answers, entries = running.parts_of(printed.splitlines(), [len(calls) for calls in drawn])
+        seen = legal.judge(trace, drawn, answers, entries)
     except Wrong as what:
-        raise Wrong(f"{what}{judging.given(words)}\n--- printed\n{printed}") from what
+        raise Wrong(f"{what}{judging.texts_of(arguments)}\n--- printed\n{printed}") from what
     if room != running.NO_DOOR:
         del seen["mixed"]
     tally.update(seen)

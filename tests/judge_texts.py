@@ -97,7 +97,7 @@ REFUSED = [
 ]
 
 
-def said_of(events):
+def note_of(events):
     """What is printed for a trace of these events; a text is printed as it is."""
     if isinstance(events, str):
         return events
@@ -114,10 +114,10 @@ def judge(program, text, wanted):
 
 
 def judged(run):
-    rows = [(text, (0, said_of(events), "")) for events, *texts in ACCEPTED for text in texts]
+    rows = [(text, (0, note_of(events), "")) for events, *texts in ACCEPTED for text in texts]
     accepted = len(rows)
-    rows += [(text, (1, "", f"racebench: trace {said}\n")) for said, *texts in REFUSED for text in texts]
-    missing = NUMBERS - {int(re.search(r": (\d+) ", said)[1]) for said, *_ in REFUSED}
+    rows += [(text, (1, "", f"racebench: trace {fault}\n")) for fault, *texts in REFUSED for text in texts]
+    missing = NUMBERS - {int(re.search(r": (\d+) ", fault)[1]) for fault, *_ in REFUSED}
     if missing or not accepted:
         raise Wrong(f"no text is refused for {missing}, or none is accepted")
     for text, wanted in rows:

@@ -99,8 +99,8 @@ def judge_run(program, tally, room, of, names, drawn):
     """Judges one run, and counts what was seen."""
     printed = running.printed(program, ["threads", *room, "trace", *names]).decode("ascii")
     try:
-        told, entries = running.parts_of(printed.splitlines(), [len(lines) for lines in drawn])
-        tally.update(legal.judge(of, drawn, told, entries))
+        answers, entries = running.parts_of(printed.splitlines(), [len(lines) for lines in drawn])
+        tally.update(legal.judge(of, drawn, answers, entries))
     except Wrong as what:
         raise Wrong(f"{what}\n--- printed\n{printed}") from what
 

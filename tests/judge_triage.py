@@ -141,21 +141,21 @@ def verdict(trace, pairs, tries):
 def text_of(objects):
     """The lines of text that tell what these objects tell."""
     lines = []
-    for told in map(json.loads, objects):
-        kind = told.pop("kind")
+    for fields in map(json.loads, objects):
+        kind = fields.pop("kind")
         if kind == "counts":
-            lines += [f"{name} {told.pop(name)}" for name in COUNTS]
+            lines += [f"{name} {fields.pop(name)}" for name in COUNTS]
         elif kind in ("known", "hidden"):
-            lines.append(f"{kind} {told.pop('count')}")
+            lines.append(f"{kind} {fields.pop('count')}")
         else:
-            accesses = told.pop("accesses")
-            numbers = [f"{name} {told.pop(name)}" for name in NUMBERS if name in told]
+            accesses = fields.pop("accesses")
+            numbers = [f"{name} {fields.pop(name)}" for name in NUMBERS if name in fields]
             lines.append(
                 " ".join(
                     [
                         kind,
                         *[str(access["event"]) for access in accesses],
-                        *([told.pop("how")] if kind == "race" else []),
+                        *([fields.pop("how")] if kind == "race" else []),
                         *numbers,
                     ]
                 )
@@ -163,8 +163,8 @@ def text_of(objects):
             for access in accesses:
                 lines.append(f"  {access['thread']}|{access['operation']}({access['variable']})|{access['location']}")
                 lines += [f"    holds {lock}" for lock in access["holds"]]
-        if told:
-            raise Wrong(f"more is told of a {kind}: {told}")
+        if fields:
+            raise Wrong(f"more is told of a {kind}: {fields}")
     return lines
 
 
@@ -251,54 +251,54 @@ class Judge:
         running.write("known", out.decode("ascii"))
         kept = [block for block in rest if block not in races]
         status, out, err = running.ended(self.program, ["triage", "trace", "--known", "known", *flag])
-        said = b"" if races else b"racebench: known has no block `race`: no race is known\n"
-        if (status, err) != (0, said):
+        fault = b"" if races else b"racebench: known has no block `race`: no race is known\n"
+        if (status, err) != (0, fault):
             raise Wrong(
-                f"status {status} with {len(races)} known races, and on standard error {err!r}, and not {said!r}"
+                f"status {status} with {len(races)} known races, and on standard error {err!r}, and not {fault!r}"
             )
         self.compare(counts + sum(kept, []) + [f"known {len(races)}"], out)
         if races:
             self.judge_json(out, "--known", "known", *flag)
         self.tally["known"] += len(races)
         self.judge_filters(counts, rest, flag, chance)
-        words = ["triage", "trace", *chance.choice([[], ["--json"], ["--lines"], ["--page"], ["--sarif"]]), *flag]
-        status, out, err = running.ended(self.program, [*words, "--fail"])
+        arguments = ["triage", "trace", *chance.choice([[], ["--json"], ["--lines"], ["--page"], ["--sarif"]]), *flag]
+        status, out, err = running.ended(self.program, [*arguments, "--fail"])
         wanted = (3, b"") if races else (0, b"") if located.trace.events else (4, NO_EVENTS)
-        if (status, err) != wanted or out != running.printed(self.program, words):
+        if (status, err) != wanted or out != running.printed(self.program, arguments):
             raise Wrong(
-                f"{words} --fail ends with {status} and {err!r} at {len(races)} races, or prints something else"
+                f"{arguments} --fail ends with {status} and {err!r} at {len(races)} races, or prints something else"
             )
         self.tally["failed"] += bool(races)
-        self.judge_marks(located, races, words, out, chance)
+        self.judge_marks(located, races, arguments, out, chance)
         self.tally["traces"] += 1
         self.tally["pairs"] += int(counts[2].split(" ")[1])
 
-    def judge_marks(self, located, races, words, out, chance):
+    def judge_marks(self, located, races, arguments, out, chance):
         """Judges the report on a recording of the trace with marks, whole or not, by the report without marks."""
         end, absent = chance.choice(missing.ENDS)
         running.write("trace", missing.BEGIN + located.text() + end)
-        form = next((word for word in words if word in ("--json", "--lines", "--page", "--sarif")), "")
-        status, printed, err = running.ended(self.program, [*words, "--fail"])
+        form = next((word for word in arguments if word in ("--json", "--lines", "--page", "--sarif")), "")
+        status, printed, err = running.ended(self.program, [*arguments, "--fail"])
         running.write("trace", located.text())
-        wanted = missing.said(form, absent, out)
+        wanted = missing.missing_line(form, absent, out)
         if missing.sorted_log(form, absent, printed) != wanted:
-            raise Wrong(f"{words} with the end {end!r} prints {printed!r}, and not {wanted!r}")
+            raise Wrong(f"{arguments} with the end {end!r} prints {printed!r}, and not {wanted!r}")
         has_events = bool(located.trace.events)
-        said = b"" if races else b"" if has_events else NO_EVENTS
-        said += f"racebench: not whole: {absent}\n".encode() if absent and not races else b""
-        if (status, err) != (missing.status_of(bool(races), has_events, absent), said):
-            raise Wrong(f"{words} --fail with the end {end!r} ends with {status} and {err!r}")
+        fault = b"" if races else b"" if has_events else NO_EVENTS
+        fault += f"racebench: not whole: {absent}\n".encode() if absent and not races else b""
+        if (status, err) != (missing.status_of(bool(races), has_events, absent), fault):
+            raise Wrong(f"{arguments} --fail with the end {end!r} ends with {status} and {err!r}")
         self.tally["not whole" if absent else "whole"] += 1
         self.tally["unjudged"] += status == 4 and has_events
 
-    def judge_json(self, out, *words):
+    def judge_json(self, out, *arguments):
         """Compares the objects that are printed with the text for the same words."""
-        printed = running.printed(self.program, ["triage", "trace", "--json", *words]).decode("utf-8").splitlines()
-        told = text_of(printed)
-        if told != out.decode("utf-8").splitlines():
-            raise Wrong(f"JSON tells {told}, and the text {out!r}")
-        self.tally["objects"] += len(told)
-        lines = running.printed(self.program, ["triage", "trace", "--lines", *words]).decode("utf-8").splitlines()
+        printed = running.printed(self.program, ["triage", "trace", "--json", *arguments]).decode("utf-8").splitlines()
+        from_json = text_of(printed)
+        if from_json != out.decode("utf-8").splitlines():
+            raise Wrong(f"JSON tells {from_json}, and the text {out!r}")
+        self.tally["objects"] += len(from_json)
+        lines = running.printed(self.program, ["triage", "trace", "--lines", *arguments]).decode("utf-8").splitlines()
         wanted = compiled.lines_of(json.loads(line) for line in printed)
         if lines != wanted:
             raise Wrong(f"lines for editors tell {lines}, and not {wanted}")

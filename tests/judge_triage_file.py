@@ -210,8 +210,8 @@ def refusal_of(text):
                 spot = next(
                     (n for n in range(start + 1, end) if re.match(rf"{key}(?![A-Za-z0-9_-])", lines[n])), start
                 )
-                words = "has expired" if found == "expired" else WORDS[found]
-                return f"racebench: triage file line {spot + 1} column 1: entry {at + 1} {words}"
+                refusal = "has expired" if found == "expired" else WORDS[found]
+                return f"racebench: triage file line {spot + 1} column 1: entry {at + 1} {refusal}"
     return None
 
 
@@ -333,12 +333,12 @@ def demand(holds, what):
 
 def judge_forms(program, folder, kept, races, notes):
     """In each form the same races are left out and counted, and the same notes are written."""
-    words = ["--triage", "f.toml", "--today", TODAY.isoformat()]
-    made = {form: run(program, folder, form, *words) for form in ("--json", "--lines", "--page", "--sarif")}
+    arguments = ["--triage", "f.toml", "--today", TODAY.isoformat()]
+    made = {form: run(program, folder, form, *arguments) for form in ("--json", "--lines", "--page", "--sarif")}
     demand(all((done.returncode, done.stderr) == (0, notes) for done in made.values()), "another form has other notes")
-    told = [json.loads(line) for line in made["--json"].stdout.splitlines()]
-    pairs = [tuple(access["event"] for access in row["accesses"]) for row in told if row["kind"] == "race"]
-    left = [row["count"] for row in told if row["kind"] == "known"]
+    objects = [json.loads(line) for line in made["--json"].stdout.splitlines()]
+    pairs = [tuple(access["event"] for access in row["accesses"]) for row in objects if row["kind"] == "race"]
+    left = [row["count"] for row in objects if row["kind"] == "known"]
     demand((pairs, left) == (kept, [races - len(kept)]), f"the JSON has {pairs} and {left}")
     log = json.loads(made["--sarif"].stdout)["runs"][0]
     results = [result for result in log["results"] if result["ruleId"] == "data-race"]
@@ -463,18 +463,18 @@ def judge_clock(program, folder, reached):
             if clock() == today:
                 break
         place = "racebench: triage file line 4 column 1"
-        told = f"{place}: entry 1 has expired\n" if days < 0 else "racebench: f.toml: entry 1 is about no race\n"
+        expected = f"{place}: entry 1 has expired\n" if days < 0 else "racebench: f.toml: entry 1 is about no race\n"
         demand(
-            (done.returncode, done.stderr.decode()) == (int(days < 0), told),
-            f"{days} days from {today}: {done.stderr.decode()} in place of {told}",
+            (done.returncode, done.stderr.decode()) == (int(days < 0), expected),
+            f"{days} days from {today}: {done.stderr.decode()} in place of {expected}",
         )
         reached["days of the clock"] += 1
 
 
-def at_clock(program, folder, clock, *words):
+def at_clock(program, folder, clock, *arguments):
     """A run at these seconds of the clock of the day, by tools/clock.c."""
     path = os.path.abspath(os.path.join(folder, "clock.so"))
-    return running.ended(program, ["triage", *words], {"LD_PRELOAD": path, "CLOCK_AT": str(clock)})
+    return running.ended(program, ["triage", *arguments], {"LD_PRELOAD": path, "CLOCK_AT": str(clock)})
 
 
 def judge_day(program, folder, day, seconds, reached):
@@ -482,10 +482,10 @@ def judge_day(program, folder, day, seconds, reached):
     clock = (day - datetime.date(1970, 1, 1)).days * 86400 + seconds
     for last in (day, day - DAY):
         write(folder, "f.toml", text_of([{"paths": ["no.c", "no.c"], "verdict": "known", "expires": last}]))
-        told = at_clock(program, folder, clock, "t.std", "--triage", "f.toml")
+        found = at_clock(program, folder, clock, "t.std", "--triage", "f.toml")
         wanted = at_clock(program, folder, clock, "t.std", "--triage", "f.toml", "--today", day.isoformat())
-        demand(told == wanted, f"the clock at {clock}, {day}: {told} in place of {wanted}")
-        demand(told[0] == int(last < day), f"the clock at {clock}, {day}: status {told[0]} of an entry up to {last}")
+        demand(found == wanted, f"the clock at {clock}, {day}: {found} in place of {wanted}")
+        demand(found[0] == int(last < day), f"the clock at {clock}, {day}: status {found[0]} of an entry up to {last}")
     reached["days of other clocks"] += 1
 
 
@@ -498,10 +498,10 @@ def judge_other_clocks(program, folder, reached):
             for day in [first, first - DAY, *[first + 27 * DAY, first + 28 * DAY] * (month == 2)]:
                 if day >= datetime.date(1970, 1, 1):
                     judge_day(program, folder, day, 86399 * (month % 2), reached)
-    for clock, words in itertools.product(["none", -1, -86400], [["t.std"], ["t.std", "--windows=2"]]):
-        told = at_clock(program, folder, clock, *words, "--triage", "f.toml")
+    for clock, arguments in itertools.product(["none", -1, -86400], [["t.std"], ["t.std", "--windows=2"]]):
+        found = at_clock(program, folder, clock, *arguments, "--triage", "f.toml")
         wanted = (1, b"", b"racebench: the clock has no date: pass one with `--today`\n")
-        demand(told == wanted, f"{words} with the clock at {clock}: {told}")
+        demand(found == wanted, f"{arguments} with the clock at {clock}: {found}")
         reached["no day"] += 1
 
 

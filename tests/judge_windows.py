@@ -91,10 +91,10 @@ def blocks_of(lines, name):
 
 def with_taken_name(chance, trace):
     """The trace, whose variables or whose locks all have the name that a prologue takes if it may."""
-    words = chance.choice([("r", "w"), ("acq", "rel")])
+    operations = chance.choice([("r", "w"), ("acq", "rel")])
     events = []
     for event in trace.events:
-        event = event._replace(name="window") if event.word in words else event
+        event = event._replace(name="window") if event.word in operations else event
         if plain.breach(events, event) is None:
             events.append(event)
     return plain.Trace(events)
@@ -165,10 +165,10 @@ def wanted_blocks(events, start, end, name):
 
 def place_in(line):
     """Where a window lies, by its first line."""
-    words = line.removeprefix("window|begin(").removesuffix(")|").split(" ")
-    if words[::2] != ["FROM", "TO", "PROLOGUE"]:
+    numbers = line.removeprefix("window|begin(").removesuffix(")|").split(" ")
+    if numbers[::2] != ["FROM", "TO", "PROLOGUE"]:
         raise Wrong(f"the first line of a window is {line}")
-    return tuple(map(int, words[1::2]))
+    return tuple(map(int, numbers[1::2]))
 
 
 def places_in(folder):
@@ -186,11 +186,13 @@ def moved(part, place):
     start, _, prologue = place
     head, *rows = [json.loads(line) for line in part.splitlines()]
     kept = [row for row in rows if row["accesses"][0]["event"] >= prologue]
-    told = [head | {"apart": head["apart"] - len(rows) + len(kept)}, *kept]
+    moved_rows = [head | {"apart": head["apart"] - len(rows) + len(kept)}, *kept]
     for row in kept:
         for access in row["accesses"]:
             access["event"] += start - prologue
-    return "".join(json.dumps(row, sort_keys=True, separators=(",", ":"), ensure_ascii=False) + "\n" for row in told)
+    return "".join(
+        json.dumps(row, sort_keys=True, separators=(",", ":"), ensure_ascii=False) + "\n" for row in moved_rows
+    )
 
 
 class Judge:
@@ -203,14 +205,14 @@ class Judge:
         shutil.rmtree(folder, ignore_errors=True)
         if most % 2:
             os.mkdir(folder)
-        told = running.printed(self.program, ["cut", "trace", "--windows", str(most), "--into", folder]).decode()
+        printed = running.printed(self.program, ["cut", "trace", "--windows", str(most), "--into", folder]).decode()
         shorter = sum(end - start < most and end < len(events) for start, end in wanted)
         self.seen["shorter"] += shorter > 0
         counts = (
             f"windows {len(wanted)}\nshorter {shorter}\nevents {len(events)}\nthreads {len(located.trace.threads())}\n"
         )
-        if told != counts:
-            raise Wrong(f"cut --into prints {told!r} and not {counts!r}")
+        if printed != counts:
+            raise Wrong(f"cut --into prints {printed!r} and not {counts!r}")
         if sorted(os.listdir(folder)) != [f"window-{start:09}.std" for start, _ in wanted]:
             raise Wrong(f"the folder has {sorted(os.listdir(folder))}, for windows {wanted}")
         return {start: self.window(located, start, end, f"{folder}/window-{start:09}.std") for start, end in wanted}
@@ -252,13 +254,13 @@ class Judge:
             os.remove(name)
         return made
 
-    def same(self, words, wanted, stdin=None):
+    def same(self, arguments, wanted, stdin=None):
         done = subprocess.run(
-            [self.program, *words], capture_output=True, check=False, stdin=stdin, timeout=running.PATIENCE
+            [self.program, *arguments], capture_output=True, check=False, stdin=stdin, timeout=running.PATIENCE
         )
         if (done.returncode, done.stderr) != (0, b"") or done.stdout != wanted:
             raise Wrong(
-                f"{words} ends with {done.returncode} and prints\n{done.stdout.decode()}{done.stderr.decode()}and "
+                f"{arguments} ends with {done.returncode} and prints\n{done.stdout.decode()}{done.stderr.decode()}and "
                 f"not\n{wanted.decode()}"
             )
 
@@ -266,23 +268,23 @@ class Judge:
         """The report of `triage --windows`, which is returned as objects."""
         flags = chance.choice([[], ["--apart"]])
         tries = chance.choice([[], [], ["--tries", "0"]])
-        told, page, log, coded, text = self.report(places, most, flags, tries)
+        json_text, page, log, coded, text = self.report(places, most, flags, tries)
         events, threads = len(located.trace.events), len(located.trace.threads())
         head = f"windows {len(places)}\nshorter 0\nevents {events}\nthreads {threads}\n".encode()
-        words = ["triage", "trace", f"--windows={most}", *flags, *tries]
-        self.same([*words, "--json"], told)
-        self.same([*words, "--page"], page)
-        self.same([*words, "--sarif"], log)
-        self.same([*words, *WITH_CODE], coded)
+        arguments = ["triage", "trace", f"--windows={most}", *flags, *tries]
+        self.same([*arguments, "--json"], json_text)
+        self.same([*arguments, "--page"], page)
+        self.same([*arguments, "--sarif"], log)
+        self.same([*arguments, *WITH_CODE], coded)
         self.seen["lines of code"] += coded != log
-        self.same(words, head + text)
+        self.same(arguments, head + text)
         workers = chance.choice([1, 2, 5])
-        self.same([*words, "--workers", str(workers)], head + text)
+        self.same([*arguments, "--workers", str(workers)], head + text)
         self.seen["workers"] += 1
-        self.judge_status(chance, words, head + text)
+        self.judge_status(chance, arguments, head + text)
         with open("trace", "rb") as stdin:
-            of_input = told.replace(b'"name":"trace ', b'"name":"- ')
-            again = [self.program, "triage", "-", *words[2:], "--json"]
+            of_input = json_text.replace(b'"name":"trace ', b'"name":"- ')
+            again = [self.program, "triage", "-", *arguments[2:], "--json"]
             found = subprocess.run(again, capture_output=True, check=False, stdin=stdin, timeout=running.PATIENCE)
             if found.stdout.replace(b'"part":"trace ', b'"part":"- ') != of_input.replace(
                 b'"part":"trace ', b'"part":"- '
@@ -290,34 +292,34 @@ class Judge:
                 raise Wrong(f"of standard input it prints\n{found.stdout.decode()}and not\n{of_input.decode()}")
         self.seen["standard input"] += 1
         self.seen["one window" if len(places) == 1 else "many windows"] += 1
-        return [json.loads(line) for line in told.splitlines()], bool(flags)
+        return [json.loads(line) for line in json_text.splitlines()], bool(flags)
 
-    def judge_status(self, chance, words, wanted):
+    def judge_status(self, chance, arguments, wanted):
         """`--fail` gives the status and `--progress` lines on standard error, beside the same output."""
         races = not wanted.split(b"\nraces ")[1].startswith(b"0\n")
-        if running.ended(self.program, [*words, "--fail"]) != (3 if races else 0, wanted, b""):
-            raise Wrong(f"{words} --fail ends otherwise, with {'a race' if races else 'no race'}")
+        if running.ended(self.program, [*arguments, "--fail"]) != (3 if races else 0, wanted, b""):
+            raise Wrong(f"{arguments} --fail ends otherwise, with {'a race' if races else 'no race'}")
         self.seen["failed"] += races
         if chance.random() < 0.3:
-            self.judge_progress(words, wanted)
+            self.judge_progress(arguments, wanted)
 
-    def judge_progress(self, words, wanted):
+    def judge_progress(self, arguments, wanted):
         """`--progress` counts each window, and how many events come before the next one; at the end all."""
-        status, out, err = running.ended(self.program, [*words, "--progress"])
-        told = [re.fullmatch(rb"windows (\d+) events (\d+)", line) for line in err.splitlines()]
-        if (status, out) != (0, wanted) or not all(told):
-            raise Wrong(f"{words} --progress ends with {status}, {err!r}, or prints something else")
-        windows, events = ([int(line[at]) for line in told] for at in (1, 2))
+        status, out, err = running.ended(self.program, [*arguments, "--progress"])
+        matches = [re.fullmatch(rb"windows (\d+) events (\d+)", line) for line in err.splitlines()]
+        if (status, out) != (0, wanted) or not all(matches):
+            raise Wrong(f"{arguments} --progress ends with {status}, {err!r}, or prints something else")
+        windows, events = ([int(line[at]) for line in matches] for at in (1, 2))
         counts = {line.split()[0]: int(line.split()[1]) for line in wanted.splitlines()[:4]}
         if windows != list(range(1, counts[b"windows"] + 1)) or events[-1:] != [counts[b"events"]] * bool(windows):
-            raise Wrong(f"{words} --progress tells of {err!r} beside\n{wanted.decode()}")
+            raise Wrong(f"{arguments} --progress tells of {err!r} beside\n{wanted.decode()}")
         if any(later <= one for one, later in zip(events, events[1:])):
-            raise Wrong(f"{words} --progress tells of no more events behind a window: {err!r}")
+            raise Wrong(f"{arguments} --progress tells of no more events behind a window: {err!r}")
         self.seen["progress"] += bool(err)
 
     def rows(self, objects):
         """The rows of each part, by the first event of its window."""
-        parts = {int(told["name"].rsplit(" ", 1)[1]): told["text"] for told in objects if told["kind"] == "part"}
+        parts = {int(row["name"].rsplit(" ", 1)[1]): row["text"] for row in objects if row["kind"] == "part"}
         return {start: [json.loads(line) for line in text.splitlines()[1:]] for start, text in parts.items()}
 
     def judge_races(self, located, places, objects):
@@ -326,17 +328,17 @@ class Judge:
             shown = shown_from(located.trace, start, places[start][1])
             if shown is None:
                 continue
-            told = {}
+            kinds = {}
             for row in rows:
                 pair = tuple(sorted(access["event"] for access in row["accesses"]))
-                told[tuple(sorted(located.places[event] for event in pair))] = row["kind"]
+                kinds[tuple(sorted(located.places[event] for event in pair))] = row["kind"]
                 self.seen[row["kind"]] += 1
                 if row["kind"] == "race" and pair not in shown:
                     raise Wrong(f"{pair} is a race of the window at {start}, and no reordering shows it")
                 if row["kind"] == "apart" and pair in shown:
                     raise Wrong(f"{pair} is apart in the window at {start}, and a reordering shows it")
             for pair in shown & set(located.trace.conflicting()):
-                if min(pair) >= start and told.get(tuple(sorted(located.places[event] for event in pair))) not in (
+                if min(pair) >= start and kinds.get(tuple(sorted(located.places[event] for event in pair))) not in (
                     "race",
                     "undecided",
                 ):
@@ -359,11 +361,11 @@ class Judge:
             raise Wrong(f"cut --window {start} prints\n{found}and not\n{wanted}")
         self.seen["one at a time"] += 1
 
-    def refused(self, words, fault):
+    def refused(self, arguments, fault):
         """What is printed before this fault."""
-        status, out, err = running.ended(self.program, words)
+        status, out, err = running.ended(self.program, arguments)
         if (status, err) != (1, f"racebench: {fault}\n".encode()):
-            raise Wrong(f"{words} ends with {status}, {err.decode()!r} and not with {fault!r}")
+            raise Wrong(f"{arguments} ends with {status}, {err.decode()!r} and not with {fault!r}")
         return out
 
     def judge_faults(self, chance, located, most):
@@ -442,8 +444,8 @@ class Judge:
             resource.setrlimit(resource.RLIMIT_FSIZE, (60, 60))
 
         running.write("trace", "A|w(x)|a long place\n" * 3)
-        words = [self.program, "cut", "trace", "--windows", "2", "--into", "limited"]
-        done = subprocess.run(words, capture_output=True, preexec_fn=limit, timeout=running.PATIENCE, check=False)
+        command = [self.program, "cut", "trace", "--windows", "2", "--into", "limited"]
+        done = subprocess.run(command, capture_output=True, preexec_fn=limit, timeout=running.PATIENCE, check=False)
         found = done.returncode, done.stdout, done.stderr, os.listdir("limited")
         if found != (1, b"", b"racebench: write failed\n", []):
             raise Wrong(f"a window whose file may not be so long ends with {found}")
@@ -455,12 +457,12 @@ class Judge:
         running.write("trace", text)
         found = running.ended(self.program, ["cut", "trace", "--into", "marked"], {"RACEBENCH_NOTES": "1"})
         with open("marked/window-000000000.std", encoding="utf-8") as window:
-            told = window.read()
-        if (found, told) != (
+            read_window = window.read()
+        if (found, read_window) != (
             (0, b"windows 1\nshorter 0\nevents 2\nthreads 2\n", b""),
             f"window|begin(FROM 0 TO 2 PROLOGUE 0)|\n{text}",
         ):
-            raise Wrong(f"cut --into of a marked trace ends with {found}, and the window is\n{told}")
+            raise Wrong(f"cut --into of a marked trace ends with {found}, and the window is\n{read_window}")
         self.seen["mark"] += 1
 
     def write(self, chance, text):
@@ -500,35 +502,35 @@ class Judge:
         with open("trace", encoding="ascii", newline="") as trace:
             text = trace.read()
         form = chance.choice(["", "--page", "--sarif"])
-        words = ["triage", "-" if chance.random() < 0.5 else "trace", f"--windows={most}", *[form] * bool(form)]
-        plain = self.fed(words, text)[1]
+        arguments = ["triage", "-" if chance.random() < 0.5 else "trace", f"--windows={most}", *[form] * bool(form)]
+        plain = self.fed(arguments, text)[1]
         end, absent = chance.choice(missing.ENDS)
         marked = missing.BEGIN + text + "\n" * (not text.endswith("\n")) + end
         running.write("trace", marked)
-        status, out, _ = self.fed([*words, "--fail"], marked)
-        if missing.sorted_log(form, absent, out) != missing.said(form, absent, plain):
-            raise Wrong(f"{words} of a recording with the end {end!r} prints {out!r}")
+        status, out, _ = self.fed([*arguments, "--fail"], marked)
+        if missing.sorted_log(form, absent, out) != missing.missing_line(form, absent, plain):
+            raise Wrong(f"{arguments} of a recording with the end {end!r} prints {out!r}")
         if status not in (3, 4 if absent else 0):
-            raise Wrong(f"{words} --fail of a recording with the end {end!r} ends with {status}")
-        self.judge_marked_parts(words, absent, marked)
+            raise Wrong(f"{arguments} --fail of a recording with the end {end!r} ends with {status}")
+        self.judge_marked_parts(arguments, absent, marked)
         self.judge_marked_windows(chance, most, end, absent)
         running.write("trace", text)
         self.seen["not whole" if absent else "whole"] += 1
 
-    def fed(self, words, text):
+    def fed(self, arguments, text):
         """What the program answers if it is fed with this text."""
         done = subprocess.run(
-            [self.program, *words], input=text.encode(), capture_output=True, timeout=running.PATIENCE, check=False
+            [self.program, *arguments], input=text.encode(), capture_output=True, timeout=running.PATIENCE, check=False
         )
         return done.returncode, done.stdout, done.stderr
 
-    def judge_marked_parts(self, words, absent, marked):
+    def judge_marked_parts(self, arguments, absent, marked):
         """Each part of the report says what is missing, and so the merged report does."""
-        out = self.fed([*words[:3], "--json"], marked)[1]
-        head, *told = map(json.loads, out.splitlines())
-        parts = [json.loads(line["text"].splitlines()[0]) for line in told if line["kind"] == "part"]
+        out = self.fed([*arguments[:3], "--json"], marked)[1]
+        head, *objects = map(json.loads, out.splitlines())
+        parts = [json.loads(line["text"].splitlines()[0]) for line in objects if line["kind"] == "part"]
         if {line.get("absent", "") for line in [head, *parts]} != {absent}:
-            raise Wrong(f"{words} --json says of what is missing, {absent!r}: {out!r}")
+            raise Wrong(f"{arguments} --json says of what is missing, {absent!r}: {out!r}")
 
     def judge_marked_windows(self, chance, most, end, absent):
         """Each window of the recording has its marks, printed or in a file."""

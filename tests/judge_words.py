@@ -59,21 +59,33 @@ EMPTY = "`--only` and `--hide` take a text that is not empty"
 ALONE = "`--windows` does not go with `--lines`, `--init-triage`, `--confirmed`"
 CODED = "`--source` goes with `--sarif` or `--lines`"
 GOES = [
-    *[(f"{words} --source .", CODED) for words in ("triage t", "triage t --page", "triage t --json")],
-    *[(f"{words} --source .", "`--source` goes with `--sarif`") for words in ("merge part", "merge part --json")],
-    *[(f"{words} --today 2027-06-01", "`--today` goes with `--triage`") for words in ("triage t", "merge part")],
+    *[(f"{arguments} --source .", CODED) for arguments in ("triage t", "triage t --page", "triage t --json")],
+    *[
+        (f"{arguments} --source .", "`--source` goes with `--sarif`")
+        for arguments in ("merge part", "merge part --json")
+    ],
+    *[
+        (f"{arguments} --today 2027-06-01", "`--today` goes with `--triage`")
+        for arguments in ("triage t", "merge part")
+    ],
     *[(f"triage t {form} --confirmed c", "`--confirmed` goes with `--page`") for form in ("", "--json", "--sarif")],
     *[(f"triage t {word} --windows{size}", ALONE) for word in ("--lines", "--init-triage") for size in ("", "=4")],
     ("triage t --page --confirmed c --windows", ALONE),
     ("cut t --into d --window 0", "`--into` writes all windows, and `--window` prints one"),
     ("triage t --windows 4", "`--windows` takes its number after `=`, as in `--windows=1000`"),
     ("triage --windows 4 t --apart", "`--windows` takes its number after `=`, as in `--windows=1000`"),
-    *[(f"{words} --hide=", EMPTY) for words in ("triage t", "triage t --windows", "merge part", "triage t --hide x")],
     *[
-        (f"{words} --only=", EMPTY)
-        for words in ("triage t", "triage t --windows", "merge part", "merge part --only x")
+        (f"{arguments} --hide=", EMPTY)
+        for arguments in ("triage t", "triage t --windows", "merge part", "triage t --hide x")
     ],
-    *[(f"{words} --only= --fail", EMPTY) for words in ("triage t --hide x", "triage t --json", "merge part --page")],
+    *[
+        (f"{arguments} --only=", EMPTY)
+        for arguments in ("triage t", "triage t --windows", "merge part", "merge part --only x")
+    ],
+    *[
+        (f"{arguments} --only= --fail", EMPTY)
+        for arguments in ("triage t --hide x", "triage t --json", "merge part --page")
+    ],
 ]
 # Words of which one is missing, or is one too many.
 COUNTS = [
@@ -101,10 +113,10 @@ class Judge:
     def __init__(self, run):
         self.program, self.tally = run.program, run.tally
 
-    def ended(self, words):
+    def ended(self, arguments):
         """The status, and what is written on standard output and standard error; nothing is on standard input."""
         done = subprocess.run(
-            [self.program, *words],
+            [self.program, *arguments],
             stdin=subprocess.DEVNULL,
             capture_output=True,
             timeout=running.PATIENCE,
@@ -112,77 +124,79 @@ class Judge:
         )
         return done.returncode, done.stdout, done.stderr.decode()
 
-    def refused(self, words, kind):
+    def refused(self, arguments, kind):
         """The first line of why the arguments are refused."""
-        status, out, err = self.ended(words)
+        status, out, err = self.ended(arguments)
         if status != 2 or out or not err.startswith("error: "):
-            raise Wrong(f"{words} end with {status}, and not with 2: {err!r}")
+            raise Wrong(f"{arguments} end with {status}, and not with 2: {err!r}")
         self.tally[kind] += 1
         return err.partition("\n")[0].removeprefix("error: ")
 
-    def taken(self, words, kind):
+    def taken(self, arguments, kind):
         """The arguments are accepted; what the command then does is not judged."""
-        status, _, err = self.ended(words)
+        status, _, err = self.ended(arguments)
         if status not in (0, 1) or err.startswith("error: "):
-            raise Wrong(f"{words} end with {status}: {err!r}")
+            raise Wrong(f"{arguments} end with {status}: {err!r}")
         self.tally[kind] += 1
 
     def judge_forms(self):
-        for command, (words, forms) in FORMS.items():
+        for command, (arguments, forms) in FORMS.items():
             for form in forms:
-                self.taken([command, *words, form], "taken")
+                self.taken([command, *arguments, form], "taken")
             for pair in itertools.permutations(forms, 2):
-                told = self.refused([command, *words, *pair], "excluded")
-                if set(re.findall(r"--[a-z-]+", told)) != set(pair) or " cannot be used with " not in told:
-                    raise Wrong(f"{command} {pair} is refused since {told!r}")
+                reason = self.refused([command, *arguments, *pair], "excluded")
+                if set(re.findall(r"--[a-z-]+", reason)) != set(pair) or " cannot be used with " not in reason:
+                    raise Wrong(f"{command} {pair} is refused since {reason!r}")
 
     def judge_numbers(self):
         for before, least, most in NUMBERS:
             for number, kind in [(least, "least"), (most, "most"), (f"000{most}", "most")]:
                 self.taken(f"{before}{number}".split(" "), kind)
             for number, kind in [(least - 1, "too small"), (most + 1, "too large"), (2**64 + least, "too large")]:
-                told = self.refused(f"{before}{number}".split(" "), kind)
-                if number == most + 1 and f"is not in {least}..={most}" not in told:
-                    raise Wrong(f"{before}{number} is refused since {told!r}")
+                reason = self.refused(f"{before}{number}".split(" "), kind)
+                if number == most + 1 and f"is not in {least}..={most}" not in reason:
+                    raise Wrong(f"{before}{number} is refused since {reason!r}")
             # The option for tests may have a sign.
             for number in [*[f"+{most}"] * ("--room" not in before), f"{most}x", "x", "0x1", "1.0"]:
                 self.refused(f"{before}{number}".split(" "), "signed")
 
     def judge_days(self):
         for command in ("triage t", "merge part", "triage t --windows"):
-            words = [*command.split(" "), "--triage", "f", "--today"]
+            arguments = [*command.split(" "), "--triage", "f", "--today"]
             for day in DAYS.split(" "):
-                self.taken([*words, day], "day")
+                self.taken([*arguments, day], "day")
             for day in NO_DAYS.split(" "):
-                told = self.refused([*words, day], "no day")
-                if told != "`--today` takes a date such as 2027-12-31":
-                    raise Wrong(f"{command} of the day {day} is refused since {told!r}")
+                reason = self.refused([*arguments, day], "no day")
+                if reason != "`--today` takes a date such as 2027-12-31":
+                    raise Wrong(f"{command} of the day {day} is refused since {reason!r}")
 
     def judge_tables(self):
-        for words in TWICE:
-            told = self.refused(words.split(), "twice")
-            if told != "`-` is standard input, and may be given once":
-                raise Wrong(f"{words} is refused since {told!r}")
-        for words, why in GOES:
-            told = self.refused(words.split(), "goes")
-            if told != why:
-                raise Wrong(f"{words} is refused since {told!r}")
-        for words in COUNTS:
-            self.refused(words.split(), "counted")
-        for words in TAKEN:
-            self.taken(words.split(), "taken")
+        for arguments in TWICE:
+            reason = self.refused(arguments.split(), "twice")
+            if reason != "`-` is standard input, and may be given once":
+                raise Wrong(f"{arguments} is refused since {reason!r}")
+        for arguments, why in GOES:
+            reason = self.refused(arguments.split(), "goes")
+            if reason != why:
+                raise Wrong(f"{arguments} is refused since {reason!r}")
+        for arguments in COUNTS:
+            self.refused(arguments.split(), "counted")
+        for arguments in TAKEN:
+            self.taken(arguments.split(), "taken")
 
     def judge_usual(self):
         """What is meant if a number is not given."""
         running.write("long", TRACE + "A|w(x)|\n" * 1_000_001)
-        for words, usual, other in [
+        for arguments, usual, other in [
             ("triage long --windows", "triage long --windows=1000000", "triage long --windows=999999"),
             ("cut long", "cut long --windows 1000000 --window 0", "cut long --windows 999999"),
             ("cut long --windows 9", "cut long --windows 9 --window 0", "cut long --windows 9 --window 1"),
         ]:
-            told, wanted, unlike = (running.printed(self.program, line.split(" ")) for line in (words, usual, other))
-            if told != wanted or told == unlike:
-                raise Wrong(f"{words} is not {usual}")
+            found, wanted, unlike = (
+                running.printed(self.program, line.split(" ")) for line in (arguments, usual, other)
+            )
+            if found != wanted or found == unlike:
+                raise Wrong(f"{arguments} is not {usual}")
             self.tally["usual"] += 1
 
 

@@ -42,8 +42,8 @@ def crossing(writes):
 
 def quiet():
     """Two threads whose writes are ordered by a fork and a join."""
-    words = [("M", "w", "x"), ("M", "fork", "W"), ("W", "w", "x"), ("M", "join", "W"), ("M", "w", "x")]
-    return plain.Trace(plain.Event(*event) for event in words)
+    events = [("M", "w", "x"), ("M", "fork", "W"), ("W", "w", "x"), ("M", "join", "W"), ("M", "w", "x")]
+    return plain.Trace(plain.Event(*event) for event in events)
 
 
 def script(chance, client, length):
@@ -64,13 +64,13 @@ def script(chance, client, length):
 def judge_proposals(tally, trace, entries, searcher):
     """Counts what the client of this number has proposed, where it is right."""
     first = trace.candidates()[:SLICED]
-    calls = [plain.call_of(words) for client, words in entries if client == searcher]
+    calls = [plain.call_of(call) for client, call in entries if client == searcher]
     if any(client > searcher for client, _ in entries):
         raise Wrong(f"the log has entries of a client past {searcher}")
     for call in calls:
         if call[0] != "propose" or call[1:3] not in first or call[3] != trace.slice(*call[1:3]):
             raise Wrong(
-                f"client {searcher} has made `{plain.words_of(call)}`, which proposes no slice of one of the first "
+                f"client {searcher} has made `{plain.call_text(call)}`, which proposes no slice of one of the first "
                 f"candidates"
             )
     if sorted(call[1:3] for call in calls) != first:
@@ -87,22 +87,22 @@ def judge_proposals(tally, trace, entries, searcher):
     tally["among"] += bool(places) and any(client != searcher for client in clients[places[0] : places[-1]])
 
 
-def judge_run(program, tally, words, trace, written):
+def judge_run(program, tally, arguments, trace, written):
     """Judges one run of these scripts, and counts what was seen."""
     drawn = [[plain.call_of(line) for line in lines] for lines in written]
     running.write("trace", trace.text())
     names = [f"script{client}" for client in range(1, len(written) + 1)]
     for client, (name, lines) in enumerate(zip(names, written), start=1):
         running.write(name, "".join(f"{client} {line}\n" for line in lines))
-    printed = running.printed(program, ["threads", *words, "trace", *names]).decode("ascii")
+    printed = running.printed(program, ["threads", *arguments, "trace", *names]).decode("ascii")
     try:
-        told, entries = running.parts_of(printed.splitlines(), [len(lines) for lines in drawn])
-        legal.judge(trace, drawn, told, entries)
+        answers, entries = running.parts_of(printed.splitlines(), [len(lines) for lines in drawn])
+        legal.judge(trace, drawn, answers, entries)
         judge_proposals(tally, trace, entries, len(drawn) + 1)
     except Wrong as what:
-        raise Wrong(f"{what}{judging.given(['trace', *names])}\n--- printed\n{printed}") from what
+        raise Wrong(f"{what}{judging.texts_of(['trace', *names])}\n--- printed\n{printed}") from what
     tally["runs"] += 1
-    for calls, lines in zip(drawn, told):
+    for calls, lines in zip(drawn, answers):
         for call, line in zip(calls, lines):
             if call[0] == "adopt":
                 tally["adopted"] += line.endswith(": done")

@@ -35,7 +35,7 @@ class Wrong(Exception):
 UNREADABLE = (LookupError, ValueError, TypeError, AttributeError, FileNotFoundError, subprocess.SubprocessError)
 
 
-def given(names: Iterable[str]) -> str:
+def texts_of(names: Iterable[str]) -> str:
     """The files that the program was given, for a look at what went wrong."""
     texts = []
     for name in filter(os.path.isfile, names):
@@ -50,7 +50,7 @@ def about(what: str, *files: str) -> Iterator[None]:
     try:
         yield
     except Wrong as wrong:
-        raise Wrong(f"{what}: {wrong}{given(files)}") from wrong
+        raise Wrong(f"{what}: {wrong}{texts_of(files)}") from wrong
 
 
 class Run:
@@ -69,13 +69,13 @@ class Run:
 
     def case(self, name: str, wrong: Iterable[str], is_second: bool = False) -> None:
         """Counts a case, and prints what is wrong with it, if anything is, or that it passed at its second try."""
-        told = [f"{name}: {what}" for what in wrong]
-        if is_second and not told:
+        lines = [f"{name}: {what}" for what in wrong]
+        if is_second and not lines:
             print(f"ok (second try)  {name}", flush=True)
             self.second.append(name)
-        print("".join(f"{line}\n" for line in told), end="", flush=True)
-        self.passed += not told
-        self.failed += bool(told)
+        print("".join(f"{line}\n" for line in lines), end="", flush=True)
+        self.passed += not lines
+        self.failed += bool(lines)
 
 
 def parsed(numbers: Mapping[str, int], texts: str | None) -> Run:

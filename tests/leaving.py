@@ -86,10 +86,10 @@ def ordered_variables(events: list[Event]) -> set[str]:
 
 
 def is_look(step: Step) -> bool:
-    words = [event.word for event in step.events]
-    reads = words.count("r")
+    operations = [event.word for event in step.events]
+    reads = operations.count("r")
     is_one = reads == 1 or bool(step.events) and step.events[0].name.startswith("atomic:held:")
-    return step.may_look and is_one and words == ["acq"] * reads + ["r"] * reads + ["rel"] * reads
+    return step.may_look and is_one and operations == ["acq"] * reads + ["r"] * reads + ["rel"] * reads
 
 
 def left_out_looks(steps: list[Step]) -> set[int]:

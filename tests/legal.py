@@ -20,10 +20,10 @@ Tally = collections.Counter[str]
 def history(trace: plain.Trace, entries: Iterable[tuple[int, str]]) -> list[plain.Log]:
     """The logs of the first 0, 1 .. entries, where each is accepted and is the one that its call makes."""
     logs = [plain.Log(trace)]
-    for number, (client, words) in enumerate(entries):
-        told, after = logs[-1].answer(client, plain.call_of(words))
-        if after is logs[-1] or after.line(number) != f"{number} {client} {words}":
-            raise Wrong(f"entry {number} of the log is {client} {words}, and plainly {told}")
+    for number, (client, call) in enumerate(entries):
+        answer, after = logs[-1].answer(client, plain.call_of(call))
+        if after is logs[-1] or after.line(number) != f"{number} {client} {call}":
+            raise Wrong(f"entry {number} of the log is {client} {call}, and plainly {answer}")
         logs.append(after)
     return logs
 
@@ -36,7 +36,8 @@ def place_of(logs: Sequence[plain.Log], client: int, call: plain.Call, line: str
         if place <= at < len(logs) and logs[at].reply(client, call)[0] == line:
             return at
     raise Wrong(
-        f"client {client} was told {line} for {plain.words_of(call)}, after {place} of {len(logs) - 1} entries or later"
+        f"client {client} was told {line} for {plain.call_text(call)}, "
+        f"after {place} of {len(logs) - 1} entries or later"
     )
 
 
@@ -66,13 +67,13 @@ def judge_client(
 def judge(
     trace: plain.Trace,
     drawn: Sequence[Sequence[plain.Call]],
-    told: Sequence[Sequence[str]],
+    answers: Sequence[Sequence[str]],
     entries: Sequence[tuple[int, str]],
 ) -> Tally:
     """What the run had, counted by its kind: the calls of each client, the lines that it was told, and the log."""
     tally: Tally = collections.Counter()
     logs = history(trace, entries)
-    for client, (calls, lines) in enumerate(zip(drawn, told, strict=True), start=1):
+    for client, (calls, lines) in enumerate(zip(drawn, answers, strict=True), start=1):
         judge_client(tally, logs, client, calls, lines)
     turns = [client for client, _ in entries]
     changes = sum(one != other for one, other in zip(turns, turns[1:]))

@@ -18,7 +18,7 @@ ENDS = [
 ]
 
 
-def said(form: str, missing: str, report: bytes) -> bytes:
+def missing_line(form: str, missing: str, report: bytes) -> bytes:
     """The report in this form with what is missing, if anything is. A SARIF log has its members in another order."""
     what = missing.encode()
     if not missing:

@@ -41,13 +41,13 @@ def decoder():
     return done.stdout.decode().strip()
 
 
-def run(words, **more):
+def run(command, **more):
     """As subprocess.run. A run that writes no raw file has no names."""
-    if words[0] != RUN or "--raw" in words:
-        return subprocess.run(words, **more)
+    if command[0] != RUN or "--raw" in command:
+        return subprocess.run(command, **more)
     with tempfile.TemporaryDirectory() as folder:
         raw = os.path.join(folder, "names.raw")
-        done = subprocess.run([RUN, "--raw", raw, *words[1:]], **more)
+        done = subprocess.run([RUN, "--raw", raw, *command[1:]], **more)
         if os.path.exists(raw) and os.path.getsize(raw):
             judge(raw, folder)
     return done
@@ -57,8 +57,8 @@ def judge(raw, folder):
     """Judges the names that the decoder gives in a raw file; how many there are."""
     trace, numbers = os.path.join(folder, "names.std"), os.path.join(folder, "names.numbers")
     with open(trace, "wb") as out:
-        words = [decoder(), "--all", "--numbers", numbers, raw]
-        ended = subprocess.run(words, stdout=out, stderr=subprocess.DEVNULL, check=False)
+        command = [decoder(), "--all", "--numbers", numbers, raw]
+        ended = subprocess.run(command, stdout=out, stderr=subprocess.DEVNULL, check=False)
     if ended.returncode or os.path.getsize(numbers) > 8 * MOST_EVENTS:
         return 0
     done = subprocess.run([python(), JUDGE, raw, trace, numbers], capture_output=True, check=False)

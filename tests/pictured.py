@@ -111,8 +111,8 @@ def box_of(rect):
 
 def judge_waiter(trace, listed, last, waiter, line):
     """Judges the line that tells that this event waits for the last one of a run, and why."""
-    words, _, number = line.rpartition(" ")
-    if number != str(waiter) or words not in WAITS or not WAITS[words](trace, listed, last, waiter):
+    text, _, number = line.rpartition(" ")
+    if number != str(waiter) or text not in WAITS or not WAITS[text](trace, listed, last, waiter):
         raise Wrong(f"for {last} waits {waiter}, and the line is {line!r}")
 
 
@@ -219,8 +219,8 @@ def judge_earlier(trace, picture, boxes, runs):
     """Judges the box of the runs that are not drawn one by one."""
     found = [picture.lines_in(box) for box in boxes]
     threads = {trace.thread(run[0]) for run in runs}
-    told = f"{count(len(runs), 'earlier run')} of {count(len(threads), 'thread')}"
-    wanted = [[("note", told), ("note", count(sum(map(len, runs)), "event"))]] if runs else []
+    heading = f"{count(len(runs), 'earlier run')} of {count(len(threads), 'thread')}"
+    wanted = [[("note", heading), ("note", count(sum(map(len, runs)), "event"))]] if runs else []
     if found != wanted:
         raise Wrong(f"the box of earlier runs has {found}, and plainly {wanted}")
 
@@ -305,7 +305,7 @@ def judge_accesses(trace, picture, pair):
         raise Wrong(f"the boxes of the accesses are not both seen on a narrow page: {boxes}")
 
 
-def judge_words(picture, pair, listed, runs, boxes):
+def judge_texts(picture, pair, listed, runs, boxes):
     """Judges the line on top and the one over the accesses, and that no line stands outside of the boxes but these and
     the names."""
     after = f"after {count(len(listed), 'event')} in {count(len(runs), 'run')}"
@@ -364,7 +364,7 @@ def judge_picture(trace, tally, text, pair, listed):
     tally["pictures with a shared column"] += judge_places(trace, picture, boxes, drawn, pair)
     judge_arrows(trace, picture, boxes, drawn, waiters)
     judge_accesses(trace, picture, pair)
-    judge_words(picture, pair, listed, runs, picture.boxes["box"])
+    judge_texts(picture, pair, listed, runs, picture.boxes["box"])
     tally["shades"] += judge_bars(picture, boxes, drawn, has_locks(trace, listed), tally)
     tally["arrows"] += sum(waiter is not None for waiter in waiters)
     note_kinds(trace, tally, pair, runs, drawn)

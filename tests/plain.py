@@ -26,7 +26,7 @@ Call = tuple[Any, ...]
 # A command or batch that was not undone: its number in the log, its client, and the call.
 Live = tuple[int, int, Call]
 # A row of a part that `merge` reads: an object of JSON.
-Told = Mapping[str, Any]
+ReportRow = Mapping[str, Any]
 
 
 class Event(NamedTuple):
@@ -92,7 +92,7 @@ def breach(earlier: Sequence[Event], event: Event) -> int | None:
     return None
 
 
-def asked_once(question: Callable[Concatenate[Trace, About], Answer]) -> Callable[Concatenate[Trace, About], Answer]:
+def kept_answer(question: Callable[Concatenate[Trace, About], Answer]) -> Callable[Concatenate[Trace, About], Answer]:
     """The question to a trace, whose answer is kept: a trace never changes."""
 
     def answer(trace: Trace, /, *about: About.args, **named: About.kwargs) -> Answer:
@@ -133,7 +133,7 @@ class Trace:
     def is_event(self, event: int) -> bool:
         return event < len(self.events)
 
-    @asked_once
+    @kept_answer
     def events_of(self, thread: str) -> list[int]:
         return [event for event in range(len(self.events)) if self.thread(event) == thread]
 
@@ -144,7 +144,7 @@ class Trace:
             used += [thread, name] if word in ("fork", "join") else [thread]
         return list(dict.fromkeys(used))
 
-    @asked_once
+    @kept_answer
     def forks_of(self, thread: str) -> list[int]:
         return [event for event in range(len(self.events)) if self.does(event, "fork", thread)]
 
@@ -153,7 +153,7 @@ class Trace:
         writes = [event for event in events if self.does(event, "w", variable)]
         return writes[-1] if writes else None
 
-    @asked_once
+    @kept_answer
     def last_writer(self, read: int) -> int | None:
         return self.last_write(self.events[read].name, range(read))
 
@@ -170,20 +170,20 @@ class Trace:
 
     def conflict(self, first: int, second: int) -> bool:
         one, other = self.events[first], self.events[second]
-        words = {one.word, other.word}
-        return one.thread != other.thread and one.name == other.name and words <= {"r", "w"} and "w" in words
+        operations = {one.word, other.word}
+        return one.thread != other.thread and one.name == other.name and operations <= {"r", "w"} and "w" in operations
 
     def independent(self, first: int, second: int) -> bool:
         one, other = self.events[first], self.events[second]
-        words = {one.word, other.word}
+        operations = {one.word, other.word}
         is_same = one.name == other.name
         return not (
             one.thread == other.thread
             or self.conflict(first, second)
-            or (words <= {"acq", "rel"} and is_same)
+            or (operations <= {"acq", "rel"} and is_same)
             or (one.word in ("fork", "join") and one.name == other.thread)
             or (other.word in ("fork", "join") and other.name == one.thread)
-            or (words == {"fork", "join"} and is_same)
+            or (operations == {"fork", "join"} and is_same)
         )
 
     # Correct reorderings.
@@ -209,7 +209,7 @@ class Trace:
             return all(other in earlier for other in self.events_of(name) + self.forks_of(name))
         return True
 
-    @asked_once
+    @kept_answer
     def is_reordering(self, listed: Listed) -> bool:
         return (
             all(self.is_event(event) for event in listed)
@@ -219,7 +219,7 @@ class Trace:
 
     # Why an event may not come next, and why neighbours do not change places.
 
-    @asked_once
+    @kept_answer
     def cause(self, listed: Listed, event: int) -> str | None:
         """The number and the text of the first cause for which the event may not come next, or None."""
         if not self.is_event(event):
@@ -231,8 +231,8 @@ class Trace:
             return "23 not forked"
         if word == "r":
             needs, has = self.last_writer(event), self.last_write(name, listed)
-            as_words = ["none" if write is None else write for write in (needs, has)]
-            return None if needs == has else "24 wrong writer needs {} has {}".format(*as_words)
+            texts = ["none" if write is None else write for write in (needs, has)]
+            return None if needs == has else "24 wrong writer needs {} has {}".format(*texts)
         if word == "acq":
             done = [self.events[other] for other in listed]
             others = [one.thread for one in done if one.thread != thread and holds(done, one.thread, name)]
@@ -280,7 +280,7 @@ class Trace:
             and self.is_ready(listed, second)
         )
 
-    @asked_once
+    @kept_answer
     def shown_pairs(self, listed: Listed) -> list[tuple[int, int]]:
         ready = [event for event in range(len(self.events)) if self.is_ready(listed, event)]
         return [(a, b) for a in ready for b in ready if a < b and self.shows(listed, a, b)]
@@ -299,7 +299,7 @@ class Trace:
             or (other.word == "r" and self.last_writer(second) == first)
         )
 
-    @asked_once
+    @kept_answer
     def chains(self) -> list[set[int]]:
         """For each event all to which a chain of edges leads from it, itself too."""
         numbers = range(len(self.events))
@@ -355,7 +355,7 @@ class Trace:
         """All locks in the order of their first uses, which is that of their numbers."""
         return list(dict.fromkeys(event.name for event in self.events if event.word in ("acq", "rel")))
 
-    @asked_once
+    @kept_answer
     def locks_before(self, event: int) -> list[str]:
         """The locks that the event's thread holds before it, in the order of their numbers."""
         return [lock for lock in self.locks() if holds(self.events[:event], self.thread(event), lock)]
@@ -367,7 +367,7 @@ class Trace:
         ]
         return [acquire for acquire in own if not holds(self.events[:acquire], self.thread(event), lock)][-1]
 
-    @asked_once
+    @kept_answer
     def links(self, event: int) -> set[int]:
         """What comes before the event with nothing between them: its base, the write that it reads, and what it
         joins."""
@@ -386,7 +386,7 @@ class Trace:
         is_inside = lock in self.locks_before(event) or self.does(event, "acq", lock)
         return is_inside and self.thread(acquire) != self.thread(event) and self.section_end(acquire) is not None
 
-    @asked_once
+    @kept_answer
     def must(self) -> list[set[int]]:
         """For each event all that are must-before it, itself too: the least sets with these that are closed under
         links and ends of sections."""
@@ -486,7 +486,7 @@ class Trace:
             found = self.greedy(self.needed(self.bases(*fronts)), first, second)
         return found
 
-    @asked_once
+    @kept_answer
     def reorderings(self) -> list[Listed]:
         """All correct reorderings."""
         found: list[Listed] = [()]
@@ -597,14 +597,14 @@ def new_name(events: Iterable[Event]) -> str:
     return name
 
 
-def words_of(call: Call) -> str:
+def call_text(call: Call) -> str:
     """The line of the call in a script, without its client."""
     if call[0] == "batch":
-        return "batch " + " ; ".join(words_of(command) for command in call[1])
-    words: list[Any] = []
+        return "batch " + " ; ".join(call_text(command) for command in call[1])
+    fields: list[Any] = []
     for part in call:
-        words += part if isinstance(part, tuple) else [part]
-    return " ".join(str(word) for word in words)
+        fields += part if isinstance(part, tuple) else [part]
+    return " ".join(str(word) for word in fields)
 
 
 def call_of(line: str) -> Call:
@@ -665,7 +665,7 @@ class Log:
             try:
                 self.change(rows, number, call)
             except Refused as why:
-                raise Contradiction(f"{number} {words_of(call)}, which was not undone, is refused: {why}") from why
+                raise Contradiction(f"{number} {call_text(call)}, which was not undone, is refused: {why}") from why
         for name, row in rows.items():
             if not self.trace.is_reordering(row.events):
                 raise Contradiction(f"{name} is no correct reordering: {row.events}")
@@ -737,13 +737,13 @@ class Log:
 
     def answer(self, client: int, call: Call) -> tuple[str, Log]:
         """The line that the client's call is answered by, and the log after it."""
-        told, entry = self.reply(client, call)
+        answer, entry = self.reply(client, call)
         if entry is None:
-            return told, self
+            return answer, self
         after = Log(self.trace, self.entries + (entry,))
         if entry.kind == "undid":
             self.ask_undone(entry.what, after)
-        return told, after
+        return answer, after
 
     def reply(self, client: int, call: Call) -> tuple[str, Entry | None]:
         """The line that the client's call is answered by, and the entry that it makes, or None."""
@@ -752,10 +752,10 @@ class Log:
                 return self.looked(call), None
             if len(self.entries) == LOG_LIMIT:
                 raise Refused("55 log full")
-            told, entry = self.entered(client, call)
+            answer, entry = self.entered(client, call)
         except Refused as why:
             return f"refused {why}", None
-        return f"{len(self.entries)}: {told}", entry
+        return f"{len(self.entries)}: {answer}", entry
 
     def looked(self, call: Call) -> str:
         """What a call that changes nothing is answered."""
@@ -821,7 +821,7 @@ class Log:
     def line(self, number: int) -> str:
         """The line of an entry in the printed log."""
         client, kind, what = self.entries[number]
-        return f"{number} {client} {f'undo {what}' if kind == 'undid' else words_of(what)}"
+        return f"{number} {client} {f'undo {what}' if kind == 'undid' else call_text(what)}"
 
     def text(self) -> str:
         lines = [f"log {len(self.entries)}"] + [self.line(number) for number in range(len(self.entries))]
@@ -837,11 +837,11 @@ class Shown(NamedTuple):
 
     rank: int
     part: str
-    told: Told
+    row: ReportRow
     counts: list[int]
 
 
-def merged_pairs(parts: Mapping[str, Sequence[Told]]) -> list[Shown]:
+def merged_pairs(parts: Mapping[str, Sequence[ReportRow]]) -> list[Shown]:
     """The pairs of places of the parts, in the order in which `merge` prints them."""
     rows = sorted(
         (
@@ -866,7 +866,7 @@ def merged_pairs(parts: Mapping[str, Sequence[Told]]) -> list[Shown]:
     return sorted(pairs, key=lambda pair: pair.rank)
 
 
-def merged(parts: Mapping[str, Sequence[Told]], with_apart: bool) -> str:
+def merged(parts: Mapping[str, Sequence[ReportRow]], with_apart: bool) -> str:
     """What `merge` prints of the parts, each a name with the objects of its lines, the counts first."""
     return merged_of(merged_pairs(parts), len(parts), with_apart)
 
@@ -880,7 +880,7 @@ def merged_of(pairs: Sequence[Shown], parts: int, with_apart: bool) -> str:
     ]
     for pair in pairs:
         if with_apart or pair.rank < 2:
-            lines += block(pair.told)
+            lines += block(pair.row)
             races, undecided, apart = pair.counts
             lines.append(
                 f"    parts race {races} undecided {undecided} apart {apart} unmet {parts - sum(pair.counts)}"
@@ -889,17 +889,17 @@ def merged_of(pairs: Sequence[Shown], parts: int, with_apart: bool) -> str:
     return "".join(line + "\n" for line in lines)
 
 
-def block(told: Told) -> Iterator[str]:
+def block(row: ReportRow) -> Iterator[str]:
     """The lines of text of a row."""
-    numbers = [f"{name} {told[name]}" for name in ["pairs", "variables", "events", "threads", "tried"] if name in told]
+    numbers = [f"{name} {row[name]}" for name in ["pairs", "variables", "events", "threads", "tried"] if name in row]
     yield " ".join(
         [
-            told["kind"],
-            *(str(access["event"]) for access in told["accesses"]),
-            *([told["how"]] if "how" in told else []),
+            row["kind"],
+            *(str(access["event"]) for access in row["accesses"]),
+            *([row["how"]] if "how" in row else []),
             *numbers,
         ]
     )
-    for access in told["accesses"]:
+    for access in row["accesses"]:
         yield f"  {access['thread']}|{access['operation']}({access['variable']})|{access['location']}"
         yield from (f"    holds {lock}" for lock in access["holds"])

@@ -178,7 +178,7 @@ class Judge:
         self.parts = parts
         self.owner: dict[str, int] = {}
         self.bytes: dict[str, tuple[int, int]] = {}
-        self.given: dict[tuple[int, ...], tuple[str, ...]] = {}
+        self.names_at: dict[tuple[int, ...], tuple[str, ...]] = {}
         self.count = 0
 
     def see(self, access: Access, is_lock: bool, names: tuple[str, ...]) -> None:
@@ -192,7 +192,7 @@ class Judge:
             self.see_name(access, name)
 
     def keeps(self, place: tuple[int, ...], names: tuple[str, ...]) -> None:
-        known = self.given.setdefault(place, names)
+        known = self.names_at.setdefault(place, names)
         if known != names:
             raise WrongName(f"one place of an object is {' '.join(known)} and {' '.join(names)}")
 

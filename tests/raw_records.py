@@ -60,11 +60,11 @@ class Raw(NamedTuple):
 def read(path: str) -> Raw:
     with open(path, "rb") as file:
         raw = file.read()
-    words = WORDS.unpack_from(raw)
-    nodes, nodes_at, count = words[4], words[5], words[10]
+    numbers = WORDS.unpack_from(raw)
+    nodes, nodes_at, count = numbers[4], numbers[5], numbers[10]
     modules = [MODULE.unpack_from(raw, WORDS.size + k * MODULE.size) for k in range(count)]
     names, records = kinds(), []
-    for number, row in numbered_rows(raw[words[WORDS_AT] :], words[USED_AT]):
+    for number, row in numbered_rows(raw[numbers[WORDS_AT] :], numbers[USED_AT]):
         at, pc, _, answer, size, node, thread, kind, _, order, of, _ = row
         records.append(Record(names[kind], at, pc, answer, size, node, thread, order, of, number))
     return Raw(

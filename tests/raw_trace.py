@@ -197,8 +197,8 @@ def named(at: tuple[str, int]) -> str:
 
 
 def accessed(record: Record, names: list[str]) -> list[str]:
-    words = "r" * (record.kind in READS) + "w" * (record.kind in WRITES)
-    operations = [f"{word}({name})" for name in names for word in words]
+    letters = "r" * (record.kind in READS) + "w" * (record.kind in WRITES)
+    operations = [f"{word}({name})" for name in names for word in letters]
     return inside(f"atomic:{names[0]}", operations) if names and record.kind.startswith("ATOMIC") else operations
 
 

@@ -213,7 +213,7 @@ def quiet():
         os.close(kept)
 
 
-def follow(clock, words, racebench, pair):
+def follow(clock, command, racebench, pair):
     """What is wrong with a race that is followed; nothing if all is right. And how many reads were compared."""
     witness, _ = ran([racebench, "witness", "program.std", *pair])
     with open("witness.txt", "w", encoding="utf-8") as file:
@@ -221,7 +221,7 @@ def follow(clock, words, racebench, pair):
     with open("witness.txt", encoding="utf-8") as file:
         plan = plans.Plan(clock, plans.read_witness(file, clock), tuple(map(int, pair)), PATIENCE)
     with tempfile.TemporaryFile() as records, quiet():
-        settings = following.Settings(words, TIMEOUT, records=records)
+        settings = following.Settings(command, TIMEOUT, records=records)
         runner, order = following.Runner(), plans.ORDERS["first"]
         result = following.followed(runner, plan, order, 1, settings, sys.stderr.buffer)
         for number in (signal.SIGINT, signal.SIGTERM):
@@ -266,8 +266,8 @@ def judge(racebench, seed, tally, make=program):
         ]
     )
     for run in range(2):
-        words = ["--seed", str(seed + run), "--yield", "5", "--clock", "program.clock", "./program"]
-        trace, _ = ran([os.path.join(RECORD, "run"), *words], None)
+        arguments = ["--seed", str(seed + run), "--yield", "5", "--clock", "program.clock", "./program"]
+        trace, _ = ran([os.path.join(RECORD, "run"), *arguments], None)
         with open("program.std", "w", encoding="utf-8") as file:
             file.write(trace)
         clock = clocks.Clock("program.clock") if trace else None

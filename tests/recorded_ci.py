@@ -54,7 +54,7 @@ def served(name, environment):
     """Runs what a service runs, up to the first script that fails: its status, what all printed, and what was said as
     an error. A shell that traces says its commands."""
     shell, sets = SERVICES[name]
-    printed, told = "", ""
+    printed, errors = "", ""
     for script in scripts(name):
         with open("script.sh", "w", encoding="ascii") as file:
             file.write(script + "\n")
@@ -62,10 +62,10 @@ def served(name, environment):
             [*shell, "script.sh"], capture_output=True, text=True, env={**environment, **sets}, check=False
         )
         printed += done.stdout
-        told += "".join(line for line in done.stderr.splitlines(True) if not line.startswith("+"))
+        errors += "".join(line for line in done.stderr.splitlines(True) if not line.startswith("+"))
         if done.returncode:
             break
-    return done.returncode, printed, told
+    return done.returncode, printed, errors
 
 
 def lay_out(racebench):
@@ -110,20 +110,20 @@ def judge_log(rules):
 
 def judge_service(racebench, name):
     environment = lay_out(racebench)
-    status, said, told = served(name, environment)
-    if status != 3 or "Traceback" in told:
-        raise Wrong(f"an empty file of known races: status {status}, {said!r}, {told!r}")
-    if "races 1: 1 new, 0 known\n" not in said or "seed 2: 1 race\n" not in told:
-        raise Wrong(f"a new race is not shown: {said!r}, {told!r}")
+    status, printed, errors = served(name, environment)
+    if status != 3 or "Traceback" in errors:
+        raise Wrong(f"an empty file of known races: status {status}, {printed!r}, {errors!r}")
+    if "races 1: 1 new, 0 known\n" not in printed or "seed 2: 1 race\n" not in errors:
+        raise Wrong(f"a new race is not shown: {printed!r}, {errors!r}")
     if name != "Jenkinsfile":
         with open("installed", encoding="ascii") as file:
             if f"install -y ./{DEB} " not in file.read():
                 raise Wrong("the package is not installed")
     judge_log(["data-race"])
     shutil.copy("races/races.toml", "ci/known.toml")
-    status, said, _ = served(name, environment)
-    if status or "races 1: 0 new, 1 known\n" not in said:
-        raise Wrong(f"a known race is new: status {status}, {said!r}")
+    status, printed, _ = served(name, environment)
+    if status or "races 1: 0 new, 1 known\n" not in printed:
+        raise Wrong(f"a known race is new: status {status}, {printed!r}")
     judge_log([])
 
 
@@ -150,12 +150,12 @@ def judge_no_green(racebench):
         raise Wrong("a trace that is not judged is not said")
 
 
-def check(racebench, *words, wanted=3):
+def check(racebench, *arguments, wanted=3):
     """The lines that record/check prints of `tests`, and what it says of its work."""
-    words = [os.path.join(RECORD, "check"), "--racebench", racebench, *words]
-    done = subprocess.run(words, capture_output=True, text=True, check=False)
+    arguments = [os.path.join(RECORD, "check"), "--racebench", racebench, *arguments]
+    done = subprocess.run(arguments, capture_output=True, text=True, check=False)
     if done.returncode != wanted or "Traceback" in done.stderr:
-        raise Wrong(f"{' '.join(words)}: status {done.returncode}, and not {wanted}: {done.stdout}{done.stderr}")
+        raise Wrong(f"{' '.join(arguments)}: status {done.returncode}, and not {wanted}: {done.stdout}{done.stderr}")
     return done.stdout.splitlines(), done.stderr
 
 
@@ -164,7 +164,7 @@ def judge_check(racebench):
     lay_out(racebench)
     source = os.path.join(TOP, "tests", "recorded", "races", "freed_early.c")
     ran([os.path.join(RECORD, "cc"), "-O1", source, "-o", "tests"])
-    lines, said = check(racebench, "--seeds", "1-3", "--out", "kept", "./tests")
+    lines, errors = check(racebench, "--seeds", "1-3", "--out", "kept", "./tests")
     # A seed in which the program crashes is not whole.
     wanted = [
         r"seeds 3: (3 whole, 0|2 whole, 1) not whole, 0 failed",
@@ -179,10 +179,10 @@ def judge_check(racebench):
     ]
     if len(lines) != len(wanted) or not all(map(re.fullmatch, wanted, lines)):
         raise Wrong(f"a check of freed_early.c: {lines}")
-    if len(re.findall(r"^record/check: [123] of 3: seed [123]: \d race", said, re.MULTILINE)) != 3:
-        raise Wrong(f"a check of freed_early.c does not show its seeds: {said}")
-    if said.count("following race ") != 4:
-        raise Wrong(f"a check of freed_early.c does not show how far it is: {said}")
+    if len(re.findall(r"^record/check: [123] of 3: seed [123]: \d race", errors, re.MULTILINE)) != 3:
+        raise Wrong(f"a check of freed_early.c does not show its seeds: {errors}")
+    if errors.count("following race ") != 4:
+        raise Wrong(f"a check of freed_early.c does not show how far it is: {errors}")
     with open("kept/confirmed.jsonl", encoding="ascii") as file:
         found = [json.loads(line) for line in file]
     if len(found) != 4 or any(one["ended"] != "stands" or not os.path.exists(f"kept/{one['trace']}") for one in found):
@@ -203,7 +203,7 @@ def judge_stopped(racebench):
     source = os.path.join(TOP, "tests", "recorded", "races", "served.c")
     ran([os.path.join(RECORD, "cc"), "-O1", source, "-o", "tests"])
     os.mkfifo("pipe")
-    words = [
+    command = [
         os.path.join(RECORD, "check"),
         "--racebench",
         racebench,
@@ -214,14 +214,14 @@ def judge_stopped(racebench):
         "./tests",
         "pipe",
     ]
-    with subprocess.Popen(words, stdout=subprocess.PIPE, stderr=subprocess.PIPE, text=True) as started:
+    with subprocess.Popen(command, stdout=subprocess.PIPE, stderr=subprocess.PIPE, text=True) as started:
         with open("pipe", "w", encoding="ascii"):
-            said = started.stderr.readline()
+            line = started.stderr.readline()
         started.send_signal(signal.SIGTERM)
         out, more = started.communicate()
     lines = out.splitlines()
-    if started.returncode != -signal.SIGTERM or said != "record/check: 1 of 3: seed 1: 1 race\n":
-        raise Wrong(f"a check that was stopped: {started.returncode}, {said}{more}")
+    if started.returncode != -signal.SIGTERM or line != "record/check: 1 of 3: seed 1: 1 race\n":
+        raise Wrong(f"a check that was stopped: {started.returncode}, {line}{more}")
     if lines[:2] != ["seeds 3: 1 whole, 0 not whole, 0 failed, 2 stopped", "races 1: 1 new, 0 known"]:
         raise Wrong(f"a check that was stopped: {lines}")
     if [name for name in os.listdir("races") if name.endswith(".part")] or not os.path.exists("races/races.html"):

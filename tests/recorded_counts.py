@@ -29,24 +29,24 @@ PLAIN = (
 )
 
 
-def said_of(*words):
+def notes_of(*arguments):
     """What record/run says of a run of `program`."""
-    command = [os.path.join(RECORD, "run"), "--partial", "--all", *words]
+    command = [os.path.join(RECORD, "run"), "--partial", "--all", *arguments]
     done = subprocess.run(command, capture_output=True, timeout=PATIENCE, check=False)
-    told = done.stderr.decode(errors="replace")
+    notes = done.stderr.decode(errors="replace")
     if done.returncode or not done.stdout:
-        raise Wrong(f"record/run {' '.join(words)}: status {done.returncode}: {told[:600]}")
-    return told
+        raise Wrong(f"record/run {' '.join(arguments)}: status {done.returncode}: {notes[:600]}")
+    return notes
 
 
 def judge_counts(c):
     """Each count is printed by a run that has it, and by no other."""
-    words = [os.path.join(RECORD, "cc"), "-O1", os.path.join(SOURCES, "counts.c"), "-o", "program"]
-    ran(words, env=dict(os.environ, RECORD_CC=c))
+    command = [os.path.join(RECORD, "cc"), "-O1", os.path.join(SOURCES, "counts.c"), "-o", "program"]
+    ran(command, env=dict(os.environ, RECORD_CC=c))
     for word, options, line in COUNTED:
-        told = said_of(*options, "./program", word)
-        if not re.search(rf"^record/run: {line}$", told, re.MULTILINE):
-            raise Wrong(f"{word} is not counted: {told}")
+        notes = notes_of(*options, "./program", word)
+        if not re.search(rf"^record/run: {line}$", notes, re.MULTILINE):
+            raise Wrong(f"{word} is not counted: {notes}")
     judge_turns()
 
 
@@ -82,10 +82,10 @@ def judge_turns():
     anything else."""
     turns = []
     for most in ("1", "100000"):
-        told = said_of("--yield", most, "./program", "turns")
-        plain = re.fullmatch(PLAIN, told)
+        notes = notes_of("--yield", most, "./program", "turns")
+        plain = re.fullmatch(PLAIN, notes)
         if not plain:
-            raise Wrong(f"of a run in which nothing is left out it is said: {told}")
+            raise Wrong(f"of a run in which nothing is left out it is said: {notes}")
         turns.append(int(plain[1]))
     if turns[0] < 50 or turns[1] > 25:
         raise Wrong(f"there are {turns} turns with --yield 1 and 100000")

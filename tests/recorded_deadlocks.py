@@ -58,17 +58,17 @@ IN_DEADLOCK = "record/run: the program is in a deadlock: "
 A_WHILE = 4
 
 
-def deadlock_in(said):
+def deadlock_in(notes):
     """What record/run says of a deadlock; empty if it says nothing."""
-    return "".join(line[len(IN_DEADLOCK) :] for line in said.splitlines() if line.startswith(IN_DEADLOCK))
+    return "".join(line[len(IN_DEADLOCK) :] for line in notes.splitlines() if line.startswith(IN_DEADLOCK))
 
 
 def check_hang(about, found, text):
     """A recording of a program that hung."""
-    status, trace, said = found
+    status, trace, notes = found
     last = f"recording|end(LEFT OUT 0 FROM {len(events_in(trace))}: DEADLOCK)|"
-    if status != 5 or deadlock_in(said) != text or "the program ended" in said:
-        raise Wrong(f"{about}: status {status}, and not the deadlock {text!r}: {said}")
+    if status != 5 or deadlock_in(notes) != text or "the program ended" in notes:
+        raise Wrong(f"{about}: status {status}, and not the deadlock {text!r}: {notes}")
     if trace.splitlines()[-1] != last:
         raise Wrong(f"{about}: the last line is not {last}: {trace[-200:]!r}")
 
@@ -94,21 +94,21 @@ def judge_ending(c, cxx):
             continue
         compiled(f"{name}.cpp" if name == "scoped" else f"{name}.c", c, cxx)
         for seed in SEEDS if name != "timed" else (1, 2):
-            status, trace, said = run("--seed", str(seed), f"./{name}")
-            if status or deadlock_in(said) or not trace.endswith("\nrecording|end(WHOLE)|\n"):
-                raise Wrong(f"{name} {seed}: status {status}: {said}")
+            status, trace, notes = run("--seed", str(seed), f"./{name}")
+            if status or deadlock_in(notes) or not trace.endswith("\nrecording|end(WHOLE)|\n"):
+                raise Wrong(f"{name} {seed}: status {status}: {notes}")
 
 
 def judge_kinds(c, cxx):
     """Each kind of lock may be in the circle; a thread may wait for itself."""
     compiled("kinds.c", c, cxx, "-fopenmp")
     for kind, lock in KINDS.items():
-        status, _, said = run("./kinds", kind)
+        status, _, notes = run("./kinds", kind)
         wanted = (
             rf"T1 waits at kinds.c:\d+ for a, which T2 holds since kinds.c:\d+; T2 waits at kinds.c:\d+ for {lock}, "
         )
-        if status != 5 or not re.fullmatch(wanted + r"which T1 holds since kinds.c:\d+", deadlock_in(said)):
-            raise Wrong(f"{kind}: status {status}: {said}")
+        if status != 5 or not re.fullmatch(wanted + r"which T1 holds since kinds.c:\d+", deadlock_in(notes)):
+            raise Wrong(f"{kind}: status {status}: {notes}")
     compiled("self.c", c, cxx)
     check_hang("self", run("./self"), "T1 waits at self.c:7 for a, which T1 holds since self.c:6")
 
@@ -128,14 +128,14 @@ def judge_options(racebench, c, cxx):
         (["--stream"], 5),
         (["--clock", "abba.clock"], 5),
     ):
-        status, trace, said = run(*options, "--seed", seed, "./abba")
-        if status != wanted or not deadlock_in(said) or ": DEADLOCK)|" not in trace:
-            raise Wrong(f"{options}: status {status}, and not {wanted}: {said}")
+        status, trace, notes = run(*options, "--seed", seed, "./abba")
+        if status != wanted or not deadlock_in(notes) or ": DEADLOCK)|" not in trace:
+            raise Wrong(f"{options}: status {status}, and not {wanted}: {notes}")
     with open("abba.std", "w", encoding="utf-8") as text:
         text.write(trace)
     ran([racebench, "triage", "--fail", "abba.std"], wanted=4)
-    words = [os.path.join(RECORD, "check"), "--seeds", f"{seed}-{seed}", "--racebench", racebench, "./abba"]
-    done = subprocess.run(words, capture_output=True, timeout=PATIENCE, check=False)
+    command = [os.path.join(RECORD, "check"), "--seeds", f"{seed}-{seed}", "--racebench", racebench, "./abba"]
+    done = subprocess.run(command, capture_output=True, timeout=PATIENCE, check=False)
     wanted = f"deadlock: {HANGING['abba'][1]}: seeds {seed}\n"
     if done.returncode != 5 or wanted not in done.stdout.decode():
         raise Wrong(f"record/check: status {done.returncode}: {done.stdout.decode()}{done.stderr.decode()}")
@@ -144,9 +144,9 @@ def judge_options(racebench, c, cxx):
 def judge_followed(racebench, c, cxx):
     """A race before a deadlock is followed, and then the program hangs: it is not waited for."""
     compiled("both.c", c, cxx)
-    status, trace, said = run("--clock", "both.clock", "./both")
+    status, trace, notes = run("--clock", "both.clock", "./both")
     if status != 5:
-        raise Wrong(f"both: status {status}: {said}")
+        raise Wrong(f"both: status {status}: {notes}")
     with open("both.std", "w", encoding="utf-8") as text:
         text.write(trace)
     found = ran([os.path.join(RECORD, "confirm"), "--racebench", racebench, "both.std", "both.clock"])
@@ -163,9 +163,9 @@ def judge_lost(c, cxx):
     ) as hung:
         time.sleep(A_WHILE)
         hung.send_signal(signal.SIGTERM)
-        trace, said = hung.communicate(timeout=PATIENCE)
-    if deadlock_in(said.decode()) or b": KILLED)|" not in trace:
-        raise Wrong(f"a lost signal: {said.decode()}")
+        trace, notes = hung.communicate(timeout=PATIENCE)
+    if deadlock_in(notes.decode()) or b": KILLED)|" not in trace:
+        raise Wrong(f"a lost signal: {notes.decode()}")
 
 
 def cases(racebench, c, cxx):

@@ -122,25 +122,27 @@ DRAWN, MOST_WRONG = {2: 100_000, 4: 30_000, 6: 30_000}, 0.001
 ORDERS = ["a-a", "a-b", "b-b", "b-a", "far-first", "far-second"]
 
 
-def ran(words, wanted=0, text=None, **more):
-    given = text.encode("utf-8", "surrogateescape") if text is not None else None
-    done = subprocess.run(words, input=given, capture_output=True, timeout=PATIENCE, check=False, **more)
-    out, said = done.stdout.decode("utf-8", "surrogateescape"), done.stderr.decode(errors="replace")
+def ran(command, wanted=0, text=None, **more):
+    stdin = text.encode("utf-8", "surrogateescape") if text is not None else None
+    done = subprocess.run(command, input=stdin, capture_output=True, timeout=PATIENCE, check=False, **more)
+    out, errors = done.stdout.decode("utf-8", "surrogateescape"), done.stderr.decode(errors="replace")
     if wanted is not None and done.returncode != wanted:
-        raise Wrong(f"{' '.join(words)}: status {done.returncode}, and not {wanted}: {said[-900:]}")
-    return out, said
+        raise Wrong(f"{' '.join(command)}: status {done.returncode}, and not {wanted}: {errors[-900:]}")
+    return out, errors
 
 
-def recorded(source, words, name="program", flags=(), args=()):
+def recorded(source, options, name="program", flags=(), args=()):
     """Compiles and records a program: NAME, NAME.std and NAME.clock."""
     compiler = "c++" if source.endswith(".cpp") else "cc"
     ran([os.path.join(RECORD, compiler), "-O1", *flags, source, "-o", name])
-    trace, _ = ran([os.path.join(RECORD, "run"), "--partial", "--clock", name + ".clock", *words, "./" + name, *args])
+    trace, _ = ran(
+        [os.path.join(RECORD, "run"), "--partial", "--clock", name + ".clock", *options, "./" + name, *args]
+    )
     with open(name + ".std", "w", encoding="utf-8", errors="surrogateescape") as file:
         file.write(trace)
 
 
-def confirmed(racebench, name="program", *words, wanted=0, **more):
+def confirmed(racebench, name="program", *options, wanted=0, **more):
     """What record/confirm found of each race."""
     out, _ = ran(
         [
@@ -150,7 +152,7 @@ def confirmed(racebench, name="program", *words, wanted=0, **more):
             "--json",
             name + ".json",
             *LIMITS,
-            *words,
+            *options,
             name + ".std",
             name + ".clock",
         ],
@@ -177,8 +179,8 @@ def confirmed(racebench, name="program", *words, wanted=0, **more):
 def judge_races(racebench):
     """Each race is shown, and each order leads to the endings of the table."""
     stood = 0
-    for source, (words, _) in PROGRAMS.items():
-        recorded(os.path.join(SOURCES, source), words)
+    for source, (options, _) in PROGRAMS.items():
+        recorded(os.path.join(SOURCES, source), options)
         found = confirmed(racebench)
         wrong = [one for one in found if why_wrong(source, one)]
         if not found or wrong:
@@ -212,16 +214,16 @@ def judge_orders(racebench):
     """The two accesses of count.c come in the requested order: the value after both shows which was last."""
     recorded(os.path.join(TOP, "examples", "count.c"), [])
     pair, witness = witness_of(racebench, "program")
-    out, told = ran([*FOLLOW, "--then", "both", "program.clock", *pair, "./program"], text=witness)
+    out, errors = ran([*FOLLOW, "--then", "both", "program.clock", *pair, "./program"], text=witness)
     if (
-        "the race stands: T1 at count.c:7, T2 at count.c:13" not in told
-        or "the order matters: the outputs differ" not in told
+        "the race stands: T1 at count.c:7, T2 at count.c:13" not in errors
+        or "the order matters: the outputs differ" not in errors
     ):
-        raise Wrong(f"count.c in both orders: {told}")
+        raise Wrong(f"count.c in both orders: {errors}")
     for then, printed in (("first", "42\n2\n"), ("second", "42\n1\n")):
-        _, told = ran([*FOLLOW, "--then", then, "program.clock", *pair, "./program"], text=witness)
-        if not told.startswith(printed):
-            raise Wrong(f"count.c, {then}: {told}")
+        _, errors = ran([*FOLLOW, "--then", then, "program.clock", *pair, "./program"], text=witness)
+        if not errors.startswith(printed):
+            raise Wrong(f"count.c, {then}: {errors}")
 
 
 def judge_outputs(racebench):
@@ -230,14 +232,14 @@ def judge_outputs(racebench):
     recorded(os.path.join(SOURCES, "outputs.c"), [])
     pair, witness = witness_of(racebench, "program")
     follow = ["--then", "both", "program.clock", *pair]
-    for shown, tries, matters, told in OUTPUTS:
+    for shown, tries, matters, verdict in OUTPUTS:
         env = dict(os.environ, SHOWN=shown)
         found = confirmed(racebench, "program", "--tries", str(tries), env=env)
         if [one["matters"] for one in found] != [matters]:
             raise Wrong(f"outputs that show {shown}, {tries} tries: {found}")
-        _, said = ran([*FOLLOW, "--tries", str(tries), *follow], text=witness, env=env)
-        if said.splitlines()[-1] != f"record/follow: {told}":
-            raise Wrong(f"outputs that show {shown}, {tries} tries: {said}")
+        _, errors = ran([*FOLLOW, "--tries", str(tries), *follow], text=witness, env=env)
+        if errors.splitlines()[-1] != f"record/follow: {verdict}":
+            raise Wrong(f"outputs that show {shown}, {tries} tries: {errors}")
 
 
 def judge_freed(racebench):
@@ -289,7 +291,7 @@ def judge_known_verdicts():
     """Verdicts on runs of two orders: how often each came, the endings and outputs, and what must be said."""
     good, bad, endless = (verdicts.Outcome(text, b"") for text in (OKAY, FAULT, "hangs"))
     gone = verdicts.Outcome("departed", b"")
-    said = [verdicts.Outcome(OKAY, b"seen %d of %d" % (seen, of)) for seen in (0, 1) for of in range(9)]
+    seen_runs = [verdicts.Outcome(OKAY, b"seen %d of %d" % (seen, of)) for seen in (0, 1) for of in range(9)]
     cases = [
         ([good] * 6, [bad] * 6, True, verdicts.ENDINGS_DIFFER, False),
         ([good] * 5, [bad] * 5, None, verdicts.ENDINGS_VARY, True),
@@ -299,9 +301,9 @@ def judge_known_verdicts():
         ([endless] * 2, [endless] * 2, None, verdicts.IS_ENDLESS, False),
         ([endless] * 6, [good] * 6, True, verdicts.ENDINGS_DIFFER, False),
         ([good] * 6, [good] * 5 + [gone], None, verdicts.IS_GONE, False),
-        (said[:9], said[9:], True, "the outputs differ: 0 with A, 1 with B", False),
-        (said[:2], said[9:11], None, verdicts.OUTPUTS_VARY, True),
-        (said[:9] + said[9:], said, None, verdicts.OUTPUTS_VARY, False),
+        (seen_runs[:9], seen_runs[9:], True, "the outputs differ: 0 with A, 1 with B", False),
+        (seen_runs[:2], seen_runs[9:11], None, verdicts.OUTPUTS_VARY, True),
+        (seen_runs[:9] + seen_runs[9:], seen_runs, None, verdicts.OUTPUTS_VARY, False),
     ]
     for first, second, *wanted in cases:
         found = verdicts.verdict({"first": first, "second": second}, {"first": "A", "second": "B"}, 2)
@@ -312,10 +314,10 @@ def judge_known_verdicts():
 def judge_ended(racebench):
     """A signal ends record/confirm and its program. The rows that were known stay, and no other has a verdict."""
     recorded(os.path.join(SOURCES, "eight.c"), [])
-    words = [os.path.join(RECORD, "confirm"), "--racebench", racebench, *LIMITS]
+    command = [os.path.join(RECORD, "confirm"), "--racebench", racebench, *LIMITS]
     for number in (signal.SIGTERM, signal.SIGINT):
         with subprocess.Popen(
-            [*words, "--json", "eight.json", "program.std", "program.clock"],
+            [*command, "--json", "eight.json", "program.std", "program.clock"],
             stdout=subprocess.PIPE,
             stderr=subprocess.PIPE,
             text=True,
@@ -323,14 +325,14 @@ def judge_ended(racebench):
         ) as started:
             rows = [started.stdout.readline(), started.stdout.readline()]
             started.send_signal(number)
-            out, said = started.communicate(timeout=PATIENCE)
+            out, errors = started.communicate(timeout=PATIENCE)
         rows += out.splitlines()
         with open("eight.json", encoding="ascii") as file:
             found = [json.loads(line) for line in file]
         counts = f"races {len(found)}, stand {len(found)}, departed 0, order matters 0"
-        told = f"record/confirm: {8 - len(found)} races have no verdict\nrecord/confirm: ended by {number.name}\n"
-        if started.returncode != -number or said != told or rows[-1] != counts or len(rows) != len(found) + 2:
-            raise Wrong(f"ended by {number.name}: {started.returncode} {rows} {said}")
+        expected = f"record/confirm: {8 - len(found)} races have no verdict\nrecord/confirm: ended by {number.name}\n"
+        if started.returncode != -number or errors != expected or rows[-1] != counts or len(rows) != len(found) + 2:
+            raise Wrong(f"ended by {number.name}: {started.returncode} {rows} {errors}")
         if not 1 <= len(found) < 8:
             raise Wrong(f"ended by {number.name}: {len(found)} races are known")
 
@@ -340,8 +342,8 @@ def judge_beside(racebench):
     recorded(os.path.join(SOURCES, "served.c"), [])
     os.mkfifo("pipe")
     confirm = [os.path.join(RECORD, "confirm"), "--racebench", racebench, *LIMITS]
-    words = [*confirm, "--beside", "echo > pipe", "program.std", "program.clock", "./program", "pipe"]
-    out, _ = ran(words)
+    command = [*confirm, "--beside", "echo > pipe", "program.std", "program.clock", "./program", "pipe"]
+    out, _ = ran(command)
     if " is the same" not in out:
         raise Wrong(f"a server with a client: {out}")
 
@@ -352,11 +354,11 @@ def judge_program(racebench):
     confirm = [os.path.join(RECORD, "confirm"), *LIMITS, "program.std", "program.clock"]
     ways = [("--racebench", racebench), ("--program", racebench), ()]
     env = dict(os.environ, RACEBENCH="/nowhere")
-    told = [
+    texts = [
         ran([confirm[0], *way, *confirm[1:]], env=env if way else dict(env, RACEBENCH=racebench))[0] for way in ways
     ]
-    if "stand 1" not in told[0] or told != [told[0]] * 3:
-        raise Wrong(f"three ways to name racebench: {told}")
+    if "stand 1" not in texts[0] or texts != [texts[0]] * 3:
+        raise Wrong(f"three ways to name racebench: {texts}")
 
 
 def judge_departs(racebench):
@@ -365,13 +367,13 @@ def judge_departs(racebench):
     if [one["ended"] for one in confirmed(racebench)] != ["stands"]:
         raise Wrong("the race of departs.c does not stand with the addresses of the recording")
     pair, witness = witness_of(racebench, "program")
-    words = [*FOLLOW, "program.clock", *pair, "./program"]
-    _, told = ran(words, 1, witness, env=dict(os.environ, SIZE_BEFORE="72"))
+    command = [*FOLLOW, "program.clock", *pair, "./program"]
+    _, errors = ran(command, 1, witness, env=dict(os.environ, SIZE_BEFORE="72"))
     if (
-        not re.search(r"departed at event \d+ .*\(step \d+ of \d+\): T[12] .*departs\.c:\d+", told)
-        or "the race stands" in told
+        not re.search(r"departed at event \d+ .*\(step \d+ of \d+\): T[12] .*departs\.c:\d+", errors)
+        or "the race stands" in errors
     ):
-        raise Wrong(f"a run with other addresses: {told}")
+        raise Wrong(f"a run with other addresses: {errors}")
 
 
 def judge_teams(racebench):
@@ -393,18 +395,18 @@ def judge_debugger(racebench):
     pair, witness = witness_of(racebench, "program")
     with open("witness", "w", encoding="utf-8") as file:
         file.write(witness)
-    words = [*FOLLOW, "--gdb", "--witness", "witness", "program.clock", *pair]
-    out, told = ran(words, text="bt\nkill\nquit\n")
-    if "the race stands: T1 at words.c:8, T2 at words.c:8" not in told or "in work (" not in out:
-        raise Wrong(f"under gdb: {out}{told}")
+    command = [*FOLLOW, "--gdb", "--witness", "witness", "program.clock", *pair]
+    out, errors = ran(command, text="bt\nkill\nquit\n")
+    if "the race stands: T1 at words.c:8, T2 at words.c:8" not in errors or "in work (" not in out:
+        raise Wrong(f"under gdb: {out}{errors}")
 
 
 def judge_waits(racebench):
     """A thread that waits right before its access is not at the access."""
     recorded(os.path.join(SOURCES, "waits.c"), [])
     found = confirmed(racebench, wanted=1)
-    said = "came to an atomic read at waits.c:12, where the recording has a read at waits.c:13"
-    if [one["ended"] for one in found] != ["departed"] or said not in found[0]["text"]:
+    expected = "came to an atomic read at waits.c:12, where the recording has a read at waits.c:13"
+    if [one["ended"] for one in found] != ["departed"] or expected not in found[0]["text"]:
         raise Wrong(f"a thread that waits for a relaxed flag: {found}")
 
 
@@ -416,9 +418,9 @@ def judge_recorded_order(racebench):
     if ended != {(17, 24): "departed", (36, 39): "stands"}:
         raise Wrong(f"a ring with a relaxed tail: {ended}")
     witness = ran([racebench, "witness", "program.std", *map(str, found[1]["events"])])[0]
-    _, told = ran([*FOLLOW, "program.clock", *map(str, found[1]["events"]), "./program"], 1, witness)
-    if "departed at event" not in told:
-        raise Wrong(f"the printed schedule was to be departed from: {told}")
+    _, errors = ran([*FOLLOW, "program.clock", *map(str, found[1]["events"]), "./program"], 1, witness)
+    if "departed at event" not in errors:
+        raise Wrong(f"the printed schedule was to be departed from: {errors}")
     lines = sorted(witness.splitlines(), key=lambda line: int(line.split()[0]))
     ran([*FOLLOW, "program.clock", *map(str, found[1]["events"]), "./program"], text="\n".join(lines) + "\n")
 
@@ -447,13 +449,13 @@ def judge_refusals(racebench):
     cases.append(([os.path.join(RECORD, "confirm"), "--racebench", racebench, "other.std", "program.clock"], ""))
     second = str(int(pair[1]) - 1)
     cases.append(([*follow[:2], pair[0], second], witness))
-    for words, text in cases:
-        _, told = ran(words, 3, text)
-        if "Traceback" in told or len(told.splitlines()) != 1:
-            raise Wrong(f"{' '.join(words)}: {told}")
-    _, told = ran([os.path.join(RECORD, "confirm"), "--racebench", racebench, "nothing.std", "program.clock"], 1)
-    if told != "record/confirm: nothing.std: No such file or directory\n":
-        raise Wrong(f"a trace that is not there: {told}")
+    for command, text in cases:
+        _, errors = ran(command, 3, text)
+        if "Traceback" in errors or len(errors.splitlines()) != 1:
+            raise Wrong(f"{' '.join(command)}: {errors}")
+    _, errors = ran([os.path.join(RECORD, "confirm"), "--racebench", racebench, "nothing.std", "program.clock"], 1)
+    if errors != "record/confirm: nothing.std: No such file or directory\n":
+        raise Wrong(f"a trace that is not there: {errors}")
 
 
 JUDGES = [

@@ -65,23 +65,23 @@ def scenarios() -> str:
     return program
 
 
-def ran(words: list[str], wanted: int = 0, cwd: str | None = None, go: str = "") -> tuple[str, str]:
+def ran(command: list[str], wanted: int = 0, cwd: str | None = None, go: str = "") -> tuple[str, str]:
     """What a command writes on standard output and on standard error; `go` names another Go."""
     surroundings = {**os.environ, "RECORD_GO": go} if go else None
-    done = subprocess.run(words, capture_output=True, timeout=PATIENCE, check=False, cwd=cwd, env=surroundings)
-    out, said = done.stdout.decode(errors="replace"), done.stderr.decode(errors="replace")
+    done = subprocess.run(command, capture_output=True, timeout=PATIENCE, check=False, cwd=cwd, env=surroundings)
+    out, notes = done.stdout.decode(errors="replace"), done.stderr.decode(errors="replace")
     if done.returncode != wanted:
-        raise Wrong(f"{' '.join(words)}: status {done.returncode}, and not {wanted}: {said[-600:]}")
-    return out, said
+        raise Wrong(f"{' '.join(command)}: status {done.returncode}, and not {wanted}: {notes[-600:]}")
+    return out, notes
 
 
 def recorded(name: str, *options: str, wanted: int = 0) -> tuple[str, str]:
     """The trace of a program, and what record/run says; the trace is in `trace.std` too."""
-    words = [os.path.join(RECORD, "run"), *options, scenarios(), *name.split()]
-    out, said = ran(words, wanted)
+    command = [os.path.join(RECORD, "run"), *options, scenarios(), *name.split()]
+    out, notes = ran(command, wanted)
     with open("trace.std", "w", encoding="utf-8") as file:
         file.write(out)
-    return out, said
+    return out, notes
 
 
 @functools.lru_cache(maxsize=None)
@@ -152,23 +152,23 @@ def judge_ends() -> None:
         ("panicked", 2, "status 2"),
         ("killed", 137, "signal 9 (SIGKILL)"),
     ):
-        trace, said = recorded(name, "--status", wanted=status)
+        trace, notes = recorded(name, "--status", wanted=status)
         last = f"recording|end(LEFT OUT 0 FROM {len(trace.splitlines()) - 2}: KILLED)|" if name == "killed" else WHOLE
         judge_marks(trace, last)
-        if text not in said or "|w(x@" not in trace:
-            raise Wrong(f"{name}: {said}")
-    trace, said = recorded("alone", wanted=1)
-    if "no event was recorded" not in said or trace.splitlines() != [
+        if text not in notes or "|w(x@" not in trace:
+            raise Wrong(f"{name}: {notes}")
+    trace, notes = recorded("alone", wanted=1)
+    if "no event was recorded" not in notes or trace.splitlines() != [
         BEGIN,
         "recording|end(LEFT OUT 0 FROM 0: ONE THREAD)|",
     ]:
-        raise Wrong(f"a program with one goroutine: {said}{trace}")
+        raise Wrong(f"a program with one goroutine: {notes}{trace}")
 
 
 def judge_deadlock() -> None:
     """A program that hangs is recorded up to the signal that ends it."""
-    with open("out", "wb") as out, open("said", "wb") as said:
-        started = subprocess.Popen([os.path.join(RECORD, "run"), scenarios(), "deadlock"], stdout=out, stderr=said)
+    with open("out", "wb") as out, open("said", "wb") as notes:
+        started = subprocess.Popen([os.path.join(RECORD, "run"), scenarios(), "deadlock"], stdout=out, stderr=notes)
         while not os.path.getsize("said"):
             time.sleep(0.01)
         started.send_signal(signal.SIGTERM)
@@ -180,43 +180,43 @@ def judge_deadlock() -> None:
 
 def judge_thousands(racebench: str) -> None:
     """Goroutines that live at once, more than a trace has threads: a line says it, and windows read the trace."""
-    trace, said = recorded("thousands")
+    trace, notes = recorded("thousands")
     judge_marks(trace)
-    if "has more than 256 threads" not in said or len({line.split("|")[0] for line in trace.splitlines()}) < 2000:
-        raise Wrong(f"2,000 goroutines: {said}")
+    if "has more than 256 threads" not in notes or len({line.split("|")[0] for line in trace.splitlines()}) < 2000:
+        raise Wrong(f"2,000 goroutines: {notes}")
     if shown(racebench, "--windows"):
         raise Wrong("2,000 goroutines have a race")
     _, with_clock = recorded("thousands", "--clock", "clock")
-    if "record/confirm can't follow it" in said or "record/confirm can't follow it" not in with_clock:
+    if "record/confirm can't follow it" in notes or "record/confirm can't follow it" not in with_clock:
         raise Wrong(f"2,000 goroutines with a clock: {with_clock}")
 
 
-def left_out(said: str) -> int:
+def left_out(notes: str) -> int:
     """How many records had no room, as record/run says it."""
-    return int(re.findall(r"(\d+) records left out \(--room\)", said)[0])
+    return int(re.findall(r"(\d+) records left out \(--room\)", notes)[0])
 
 
 def judge_options() -> None:
     """Each option of record/run does what it says, or is refused by a line."""
     whole = recorded("pipeline")[0].splitlines()[1:-1]
-    trace, said = recorded("pipeline", "--max", "20", wanted=4)
+    trace, notes = recorded("pipeline", "--max", "20", wanted=4)
     judge_marks(trace, f"recording|end(LEFT OUT {len(whole) - 20} FROM 20: MAX)|")
-    if trace.splitlines()[1:-1] != whole[:20] or f"{len(whole) - 20} events left out" not in said:
-        raise Wrong(f"--max: {said}")
-    _, said = recorded("pipeline", "--room", "1", wanted=1)
-    room = left_out(said) - 60
-    trace, said = recorded("pipeline", "--room", str(room), wanted=4)
+    if trace.splitlines()[1:-1] != whole[:20] or f"{len(whole) - 20} events left out" not in notes:
+        raise Wrong(f"--max: {notes}")
+    _, notes = recorded("pipeline", "--room", "1", wanted=1)
+    room = left_out(notes) - 60
+    trace, notes = recorded("pipeline", "--room", str(room), wanted=4)
     # Timers of the library make some records more or fewer.
-    if not 30 < left_out(said) < 90:
-        raise Wrong(f"--room {room}: {said}")
-    judge_marks(trace, f"recording|end(LEFT OUT {left_out(said)} FROM {len(trace.splitlines()) - 2}: ROOM)|")
+    if not 30 < left_out(notes) < 90:
+        raise Wrong(f"--room {room}: {notes}")
+    judge_marks(trace, f"recording|end(LEFT OUT {left_out(notes)} FROM {len(trace.splitlines()) - 2}: ROOM)|")
     recorded("pipeline", "--room", str(room), "--partial")
-    trace, said = recorded("pipeline", "--from", "30", wanted=4)
+    trace, notes = recorded("pipeline", "--from", "30", wanted=4)
     judge_marks(trace, "recording|end(LEFT OUT 30 FROM 0: FROM)|")
     kept = trace.splitlines()[1:-1]
     held = len(kept) - (len(whole) - 30)
     if held < 0 or kept[held:] != whole[30:] or any("|acq(" not in line for line in kept[:held]):
-        raise Wrong(f"--from: {said}{trace}")
+        raise Wrong(f"--from: {notes}{trace}")
 
 
 def judge_choices() -> None:
@@ -224,11 +224,11 @@ def judge_choices() -> None:
     trace, _ = recorded("pipeline", "--frames", "0")
     if " < " in trace or not re.search(r"\|clean\.go:\d+$", trace, re.MULTILINE):
         raise Wrong(f"--frames 0: {trace[:300]}")
-    trace, said = recorded("pipeline", "--only", "races.go", wanted=4)
-    count = re.findall(r"(\d+) parts of variables left out, which no line of races\.go accesses", said)
+    trace, notes = recorded("pipeline", "--only", "races.go", wanted=4)
+    count = re.findall(r"(\d+) parts of variables left out, which no line of races\.go accesses", notes)
     last = f"recording|end(LEFT OUT {' '.join(count)} FROM 0: ONLY)|"
     if "|r(heap:" in trace or trace.splitlines()[-1] != last:
-        raise Wrong(f"--only: {said}")
+        raise Wrong(f"--only: {notes}")
     trace, _ = recorded("counter", "--only", "races.go", "--raw", "raw")
     if "|w(main.hits)|" not in trace or not os.path.getsize("raw"):
         raise Wrong("--only of the right file leaves the variable out, or --raw keeps nothing")
@@ -237,9 +237,9 @@ def judge_choices() -> None:
         (["--ordered", "ordered"], "--ordered: the trace of a Go program leaves out no access"),
         (["--names", "raw"], "--names: the variables of a Go program have the names of the source"),
     ):
-        trace, said = recorded("counter", *options, wanted=2)
-        if trace or not said.startswith(f"record/run: {why}") or said.count("\n") != 1:
-            raise Wrong(f"{options}: {said}")
+        trace, notes = recorded("counter", *options, wanted=2)
+        if trace or not notes.startswith(f"record/run: {why}") or notes.count("\n") != 1:
+            raise Wrong(f"{options}: {notes}")
 
 
 # Programs whose race the real program is led to, with what the order changes: a variable, a map, a timer, a channel
@@ -274,16 +274,16 @@ def judge_stands(racebench: str) -> None:
     with open("witness", "w", encoding="utf-8") as file:
         file.write(ran([racebench, "witness", "trace.std", a, b])[0])
     follow = [os.path.join(RECORD, "follow"), "--witness", "witness"]
-    _, said = ran([*follow, "--then", "stop", "clock", a, b])
+    _, notes = ran([*follow, "--then", "stop", "clock", a, b])
     calls = r"    #0 main\.\(\*account\)\.(close|deposit) races\.go:\d+\n    #1 main\.hidden\.func\d races\.go:\d+\n"
     stands = r"record/follow: the race stands: T\d at races\.go:\d+, T\d at races\.go:\d+\n"
     standing = r"  {}: T\d, (read|write) of 1 byte at \w+, which hold 0x[01]\n"
     wanted = stands + standing.format("A") + calls + standing.format("B") + calls
-    if not re.fullmatch(wanted, said):
-        raise Wrong(f"record/follow: {said}")
-    _, said = ran([*follow, "--gdb", "clock", a, b], 3)
-    if said != "record/follow: --gdb: gdb knows no goroutines; the stacks are those that record/follow prints\n":
-        raise Wrong(f"--gdb: {said}")
+    if not re.fullmatch(wanted, notes):
+        raise Wrong(f"record/follow: {notes}")
+    _, notes = ran([*follow, "--gdb", "clock", a, b], 3)
+    if notes != "record/follow: --gdb: gdb knows no goroutines; the stacks are those that record/follow prints\n":
+        raise Wrong(f"--gdb: {notes}")
     if "witness of another race" not in ran([*follow, "clock", a, str(int(b) + 1)], 3)[1]:
         raise Wrong("a schedule of another race is followed")
 
@@ -307,10 +307,10 @@ def judge_stop() -> None:
 
 def judge_unknown() -> None:
     """A Go whose sources have other texts is refused, and so is one that is not there."""
-    words = [os.path.join(RECORD, "go"), "build", "."]
-    _, said = ran(words, 2, SOURCES, "no-such-go")
-    if said != "record/go: there is no no-such-go: install Debian's golang-go, or name a Go by RECORD_GO\n":
-        raise Wrong(f"no Go: {said}")
+    command = [os.path.join(RECORD, "go"), "build", "."]
+    _, notes = ran(command, 2, SOURCES, "no-such-go")
+    if notes != "record/go: there is no no-such-go: install Debian's golang-go, or name a Go by RECORD_GO\n":
+        raise Wrong(f"no Go: {notes}")
     root = ran(["go", "env", "GOROOT"])[0].strip()
     copy = os.path.abspath("root")
     names = "runtime sync syscall internal/race internal/poll".split()
@@ -324,10 +324,10 @@ def judge_unknown() -> None:
     with open("go", "w", encoding="utf-8") as file:
         file.write(f"#!/bin/sh\nprintf '%s\\n' {copy} go9.9 linux amd64\n")
     os.chmod("go", 0o755)
-    _, said = ran(words, 2, SOURCES, os.path.abspath("go"))
+    _, notes = ran(command, 2, SOURCES, os.path.abspath("go"))
     why = "sync/pool.go has the text `func poolRaceAddr(` 0 times, not 1"
-    if said != f"record/go: this Go is unknown (go9.9, {copy}): {why}\n":
-        raise Wrong(f"an unknown Go: {said}")
+    if notes != f"record/go: this Go is unknown (go9.9, {copy}): {why}\n":
+        raise Wrong(f"an unknown Go: {notes}")
 
 
 MODULE = {
@@ -364,34 +364,34 @@ def judge_command(racebench: str) -> None:
         with open(name, "w", encoding="utf-8") as file:
             file.write(text)
     go = os.path.join(RECORD, "go")
-    words = [go, "test", "--seed", "2", "--frames", "1", "--clock", "clock"]
-    trace, said = ran([*words, "./a", "-run", "Race", "-v"])
+    command = [go, "test", "--seed", "2", "--frames", "1", "--clock", "clock"]
+    trace, notes = ran([*command, "./a", "-run", "Race", "-v"])
     with open("trace.std", "w", encoding="utf-8") as file:
         file.write(trace)
-    if shown(racebench) != {("a.go:5", "a.go:5")} or "PASS: TestRace" not in said or "TestOther" in said:
-        raise Wrong(f"record/go test: {said}{trace}")
+    if shown(racebench) != {("a.go:5", "a.go:5")} or "PASS: TestRace" not in notes or "TestOther" in notes:
+        raise Wrong(f"record/go test: {notes}{trace}")
     confirm = [os.path.join(RECORD, "confirm"), "--racebench", racebench]
     table, _ = ran([*confirm, "../trace.std", "../clock"], cwd="a")
     if "races 1, stand 1, " not in table:
         raise Wrong(f"the program of record/go test --clock is not followed: {table}")
-    _, said = ran([*words, "--into", "traces", "./..."], 2)
-    if said != "record/go: --into writes several traces, and --clock is of one\n":
-        raise Wrong(f"--into with --clock: {said}")
-    _, said = ran([go, "run", "--status", "./b", "1", "2"], 3)
-    if "ended with status 3" not in said:
-        raise Wrong(f"record/go run: {said}")
-    _, said = ran([go, "test", "./..."], 2)
-    if said != "record/go: 2 packages have tests: --into FOLDER writes a trace of each\n":
-        raise Wrong(f"several packages: {said}")
+    _, notes = ran([*command, "--into", "traces", "./..."], 2)
+    if notes != "record/go: --into writes several traces, and --clock is of one\n":
+        raise Wrong(f"--into with --clock: {notes}")
+    _, notes = ran([go, "run", "--status", "./b", "1", "2"], 3)
+    if "ended with status 3" not in notes:
+        raise Wrong(f"record/go run: {notes}")
+    _, notes = ran([go, "test", "./..."], 2)
+    if notes != "record/go: 2 packages have tests: --into FOLDER writes a trace of each\n":
+        raise Wrong(f"several packages: {notes}")
     ran([go, "test", "--into", "traces", "./..."])
     if sorted(os.listdir("traces")) != ["example_a.std", "example_c.std"]:
         raise Wrong(f"--into: {os.listdir('traces')}")
-    for words, why in (
+    for command, why in (
         (["build", "-overlay", "x", "./b"], "record/go: -overlay can't be used: record/go has an overlay already\n"),
         (["vet"], "record/go: vet is none of build, test and run\n"),
     ):
-        if ran([go, *words], 2)[1] != why:
-            raise Wrong(f"record/go {' '.join(words)} is not refused so: {why}")
+        if ran([go, *command], 2)[1] != why:
+            raise Wrong(f"record/go {' '.join(command)} is not refused so: {why}")
 
 
 # Programs of tests/recorded/go that `go build -race` reports nearly always: a variable, a map and a pointer.
@@ -429,18 +429,18 @@ def judge_reported(racebench: str) -> None:
     for name in REPORTED:
         recorded(name, "--seed", "1")
         report = race_report(name)
-        out, said = answered(racebench, report)
+        out, notes = answered(racebench, report)
         races = shown(racebench)
         places = re.findall(r"^  \d+  T\d+\|[^|]*\|(\S+)", out, re.MULTILINE)
         if "1 a race here, 0 apart, 0 undecided, 0 not met" not in out or tuple(sorted(places[:2])) not in races:
-            raise Wrong(f"the report {report} is answered by {out}{said}")
-        _, said = answered(racebench, report[: report.rindex(RULE)], 1)
-        if not said.endswith("is cut\n"):
-            raise Wrong(f"a report that is cut: {said}")
+            raise Wrong(f"the report {report} is answered by {out}{notes}")
+        _, notes = answered(racebench, report[: report.rindex(RULE)], 1)
+        if not notes.endswith("is cut\n"):
+            raise Wrong(f"a report that is cut: {notes}")
         other = report.replace("races.go:", "races.go:9")
-        out, said = answered(racebench, other.replace(f"main.{name}", "main.(*other).call"))
+        out, notes = answered(racebench, other.replace(f"main.{name}", "main.(*other).call"))
         if "0 a race here, 0 apart, 0 undecided, 1 not met" not in out:
-            raise Wrong(f"a report on other lines is answered by {out}{said}")
+            raise Wrong(f"a report on other lines is answered by {out}{notes}")
 
 
 FULL_DISK = """mount -t tmpfs -o size=%s none small 2>/dev/null || exit 99
@@ -451,14 +451,14 @@ def judge_full_disk() -> None:
     """A disk that gets full ends the trace there, and not the program."""
     os.mkdir("small")
     command = FULL_DISK % ("6m", os.path.join(RECORD, "run"), scenarios())
-    words = ["unshare", "--map-root-user", "--mount", "sh", "-c", command]
-    done = subprocess.run(words, capture_output=True, check=False, timeout=PATIENCE)
+    unshared = ["unshare", "--map-root-user", "--mount", "sh", "-c", command]
+    done = subprocess.run(unshared, capture_output=True, check=False, timeout=PATIENCE)
     if done.returncode == 99 or b"unshare" in done.stderr:
         print("record/: a full disk is not tested with Go, since no small one can be mounted here")
         return
-    said = done.stderr.decode(errors="replace")
-    if done.returncode != 4 or "(less than a tenth of the disk is free)" not in said or "status 0" not in said:
-        raise Wrong(f"a full disk: status {done.returncode}: {said}")
+    notes = done.stderr.decode(errors="replace")
+    if done.returncode != 4 or "(less than a tenth of the disk is free)" not in notes or "status 0" not in notes:
+        raise Wrong(f"a full disk: status {done.returncode}: {notes}")
     trace = done.stdout.decode()
     judge_marks(trace, f"recording|end(LEFT OUT N FROM {len(trace.splitlines()) - 2}: DISK)|")
 

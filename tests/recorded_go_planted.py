@@ -143,10 +143,10 @@ def program_of(seed: int) -> tuple[str, set[str]]:
     return f"{text}\nfunc main() {{\n{calls}\n}}\n", labels
 
 
-def done(words: list[str]) -> str:
-    ran = subprocess.run(words, capture_output=True, timeout=PATIENCE, check=False)
+def done(command: list[str]) -> str:
+    ran = subprocess.run(command, capture_output=True, timeout=PATIENCE, check=False)
     if ran.returncode:
-        raise Wrong(f"{' '.join(words)}: status {ran.returncode}: {ran.stderr.decode(errors='replace')[-600:]}")
+        raise Wrong(f"{' '.join(command)}: status {ran.returncode}: {ran.stderr.decode(errors='replace')[-600:]}")
     return ran.stdout.decode(errors="replace")
 
 
@@ -167,10 +167,10 @@ def judge_planted(racebench: str, seed: int) -> int:
         printed = done([racebench, "triage", "trace.std"])
         places = re.findall(r"^  T\d+\|[^|]*\|(\S+)", printed, re.MULTILINE)
         for first, second in zip(places[::2], places[1::2]):
-            both = set(label_of.get(first, [])) & set(label_of.get(second, []))
-            if not both:
+            shared = set(label_of.get(first, [])) & set(label_of.get(second, []))
+            if not shared:
                 raise Wrong(f"program {seed}, seed {run}: a race without a label: {first} and {second}\n{text}")
-            found |= both
+            found |= shared
     if labels - found:
         raise Wrong(f"program {seed}: no run has the races {sorted(labels - found)}\n{text}")
     return len(found)

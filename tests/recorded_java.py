@@ -59,12 +59,12 @@ def folder_of_its_own() -> Iterator[None]:
             os.chdir(before)
 
 
-def ran(*words: str, **more: Any) -> tuple[int, str, str]:
+def ran(*command: str, **more: Any) -> tuple[int, str, str]:
     """The status of a command, and what it wrote on standard output and on standard error."""
     try:
-        done = subprocess.run(words, capture_output=True, timeout=PATIENCE, check=False, **more)
+        done = subprocess.run(command, capture_output=True, timeout=PATIENCE, check=False, **more)
     except subprocess.TimeoutExpired:
-        raise Wrong(f"{' '.join(words)}: does not end") from None
+        raise Wrong(f"{' '.join(command)}: does not end") from None
     return done.returncode, done.stdout.decode(errors="replace"), done.stderr.decode(errors="replace")
 
 
@@ -74,11 +74,11 @@ def compiled(*sources: str) -> None:
         raise Wrong(f"{sources} is not compiled: {text[-1500:]}")
 
 
-def recorded(*words: str, wanted: Iterable[int] = (0,)) -> tuple[list[str], str]:
+def recorded(*arguments: str, wanted: Iterable[int] = (0,)) -> tuple[list[str], str]:
     """The lines of a trace, which is in `trace.std` too, and what record/java says."""
-    status, trace, text = ran(RECORD, *words)
+    status, trace, text = ran(RECORD, *arguments)
     if status not in wanted:
-        raise Wrong(f"record/java {' '.join(words)}: status {status}: {text[-1500:]}")
+        raise Wrong(f"record/java {' '.join(arguments)}: status {status}: {text[-1500:]}")
     with open("trace.std", "w", encoding="utf-8") as file:
         file.write(trace)
     return trace.splitlines(), text
@@ -109,10 +109,10 @@ def labels_met(racebench: str, labels: dict[str, set[str]], about: str) -> set[s
     """The labels of the races of a recording; each race must have one."""
     met = set()
     for pair in races(racebench):
-        both = labels.get(pair[0], set()) & labels.get(pair[1], set())
-        if not both:
+        shared = labels.get(pair[0], set()) & labels.get(pair[1], set())
+        if not shared:
             raise Wrong(f"{about}: {' and '.join(pair)} race, and no label says so")
-        met |= both
+        met |= shared
     return met
 
 

@@ -48,15 +48,15 @@ def judge_disk(racebench: str) -> None:
     def limit() -> None:
         resource.setrlimit(resource.RLIMIT_FSIZE, (SMALL_DISK, SMALL_DISK))
 
-    words = [recorded_java.RECORD, "-cp", ".", "Broken", "ends", "200000"]
+    command = [recorded_java.RECORD, "-cp", ".", "Broken", "ends", "200000"]
     recorded_java.ran(recorded_java.RECORD, "--jar")
-    status, trace, text = recorded_java.ran(*words, preexec_fn=limit)
+    status, trace, text = recorded_java.ran(*command, preexec_fn=limit)
     lines = trace.splitlines()
     if status != 4 or not re.fullmatch(r"recording\|end\(LEFT OUT 0 FROM \d+: DISK\)\|", lines[-1]):
         raise Wrong(f"status {status}, and the trace ends with {lines[-1:]}: {text[-600:]}")
     if "the end\n" not in text or "the disk is full" not in text or len(lines) < 10000:
         raise Wrong(f"{len(lines)} lines, and record/java says: {text[-600:]}")
-    if recorded_java.ran(*words[:1], "--partial", *words[1:], preexec_fn=limit)[0] != 0:
+    if recorded_java.ran(*command[:1], "--partial", *command[1:], preexec_fn=limit)[0] != 0:
         raise Wrong("--partial does not accept the recording")
     with open("trace.std", "w", encoding="utf-8") as file:
         file.write("".join(f"{line}\n" for line in lines[:1000]))
@@ -79,9 +79,11 @@ def judge_threads() -> None:
 def judge_deadlock() -> None:
     """A deadlock is recorded up to control-C."""
     compile_broken()
-    words = [recorded_java.RECORD, "--status", "-cp", ".", "Broken", "locks", "1"]
+    command = [recorded_java.RECORD, "--status", "-cp", ".", "Broken", "locks", "1"]
     with tempfile.TemporaryFile("w+") as out:
-        with subprocess.Popen(words, stdout=out, stderr=subprocess.PIPE, text=True, start_new_session=True) as started:
+        with subprocess.Popen(
+            command, stdout=out, stderr=subprocess.PIPE, text=True, start_new_session=True
+        ) as started:
             assert started.stderr
             holds = 0
             while holds < 2:
@@ -127,7 +129,7 @@ def judge_options() -> None:
 
 def judge_refused() -> None:
     """Wrong options and missing tools are refused with one line."""
-    for words, text in (
+    for arguments, text in (
         (["--no-free", "-cp", ".", "Main"], "a Java program frees nothing"),
         (["--all", "Main"], "--all is not there for Java: the trace leaves out no access"),
         (["--ordered", "to", "Main"], "--ordered is not there for Java: the trace leaves out no access"),
@@ -137,23 +139,23 @@ def judge_refused() -> None:
         ([], "say what java runs"),
         (["--read", "kept.raw", "Main"], "--jar and --read run nothing"),
     ):
-        status, out, said = recorded_java.ran(recorded_java.RECORD, *words)
-        if status != 2 or out or text not in said.splitlines()[-1]:
-            raise Wrong(f"{words}: status {status}: {said[-300:]}")
+        status, out, errors = recorded_java.ran(recorded_java.RECORD, *arguments)
+        if status != 2 or out or text not in errors.splitlines()[-1]:
+            raise Wrong(f"{arguments}: status {status}: {errors[-300:]}")
     os.mkdir("bin")
     for name in ("env", "python3"):
         os.symlink(os.path.realpath(f"/usr/bin/{name}"), f"bin/{name}")
     lacking: dict[str, Any] = {
         "env": {"PATH": os.path.abspath("bin"), "XDG_CACHE_HOME": os.getcwd(), "HOME": os.getcwd()}
     }
-    status, out, said = recorded_java.ran(recorded_java.RECORD, "-cp", ".", "Main", **lacking)
-    if status != 1 or out or said != "record/java: there is no program javac: install openjdk-17-jdk-headless\n":
-        raise Wrong(f"without a JDK: status {status}: {said[-300:]}")
+    status, out, errors = recorded_java.ran(recorded_java.RECORD, "-cp", ".", "Main", **lacking)
+    if status != 1 or out or errors != "record/java: there is no program javac: install openjdk-17-jdk-headless\n":
+        raise Wrong(f"without a JDK: status {status}: {errors[-300:]}")
     with open("none.raw", "wb") as file:
         file.write(b"no records")
-    status, out, said = recorded_java.ran(recorded_java.RECORD, "--read", "none.raw")
-    if status != 1 or "has no records" not in said:
-        raise Wrong(f"a file without records: status {status}: {out[:100]}{said[-300:]}")
+    status, out, errors = recorded_java.ran(recorded_java.RECORD, "--read", "none.raw")
+    if status != 1 or "has no records" not in errors:
+        raise Wrong(f"a file without records: status {status}: {out[:100]}{errors[-300:]}")
 
 
 def judge_agent() -> None:

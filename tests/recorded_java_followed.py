@@ -33,9 +33,9 @@ def compiled(name: str) -> None:
     recorded_java.compiled(os.path.join(recorded_java.SOURCES, f"{name}.java"))
 
 
-def recorded(words: list[str], seed: int = 1) -> list[str]:
+def recorded(arguments: list[str], seed: int = 1) -> list[str]:
     """Records a program with a clock; its events."""
-    lines, _ = recorded_java.recorded("--seed", str(seed), "--clock", "clock", "-cp", ".", *words)
+    lines, _ = recorded_java.recorded("--seed", str(seed), "--clock", "clock", "-cp", ".", *arguments)
     return [line for line in lines if not line.startswith("recording|")]
 
 
@@ -49,10 +49,10 @@ def followed(racebench: str, pair: list[str], *options: str, wanted: int = 0, **
     """What record/follow says of a pair."""
     with open("witness", "w", encoding="utf-8") as file:
         file.write(recorded_java.ran(racebench, "witness", "trace.std", *pair)[1])
-    status, _, said = recorded_java.ran(FOLLOW, "--witness", "witness", *options, "clock", *pair, **more)
+    status, _, notes = recorded_java.ran(FOLLOW, "--witness", "witness", *options, "clock", *pair, **more)
     if status != wanted:
-        raise Wrong(f"record/follow {' '.join([*options, *pair])}: status {status}: {said[-1500:]}")
-    return said
+        raise Wrong(f"record/follow {' '.join([*options, *pair])}: status {status}: {notes[-1500:]}")
+    return notes
 
 
 def access_of(line: str) -> str:
@@ -61,14 +61,14 @@ def access_of(line: str) -> str:
     return f"{thread}, (atomic )?{'read' if access.startswith('r(') else '(write|update)'} of "
 
 
-def judge_stands(racebench: str, words: list[str]) -> None:
+def judge_stands(racebench: str, arguments: list[str]) -> None:
     """Both threads come to the accesses of the race, with their calls, for each race of two seeds."""
-    compiled(words[0])
+    compiled(arguments[0])
     found = 0
     for seed in SEEDS:
-        events = recorded(words, seed)
+        events = recorded(arguments, seed)
         for pair in races(racebench)[:MOST]:
-            said = followed(racebench, pair, "--then", "stop")
+            notes = followed(racebench, pair, "--then", "stop")
             first, second = (events[int(event)] for event in pair)
             places = [line.split("|", 2)[2].split(" < ")[0] for line in (first, second)]
             threads = [line.split("|")[0] for line in (first, second)]
@@ -78,11 +78,11 @@ def judge_stands(racebench: str, words: list[str]) -> None:
             wanted = (
                 re.escape(f"record/follow: the race stands: {title}\n") + sides[0] + calls[0] + sides[1] + calls[1]
             )
-            if not re.search(wanted, said):
-                raise Wrong(f"{' '.join(words)}, seed {seed}, {pair}: {said[-1500:]}")
+            if not re.search(wanted, notes):
+                raise Wrong(f"{' '.join(arguments)}, seed {seed}, {pair}: {notes[-1500:]}")
             found += 1
     if not found:
-        raise Wrong(f"{' '.join(words)}: no race was followed")
+        raise Wrong(f"{' '.join(arguments)}: no race was followed")
 
 
 def judge_orders(racebench: str) -> None:
@@ -95,16 +95,16 @@ def judge_orders(racebench: str) -> None:
     a_writes = writes == pair[:1]
     throws, ends = "the program ended with status 1", "the program ended with status 0"
     for order, a_first in (("first", True), ("second", False), ("a-b", True), ("b-a", False)):
-        said = followed(racebench, pair, "--then", order)
+        notes = followed(racebench, pair, "--then", order)
         wanted = throws if a_first == a_writes else ends
         held = r'which holds "first", afterwards null'
-        if said.splitlines()[-1] != f"record/follow: {wanted}" or len(re.findall(held, said)) != 2:
-            raise Wrong(f"--then {order}, and {'A' if a_writes else 'B'} writes: {said[-1500:]}")
-    status, table, said = recorded_java.ran(CONFIRM, "--racebench", racebench, "--most", "1", "trace.std", "clock")
+        if notes.splitlines()[-1] != f"record/follow: {wanted}" or len(re.findall(held, notes)) != 2:
+            raise Wrong(f"--then {order}, and {'A' if a_writes else 'B'} writes: {notes[-1500:]}")
+    status, table, notes = recorded_java.ran(CONFIRM, "--racebench", racebench, "--most", "1", "trace.std", "clock")
     row = r"^Followed\.java:\d+  Followed\.java:\d+  stands    status (\d) +status (\d) +matters$"
     found = re.search(row, table, re.MULTILINE)
     if status or not found or set(found.groups()) != {"0", "1"}:
-        raise Wrong(f"record/confirm: status {status}: {table}{said[-600:]}")
+        raise Wrong(f"record/confirm: status {status}: {table}{notes[-600:]}")
 
 
 def judge_hangs(racebench: str) -> None:
@@ -113,9 +113,9 @@ def judge_hangs(racebench: str) -> None:
     events = recorded(["Followed", "lost"])
     pair = races(racebench)[0]
     order = "a-b" if "|r(" in events[int(pair[0])] else "b-a"
-    said = followed(racebench, pair, "--then", order, "--timeout", "590", env={**os.environ, "FOLLOWED_AS": "hangs"})
-    if said.splitlines()[-1] != "record/follow: the program hangs in a deadlock":
-        raise Wrong(f"{order}: {said[-1500:]}")
+    notes = followed(racebench, pair, "--then", order, "--timeout", "590", env={**os.environ, "FOLLOWED_AS": "hangs"})
+    if notes.splitlines()[-1] != "record/follow: the program hangs in a deadlock":
+        raise Wrong(f"{order}: {notes[-1500:]}")
 
 
 def judge_clean(racebench: str) -> None:
@@ -125,21 +125,21 @@ def judge_clean(racebench: str) -> None:
     writes = [number for number, line in enumerate(events) if "|w(" in line and "Guarded.hits" in line]
     threads = {events[number].split("|")[0]: str(number) for number in writes}
     pair = list(threads.values())[:2]
-    said = followed(racebench, pair, wanted=3)
-    if said != "record/follow: witness has no witness: `racebench witness TRACE A B` prints one\n":
-        raise Wrong(f"a pair under one lock: {said}")
+    notes = followed(racebench, pair, wanted=3)
+    if notes != "record/follow: witness has no witness: `racebench witness TRACE A B` prints one\n":
+        raise Wrong(f"a pair under one lock: {notes}")
     compiled("Counter")
     recorded(["Counter"])
     pair = races(racebench)[0]
     followed(racebench, pair, "--then", "stop")
     other = [pair[0], str(int(pair[1]) + 1)]
-    words = [FOLLOW, "--witness", "witness", "clock", *other]
-    status, _, said = recorded_java.ran(*words)
-    if status != 3 or "this is a witness of another race than" not in said:
-        raise Wrong(f"a schedule of another race: status {status}: {said}")
-    said = followed(racebench, pair, "--gdb", wanted=3)
-    if said != "record/follow: --gdb: gdb knows no threads of Java; the stacks are those that record/follow prints\n":
-        raise Wrong(f"--gdb: {said}")
+    command = [FOLLOW, "--witness", "witness", "clock", *other]
+    status, _, notes = recorded_java.ran(*command)
+    if status != 3 or "this is a witness of another race than" not in notes:
+        raise Wrong(f"a schedule of another race: status {status}: {notes}")
+    notes = followed(racebench, pair, "--gdb", wanted=3)
+    if notes != "record/follow: --gdb: gdb knows no threads of Java; the stacks are those that record/follow prints\n":
+        raise Wrong(f"--gdb: {notes}")
 
 
 # What a run says that goes another way, by FOLLOWED_AS.
@@ -159,16 +159,16 @@ def judge_departures(racebench: str) -> None:
     pair = races(racebench)[0]
     for way, wanted in DEPARTURES.items():
         surroundings = {**os.environ, "FOLLOWED_AS": way}
-        said = followed(racebench, pair, wanted=1 if wanted else 0, env=surroundings)
-        if wanted and not re.search(f"^record/follow: {wanted}", said, re.MULTILINE):
-            raise Wrong(f"FOLLOWED_AS={way}: {said[-1500:]}")
-        if not wanted and "the race stands: " not in said:
-            raise Wrong(f"a thread that sleeps while others go on: {said[-1500:]}")
-    status, table, said = recorded_java.ran(
+        notes = followed(racebench, pair, wanted=1 if wanted else 0, env=surroundings)
+        if wanted and not re.search(f"^record/follow: {wanted}", notes, re.MULTILINE):
+            raise Wrong(f"FOLLOWED_AS={way}: {notes[-1500:]}")
+        if not wanted and "the race stands: " not in notes:
+            raise Wrong(f"a thread that sleeps while others go on: {notes[-1500:]}")
+    status, table, notes = recorded_java.ran(
         CONFIRM, "--racebench", racebench, "trace.std", "clock", env={**os.environ, "FOLLOWED_AS": "other"}
     )
     if status != 1 or not re.search(r"  departed$", table, re.MULTILINE) or "where the recording has" not in table:
-        raise Wrong(f"record/confirm: status {status}: {table}{said[-600:]}")
+        raise Wrong(f"record/confirm: status {status}: {table}{notes[-600:]}")
 
 
 def judge_killed(racebench: str) -> None:
@@ -178,9 +178,9 @@ def judge_killed(racebench: str) -> None:
     pair = races(racebench)[0]
     with open("witness", "w", encoding="utf-8") as file:
         file.write(recorded_java.ran(racebench, "witness", "trace.std", *pair)[1])
-    words = [FOLLOW, "--witness", "witness", "clock", *pair]
+    command = [FOLLOW, "--witness", "witness", "clock", *pair]
     surroundings = {**os.environ, "FOLLOWED_AS": "waits"}
-    with subprocess.Popen(words, stderr=subprocess.PIPE, env=surroundings, start_new_session=True) as started:
+    with subprocess.Popen(command, stderr=subprocess.PIPE, env=surroundings, start_new_session=True) as started:
         end = time.monotonic() + recorded_java.PATIENCE
         while not (children := children_of(started.pid)):
             if time.monotonic() > end:
@@ -188,11 +188,11 @@ def judge_killed(racebench: str) -> None:
             time.sleep(0.01)
         started.send_signal(signal.SIGTERM)
         assert started.stderr
-        said = started.stderr.read().decode(errors="replace")
+        notes = started.stderr.read().decode(errors="replace")
         status = started.wait(recorded_java.PATIENCE)
     left = [child for child in children if os.path.exists(f"/proc/{child}")]
-    if status != -signal.SIGTERM or "ended by SIGTERM" not in said or left:
-        raise Wrong(f"status {status}, {left} are left: {said[-600:]}")
+    if status != -signal.SIGTERM or "ended by SIGTERM" not in notes or left:
+        raise Wrong(f"status {status}, {left} are left: {notes[-600:]}")
 
 
 def children_of(process: int) -> list[str]:
@@ -230,33 +230,33 @@ def judge_refused(racebench: str) -> None:
         ("witness", "witness is no clock of record/run --clock"),
         ("none", "none: No such file or directory"),
     ):
-        status, _, said = recorded_java.ran(FOLLOW, *java, clock, *pair)
-        if status != 3 or text not in said or said.count("\n") != 1:
-            raise Wrong(f"the clock {clock}: status {status}: {said}")
-    status, _, said = recorded_java.ran(CONFIRM, "--racebench", racebench, "trace.std", "first")
-    if status != 3 or "first is the clock of another trace than trace.std" not in said:
-        raise Wrong(f"record/confirm: status {status}: {said}")
+        status, _, notes = recorded_java.ran(FOLLOW, *java, clock, *pair)
+        if status != 3 or text not in notes or notes.count("\n") != 1:
+            raise Wrong(f"the clock {clock}: status {status}: {notes}")
+    status, _, notes = recorded_java.ran(CONFIRM, "--racebench", racebench, "trace.std", "first")
+    if status != 3 or "first is the clock of another trace than trace.std" not in notes:
+        raise Wrong(f"record/confirm: status {status}: {notes}")
     with open(os.path.join(recorded_java.SOURCES, "Counter.java"), encoding="utf-8") as text_of:
         source = text_of.read()
     with open("Counter.java", "w", encoding="utf-8") as changed:
         changed.write(source.replace("hits++;", "hits += 2;"))
     recorded_java.compiled("Counter.java")
-    status, _, said = recorded_java.ran(FOLLOW, *java, "first", *pair)
-    if status != 3 or said != "record/follow: the class Counter is another than the one that was recorded\n":
-        raise Wrong(f"another class: status {status}: {said}")
+    status, _, notes = recorded_java.ran(FOLLOW, *java, "first", *pair)
+    if status != 3 or notes != "record/follow: the class Counter is another than the one that was recorded\n":
+        raise Wrong(f"another class: status {status}: {notes}")
     os.remove("Counter.class")
-    status, _, said = recorded_java.ran(FOLLOW, *java, "first", *pair)
-    if status != 3 or "java did not begin the program, which was recorded in " not in said:
-        raise Wrong(f"no class: status {status}: {said}")
-    for words in (["--read", "kept.raw"], ["--from", "2", "Main"]):
-        status, _, said = recorded_java.ran(recorded_java.RECORD, "--clock", "clock", *words)
-        if status != 2 or "--clock is of a whole run" not in said:
-            raise Wrong(f"{words}: status {status}: {said}")
+    status, _, notes = recorded_java.ran(FOLLOW, *java, "first", *pair)
+    if status != 3 or "java did not begin the program, which was recorded in " not in notes:
+        raise Wrong(f"no class: status {status}: {notes}")
+    for options in (["--read", "kept.raw"], ["--from", "2", "Main"]):
+        status, _, notes = recorded_java.ran(recorded_java.RECORD, "--clock", "clock", *options)
+        if status != 2 or "--clock is of a whole run" not in notes:
+            raise Wrong(f"{options}: status {status}: {notes}")
 
 
 def cases(racebench: str) -> Iterator[recorded_java.Case]:
-    for words in PROGRAMS:
-        yield " ".join(["java: following", *words]), judge_stands, (racebench, words)
+    for arguments in PROGRAMS:
+        yield " ".join(["java: following", *arguments]), judge_stands, (racebench, arguments)
     yield "java: following in each order", judge_orders, (racebench,)
     yield "java: following, and the program hangs", judge_hangs, (racebench,)
     yield "java: following what is no race", judge_clean, (racebench,)

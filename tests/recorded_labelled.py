@@ -43,10 +43,10 @@ OF_PASS = {"structs that calls return, and assembly": "struct_returned.c assembl
 def rows_of(racebench: str, programs: str) -> list[str]:
     """The rows that the script prints for programs."""
     chosen = [word for name in programs.split() for word in ("--only", name)]
-    words = [RUN, "--tool", "ours", "--rows", "--seeds", str(SEEDS), "--racebench", racebench, *chosen]
-    ran = subprocess.run(words, capture_output=True, text=True, timeout=PATIENCE, check=False)
+    command = [RUN, "--tool", "ours", "--rows", "--seeds", str(SEEDS), "--racebench", racebench, *chosen]
+    ran = subprocess.run(command, capture_output=True, text=True, timeout=PATIENCE, check=False)
     if ran.returncode:
-        raise Wrong(f"{' '.join(words)}: status {ran.returncode}: {ran.stderr[-600:]}{ran.stdout[-600:]}")
+        raise Wrong(f"{' '.join(command)}: status {ran.returncode}: {ran.stderr[-600:]}{ran.stdout[-600:]}")
     return [line for line in ran.stdout.splitlines() if " ours: " in line]
 
 

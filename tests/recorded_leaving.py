@@ -121,11 +121,11 @@ class Drawn:
     def write(self, path, count):
         for _ in range(count):
             self.step()
-        words, size = [0] * (raw_file.WORDS.size // 8), len(self.records)
+        numbers, size = [0] * (raw_file.WORDS.size // 8), len(self.records)
         used = raw_file.LONG_WORDS * size
-        words[:7] = raw_file.MAGIC, size, used, 1, 1, raw_file.HEAD_SIZE, raw_file.HEAD_SIZE + raw_file.NODE.size
-        words[10] = 1
-        head = raw_file.WORDS.pack(*words) + raw_file.MODULE.pack(MODULE_AT, 0x8000000, b"/nowhere/drawn")
+        numbers[:7] = raw_file.MAGIC, size, used, 1, 1, raw_file.HEAD_SIZE, raw_file.HEAD_SIZE + raw_file.NODE.size
+        numbers[10] = 1
+        head = raw_file.WORDS.pack(*numbers) + raw_file.MODULE.pack(MODULE_AT, 0x8000000, b"/nowhere/drawn")
         with open(path, "wb") as out:
             out.write(head.ljust(raw_file.HEAD_SIZE + raw_file.NODE.size, b"\0") + b"".join(self.records))
 
@@ -269,9 +269,9 @@ def follow(racebench, seed):
     with open("witness", encoding="utf-8") as file:
         command = [os.path.join(RECORD, "follow"), "clock", *race.groups(), "./program"]
         done = subprocess.run(command, stdin=file, capture_output=True, timeout=PATIENCE, check=False)
-    said = done.stderr.decode(errors="replace")
-    if done.returncode or "record/follow: the race stands" not in said:
-        raise Wrong(f"seed {seed}: the race after the loops does not stand: {said}")
+    errors = done.stderr.decode(errors="replace")
+    if done.returncode or "record/follow: the race stands" not in errors:
+        raise Wrong(f"seed {seed}: the race after the loops does not stand: {errors}")
 
 
 def cases(racebench, c):

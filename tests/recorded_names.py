@@ -59,10 +59,10 @@ OTHERS = ("heap:", "stack:", "memory:")
 OPERATION = re.compile(r"T\d+\|(\w+)\((.*)\)\|")
 
 
-def names_of(words, *options):
+def names_of(command, *options):
     """The names of variables and of locks in a recording of `program`."""
     variables, locks = set(), set()
-    for line in events_in(ran([os.path.join(RECORD, "run"), "--all", *options, *words])):
+    for line in events_in(ran([os.path.join(RECORD, "run"), "--all", *options, *command])):
         word, name = OPERATION.match(line).groups()
         (variables if word in "rw" else locks if word == "acq" else set()).add(name)
     return variables, locks
@@ -223,8 +223,8 @@ def judge_wrong_names(c):
     for names in [[line.replace(*wrong) for line in lines] for wrong in WRONG_NAMES] + [changed]:
         with open("wrong.std", "w", encoding="utf-8") as file:
             file.writelines(names)
-        words = [names_of_runs.python(), names_of_runs.JUDGE, "kept.raw", "wrong.std", "names.numbers"]
-        if names == lines or subprocess.run(words, capture_output=True, check=False).returncode != 1:
+        command = [names_of_runs.python(), names_of_runs.JUDGE, "kept.raw", "wrong.std", "names.numbers"]
+        if names == lines or subprocess.run(command, capture_output=True, check=False).returncode != 1:
             raise Wrong("names that are wrong are not seen")
 
 

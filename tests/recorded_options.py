@@ -18,12 +18,14 @@ MOST_EVENTS = 1_048_576
 THREADS = 600
 
 
-def run(*words):
+def run(*arguments):
     """The events that record/run writes of `program`, and what it says. The recording may be not whole."""
-    done = subprocess.run([os.path.join(RECORD, "run"), *words], capture_output=True, timeout=PATIENCE, check=False)
+    done = subprocess.run(
+        [os.path.join(RECORD, "run"), *arguments], capture_output=True, timeout=PATIENCE, check=False
+    )
     if done.returncode not in (0, 4):
         raise Wrong(
-            f"record/run {' '.join(words)}: status {done.returncode}: {done.stderr.decode(errors='replace')[:600]}"
+            f"record/run {' '.join(arguments)}: status {done.returncode}: {done.stderr.decode(errors='replace')[:600]}"
         )
     return events_in(done.stdout.decode()), done.stderr.decode(errors="replace")
 
@@ -119,41 +121,41 @@ def judge_only():
     """The trace has the variables that the file accesses, with all their accesses; everything else is as in the
     whole trace."""
     whole, _ = run("--raw", "kept.raw", "./program")
-    some, said = decoded("--only", "p/util.c")
+    some, notes = decoded("--only", "p/util.c")
     wanted = [line for line in whole if not re.search(r"\|[rw]\(", line) or "(p_count)" in line]
-    if some != wanted or "fact not_chosen 3" not in said:
-        raise Wrong(f"--only p/util.c: {some}, and {said}")
+    if some != wanted or "fact not_chosen 3" not in notes:
+        raise Wrong(f"--only p/util.c: {some}, and {notes}")
 
 
 def judge_length():
     """A trace may have more events than are read at once, and a line says how it is read; --max limits it, and --for
     ends it while the program goes on."""
-    whole, said = run("--yield", "5000", "./program", str(MOST_EVENTS // 4 + 100))
-    if len(whole) <= MOST_EVENTS or "left out" in said or f"recorded {len(whole)} events" not in said:
-        raise Wrong(f"without --max: {len(whole)} events, and {said}")
-    if "read it with `racebench triage --windows`" not in said:
-        raise Wrong(f"a trace that is too long to be read at once: {said}")
-    limited, said = run("--max", "1000", "./program", "1000")
-    if len(limited) != 1000 or "events left out after the first 1000" not in said:
-        raise Wrong(f"--max 1000: {len(limited)} events, and {said}")
+    whole, notes = run("--yield", "5000", "./program", str(MOST_EVENTS // 4 + 100))
+    if len(whole) <= MOST_EVENTS or "left out" in notes or f"recorded {len(whole)} events" not in notes:
+        raise Wrong(f"without --max: {len(whole)} events, and {notes}")
+    if "read it with `racebench triage --windows`" not in notes:
+        raise Wrong(f"a trace that is too long to be read at once: {notes}")
+    limited, notes = run("--max", "1000", "./program", "1000")
+    if len(limited) != 1000 or "events left out after the first 1000" not in notes:
+        raise Wrong(f"--max 1000: {len(limited)} events, and {notes}")
     judge_seconds()
 
 
 def judge_threads(racebench, c):
     """A trace has threads without a limit, and `triage --windows` reads it; with --max it ends before the 257th."""
     compile_with(c, "many_threads.c")
-    whole, said = run("./program")
+    whole, notes = run("./program")
     threads = {line.split("|", 1)[0] for line in whole}
-    if len(threads) != THREADS + 1 or "left out" in said or "triage --windows" not in said:
-        raise Wrong(f"without --max: {len(threads)} threads, and {said}")
+    if len(threads) != THREADS + 1 or "left out" in notes or "triage --windows" not in notes:
+        raise Wrong(f"without --max: {len(threads)} threads, and {notes}")
     with open("long.std", "w", encoding="utf-8") as text:
         text.writelines(f"{line}\n" for line in whole)
     counts = ran([racebench, "triage", "--windows", "long.std"]).splitlines()[:4]
     if counts[2:] != [f"events {len(whole)}", f"threads {THREADS + 1}"]:
         raise Wrong(f"triage --windows reads {counts}, of {len(whole)} events")
-    short, said = run("--max", str(MOST_EVENTS), "./program")
-    if len({line.split("|", 1)[0] for line in short}) > 256 or "since a trace has at most 256 threads" not in said:
-        raise Wrong(f"with --max: {len(short)} events, and {said}")
+    short, notes = run("--max", str(MOST_EVENTS), "./program")
+    if len({line.split("|", 1)[0] for line in short}) > 256 or "since a trace has at most 256 threads" not in notes:
+        raise Wrong(f"with --max: {len(short)} events, and {notes}")
 
 
 def judge_seconds():
@@ -162,12 +164,12 @@ def judge_seconds():
     recorded, or the end may come late, when the program has ended: then the time is longer, up to a minute."""
     for seconds in (0.3, 1, 3, 10, 60):
         turns = int(400 * seconds)
-        short, said = run("--for", str(seconds), "./program", str(turns), "10000")
-        if len(short) > 4 * turns + 4 or "ended with status 0" not in said:
+        short, notes = run("--for", str(seconds), "./program", str(turns), "10000")
+        if len(short) > 4 * turns + 4 or "ended with status 0" not in notes:
             break
-        if len(short) > 4 and "(--for)" in said:
+        if len(short) > 4 and "(--for)" in notes:
             return
-    raise Wrong(f"--for {seconds}: {len(short)} events, and {said}")
+    raise Wrong(f"--for {seconds}: {len(short)} events, and {notes}")
 
 
 def compile_with(c, *sources):
@@ -187,12 +189,12 @@ def judge_options(c):
     judge_length()
 
 
-def refused(*words):
+def refused(*arguments):
     """The lines that record/run says if it writes no event and ends with status 1."""
-    words = [os.path.join(RECORD, "run"), *words]
-    done = subprocess.run(words, capture_output=True, timeout=PATIENCE, check=False)
+    arguments = [os.path.join(RECORD, "run"), *arguments]
+    done = subprocess.run(arguments, capture_output=True, timeout=PATIENCE, check=False)
     if done.returncode != 1 or events_in(done.stdout.decode()):
-        raise Wrong(f"{words[1:]}: status {done.returncode}, {done.stdout[:300]!r}")
+        raise Wrong(f"{arguments[1:]}: status {done.returncode}, {done.stdout[:300]!r}")
     return done.stderr.decode(errors="replace").splitlines()
 
 
@@ -202,18 +204,18 @@ def judge_refusals(c):
     decoder()
     compile_with(c, "each_kind.c")
     for option in ("--raw", "--clock"):
-        said = refused(option, "no_folder/file", "./program")
-        if said != ["record/run: no_folder/file: No such file or directory"]:
-            raise Wrong(f"{option} in a folder that is not there: {said}")
+        notes = refused(option, "no_folder/file", "./program")
+        if notes != ["record/run: no_folder/file: No such file or directory"]:
+            raise Wrong(f"{option} in a folder that is not there: {notes}")
         if refused(option, ".", "./program") != ["record/run: .: Is a directory"]:
             raise Wrong(f"{option} of a folder is not refused")
     source = os.path.join(SOURCES, "each_kind.c")
     if refused(source) != [f"record/run: {source}: Permission denied; it is not a program: record/cc makes one"]:
         raise Wrong(f"a source: {refused(source)}")
-    for words in (["--from", "1000000"], ["--max", "0"]):
-        said = refused(*words, "./program")
-        if "record/run: no event was written: the options leave out all of them" not in said or "thread" in said[-2]:
-            raise Wrong(f"{words}: {said}")
+    for options in (["--from", "1000000"], ["--max", "0"]):
+        notes = refused(*options, "./program")
+        if "record/run: no event was written: the options leave out all of them" not in notes or "thread" in notes[-2]:
+            raise Wrong(f"{options}: {notes}")
     judge_no_decoder()
 
 
@@ -221,8 +223,8 @@ def judge_no_decoder():
     """If the decoder can't be compiled, one line says what to install, and the program does not run."""
     for compiler, reason in (("false", "false failed"), ("no-such-compiler", "there is no no-such-compiler")):
         environment = dict(os.environ, RECORD_CXX=compiler, XDG_CACHE_HOME=os.path.join(os.getcwd(), "cache"))
-        words = [os.path.join(RECORD, "run"), "./program"]
-        done = subprocess.run(words, capture_output=True, timeout=PATIENCE, env=environment, check=False)
+        command = [os.path.join(RECORD, "run"), "./program"]
+        done = subprocess.run(command, capture_output=True, timeout=PATIENCE, env=environment, check=False)
         lines = done.stderr.decode(errors="replace").splitlines()
         advice = "install g++ and libdw-dev, or name a compiler in RECORD_CXX"
         if (

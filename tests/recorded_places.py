@@ -30,17 +30,17 @@ def events_in(trace):
     return [line for line in trace.splitlines() if not line.startswith("recording|")]
 
 
-def ran(words, wanted=0, **more):
-    done = names_of_runs.run(words, capture_output=True, timeout=PATIENCE, check=False, **more)
+def ran(command, wanted=0, **more):
+    done = names_of_runs.run(command, capture_output=True, timeout=PATIENCE, check=False, **more)
     if done.returncode != wanted:
-        raise Wrong(f"{' '.join(words)}: status {done.returncode}: {done.stderr.decode(errors='replace')[:600]}")
+        raise Wrong(f"{' '.join(command)}: status {done.returncode}: {done.stderr.decode(errors='replace')[:600]}")
     return done.stdout.decode()
 
 
-def locations(*words):
+def locations(*options):
     """The locations of a recording of `program`: operation, first place, and what is after it."""
     found = []
-    for line in events_in(ran([os.path.join(RECORD, "run"), "--all", *words, "./program"])):
+    for line in events_in(ran([os.path.join(RECORD, "run"), "--all", *options, "./program"])):
         _, operation, location = line.split("|", 2)
         place, *calls = location.split(" < ")
         found.append((operation, place, calls))

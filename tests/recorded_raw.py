@@ -25,10 +25,10 @@ def decoded(raw):
     done = subprocess.run(
         [decoder(), "--all", "--raw-names", "other.raw"], capture_output=True, timeout=PATIENCE, check=False
     )
-    said = done.stderr.decode(errors="replace")
-    if done.returncode not in (0, 1) or (done.returncode and not said.startswith("record: other.raw")):
-        raise Wrong(f"the decoder ended with status {done.returncode}: {said[:600]}")
-    return done.returncode, events_in(done.stdout.decode(errors="replace")), said
+    errors = done.stderr.decode(errors="replace")
+    if done.returncode not in (0, 1) or (done.returncode and not errors.startswith("record: other.raw")):
+        raise Wrong(f"the decoder ended with status {done.returncode}: {errors[:600]}")
+    return done.returncode, events_in(done.stdout.decode(errors="replace")), errors
 
 
 def recording():
@@ -56,9 +56,9 @@ def judge_cut(c):
         there = rows_of(cut, first)
         if there != whole[: len(there)]:
             raise Wrong(f"cut at {len(cut)}: the records are not those before")
-        status, _, said = decoded(cut)
-        if status or "loss ROOM" not in said:
-            raise Wrong(f"cut at {len(cut)}: status {status}: {said[:600]}")
+        status, _, errors = decoded(cut)
+        if status or "loss ROOM" not in errors:
+            raise Wrong(f"cut at {len(cut)}: status {status}: {errors[:600]}")
 
 
 def judge_damaged(c):
@@ -71,10 +71,10 @@ def judge_damaged(c):
         for _ in range(DAMAGE):
             at = first + 8 * chance.randrange((len(raw) - first) // 8)
             struct.pack_into("<Q", other, at, chance.getrandbits(64) >> chance.choice((0, 16, 48, 60)))
-        status, _, said = decoded(bytes(other))
+        status, _, errors = decoded(bytes(other))
         refused += status
-        if status and "of the records is damaged" not in said:
-            raise Wrong(f"damaged by seed {seed}: {said[:600]}")
+        if status and "of the records is damaged" not in errors:
+            raise Wrong(f"damaged by seed {seed}: {errors[:600]}")
     if not 0 < refused < DAMAGED:
         raise Wrong(f"of {DAMAGED} damaged files {refused} are refused")
 

@@ -63,35 +63,35 @@ def tsan_report(c, source=SOURCE):
     """A report of the program by ThreadSanitizer; addresses are not drawn, which its older versions can't bear."""
     ran([c, "-g", "-O0", "-fsanitize=thread", "-pthread", source, "-o", "watched"])
     for _ in range(RUNS):
-        said = subprocess.run(
+        done = subprocess.run(
             ["setarch", "-R", "./watched"], capture_output=True, timeout=PATIENCE, check=False
         ).stderr
-        if b"WARNING: ThreadSanitizer: data race" in said:
-            return said
+        if b"WARNING: ThreadSanitizer: data race" in done:
+            return done
     raise Wrong(f"ThreadSanitizer of {c} reports no race in {RUNS} runs")
 
 
-def valgrind_report(tool, words):
+def valgrind_report(tool, arguments):
     """A report of the program; which thread is first is the system's choice, and in one order there is nothing to
     report."""
     ran(["gcc", "-g", "-O0", "-pthread", SOURCE, "-o", "plain"])
     for _ in range(RUNS):
         done = subprocess.run(
-            ["valgrind", f"--tool={tool}", *words, "./plain"], capture_output=True, timeout=PATIENCE, check=False
+            ["valgrind", f"--tool={tool}", *arguments, "./plain"], capture_output=True, timeout=PATIENCE, check=False
         )
-        said = done.stderr
-        if words:
+        report = done.stderr
+        if arguments:
             with open("report.xml", "rb") as file:
-                said = file.read()
-        if RACE.search(said):
-            return said
+                report = file.read()
+        if RACE.search(report):
+            return report
     raise Wrong(f"{tool} reports no race in {RUNS} runs")
 
 
-def judge_report(racebench, said):
+def judge_report(racebench, report):
     """The report leads to the race: the events that `triage` lists, and nothing else is answered."""
     with open("report", "wb") as file:
-        file.write(said)
+        file.write(report)
     status, out, err = reported(racebench, "report")
     race = re.search(r"^race (\d+) (\d+) ", ran([racebench, "triage", "count.std"]), re.MULTILINE)
     wanted = f"racebench explain count.std {race[1]} {race[2]}"
@@ -100,12 +100,12 @@ def judge_report(racebench, said):
         raise Wrong(f"the report is answered by {out}{err}")
 
 
-def judge_cuts(racebench, said):
+def judge_cuts(racebench, report):
     """A cut report leads to a message, wherever it was cut."""
-    ends = range(0, len(said), max(1, len(said) // 12))
+    ends = range(0, len(report), max(1, len(report) // 12))
     for end in ends:
         with open("cut", "wb") as file:
-            file.write(said[:end])
+            file.write(report[:end])
         status, out, err = reported(racebench, "cut")
         if status == 0 and "0 reports" in out or status == 1 and not re.search(r"cut|is no report", err):
             raise Wrong(f"a report that was cut at byte {end}: {out}{err}")
@@ -243,9 +243,9 @@ def judge_ordered(racebench):
 def judge_reports(racebench, c):
     judge_blanks(racebench, c)
     record(SOURCE)
-    said = tsan_report(c)
-    judge_report(racebench, said)
-    judge_cuts(racebench, said)
+    report = tsan_report(c)
+    judge_report(racebench, report)
+    judge_cuts(racebench, report)
     judge_apart(racebench, c)
     judge_lost(racebench)
     record(SOURCE)
@@ -254,23 +254,23 @@ def judge_reports(racebench, c):
         judge_other_forms(racebench)
         record(os.path.join(SOURCES, "freed.c"))
         with open("report", "wb") as file:
-            file.write(said)
+            file.write(report)
         if "1 not met" not in reported(racebench, "report")[1]:
             raise Wrong("a report is answered by the trace of another program")
 
 
 def judge_valgrind(racebench):
     record(SOURCE)
-    for tool, words in (
+    for tool, arguments in (
         ("helgrind", []),
         ("helgrind", ["--xml=yes", "--xml-file=report.xml"]),
         ("drd", ["--xml=yes", "--xml-file=report.xml"]),
     ):
-        said = valgrind_report(tool, words)
-        judge_report(racebench, said)
+        report = valgrind_report(tool, arguments)
+        judge_report(racebench, report)
     in_header = rb"   at \1: push_back (stl_vector.h:1278)\n==1==    by \1: \2"
-    said = re.sub(rb"   at (0x\w+): (\w+ \(count.c:\d+\))", in_header, valgrind_report("helgrind", []))
-    judge_report(racebench, said)
+    report = re.sub(rb"   at (0x\w+): (\w+ \(count.c:\d+\))", in_header, valgrind_report("helgrind", []))
+    judge_report(racebench, report)
     judge_cuts(racebench, valgrind_report("helgrind", ["--xml=yes", "--xml-file=report.xml"]))
 
 

@@ -43,34 +43,34 @@ int main(int count, char **words) {
 """
 
 
-def ran(words, wanted=0, **more):
-    done = subprocess.run(words, capture_output=True, timeout=PATIENCE, check=False, **more)
-    out, said = done.stdout.decode(errors="replace"), done.stderr.decode(errors="replace")
+def ran(command, wanted=0, **more):
+    done = subprocess.run(command, capture_output=True, timeout=PATIENCE, check=False, **more)
+    out, errors = done.stdout.decode(errors="replace"), done.stderr.decode(errors="replace")
     if wanted is not None and done.returncode != wanted:
-        raise Wrong(f"{' '.join(words)}: status {done.returncode}, and not {wanted}: {said[:600]}")
-    return out, said
+        raise Wrong(f"{' '.join(command)}: status {done.returncode}, and not {wanted}: {errors[:600]}")
+    return out, errors
 
 
-def compiled(text, *words, to="program", by="cc", wanted=0):
+def compiled(text, *options, to="program", by="cc", wanted=0):
     with open("source.c", "w", encoding="ascii") as source:
         source.write(text)
-    return ran([os.path.join(RECORD, by), *words, "source.c", "-o", to], wanted)
+    return ran([os.path.join(RECORD, by), *options, "source.c", "-o", to], wanted)
 
 
-def recorded(*words, wanted=0, **more):
-    return ran([os.path.join(RECORD, "run"), *words], wanted, **more)
+def recorded(*arguments, wanted=0, **more):
+    return ran([os.path.join(RECORD, "run"), *arguments], wanted, **more)
 
 
-def raw_records(words, seed):
+def raw_records(command, seed):
     """The records of a run in which no thread lost its turn by force, if a busy machine lets one of some runs be so."""
     for _ in range(AGAIN):
-        records, was_forced = raw_run(words, seed)
+        records, was_forced = raw_run(command, seed)
         if not was_forced:
             break
     return records
 
 
-def raw_run(words, seed):
+def raw_run(command, seed):
     """The records of a run, without its trace: for each its thread, clock, kind and place, and the rest if no clock
     answered it. Also how many turns were taken by force."""
     with tempfile.TemporaryFile() as file:
@@ -81,7 +81,7 @@ def raw_run(words, seed):
             RACEBENCH_RECORD_YIELD="5",
             RACEBENCH_RECORD_ROOM="65536",
         )
-        ran(["setarch", "-R", *words], env=surroundings)
+        ran(["setarch", "-R", *command], env=surroundings)
         head = raw_words.WORDS.unpack(file.read(raw_words.WORDS.size))
         file.seek(head[raw_words.WORDS_AT])
         rows = list(raw_words.rows(file.read(8 * head[raw_words.USED_AT]), head[raw_words.USED_AT]))
@@ -97,7 +97,7 @@ def judge_same_runs(c):
     )
     kinds = ran(["./kinds"])[0].split()
     differ = sum(
-        is_run_of_its_seed(kind, lambda seed, words=("./kinds", kind): raw_records(words, seed)) for kind in kinds
+        is_run_of_its_seed(kind, lambda seed, command=("./kinds", kind): raw_records(command, seed)) for kind in kinds
     )
     if len(kinds) < 22 or differ < len(kinds) // 2:
         raise Wrong(f"of {len(kinds)} kinds {differ} differ by another seed")
@@ -112,11 +112,11 @@ def is_run_of_its_seed(name, record):
     return record(2) != first
 
 
-def undisturbed(*words):
+def undisturbed(*arguments):
     """The trace of a run in which no thread lost its turn by force, if a busy machine lets one of some runs be so."""
     for _ in range(AGAIN):
-        trace, said = recorded(*words)
-        if ", 0 taken by force" in said:
+        trace, errors = recorded(*arguments)
+        if ", 0 taken by force" in errors:
             break
     return trace
 
@@ -133,17 +133,17 @@ def judge_same_teams(c):
 def judge_ends(c):
     """The ending of the program is always printed, and its status is passed on with `--status`."""
     compiled(TWO_THREADS, by="cc")
-    for words, status, said in (([], 0, "status 7"), (["--status"], 7, "status 7")):
-        out, told = recorded(*words, "./program", wanted=status)
-        if f"the program ended with {said}" not in told or out.count("\n") < 6:
-            raise Wrong(f"a program that ended with 7: {told}{out}")
-    out, told = recorded("--status", "./program", "crash", wanted=128 + signal.SIGABRT)
-    if "ended by signal 6 (SIGABRT)" not in told or "|w(x)|" not in out:
-        raise Wrong(f"a program that crashed: {told}{out}")
+    for options, status, expected in (([], 0, "status 7"), (["--status"], 7, "status 7")):
+        out, errors = recorded(*options, "./program", wanted=status)
+        if f"the program ended with {expected}" not in errors or out.count("\n") < 6:
+            raise Wrong(f"a program that ended with 7: {errors}{out}")
+    out, errors = recorded("--status", "./program", "crash", wanted=128 + signal.SIGABRT)
+    if "ended by signal 6 (SIGABRT)" not in errors or "|w(x)|" not in out:
+        raise Wrong(f"a program that crashed: {errors}{out}")
     compiled("int main(void) { return 0; }\n", to="alone")
-    out, told = recorded("./alone", wanted=1)
-    if out != ONE_THREAD or "the program ended with status 0" not in told:
-        raise Wrong(f"a program without a second thread: {out}{told}")
+    out, errors = recorded("./alone", wanted=1)
+    if out != ONE_THREAD or "the program ended with status 0" not in errors:
+        raise Wrong(f"a program without a second thread: {out}{errors}")
 
 
 def judge_hooks(c):
@@ -153,43 +153,43 @@ def judge_hooks(c):
     out, _ = recorded("--frames", "0", "./program")
     if "|w(x)|source.c:4" not in out:
         raise Wrong(f"with -flto nothing of source.c is in the trace: {out}")
-    for words in (["-fsanitize=address"], ["-fsanitize=thread,memory"], ["-c", "-fsanitize=leak"]):
-        _, told = compiled(TWO_THREADS, *words, by="cc", to="refused", wanted=1)
-        if "can't be recorded with -fsanitize=" not in told or os.path.exists("refused"):
-            raise Wrong(f"{' '.join(words)}: {told}")
+    for options in (["-fsanitize=address"], ["-fsanitize=thread,memory"], ["-c", "-fsanitize=leak"]):
+        _, errors = compiled(TWO_THREADS, *options, by="cc", to="refused", wanted=1)
+        if "can't be recorded with -fsanitize=" not in errors or os.path.exists("refused"):
+            raise Wrong(f"{' '.join(options)}: {errors}")
     ran([c, "-c", "source.c", "-o", "plain.o"])
     ran([os.path.join(RECORD, "cc"), "plain.o", "-o", "program"], env=dict(os.environ, RECORD_CC=c))
-    out, told = recorded("./program", wanted=1)
-    if out or "no part of the program has hooks" not in told:
-        raise Wrong(f"a program without hooks: {told}{out}")
+    out, errors = recorded("./program", wanted=1)
+    if out or "no part of the program has hooks" not in errors:
+        raise Wrong(f"a program without hooks: {errors}{out}")
 
 
-def judge_words(c):
+def judge_arguments(c):
     """A source is known by -x too, in one argument or in two; arguments come from a file; and an option that chooses
     the linker is for the link alone, since build systems read it in what the compiler prints of its calls."""
     environment = dict(os.environ, RECORD_CC=c)
     with open("source.txt", "w", encoding="ascii") as source:
         source.write(TWO_THREADS)
-    with open("words", "w", encoding="ascii") as words:
-        words.write("-O1 '-DNAME=\"a b\"'\n-x c source.txt")
-    for given in (["-xc", "source.txt"], ["-x", "c", "source.txt", "-x", "none"], ["@words"], ["-O2", "-xc", "-"]):
+    with open("words", "w", encoding="ascii") as file:
+        file.write("-O1 '-DNAME=\"a b\"'\n-x c source.txt")
+    for options in (["-xc", "source.txt"], ["-x", "c", "source.txt", "-x", "none"], ["@words"], ["-O2", "-xc", "-"]):
         subprocess.run(
-            [os.path.join(RECORD, "cc"), *given, "-o", "program"],
+            [os.path.join(RECORD, "cc"), *options, "-o", "program"],
             input=TWO_THREADS.encode(),
             check=True,
             timeout=PATIENCE,
             env=environment,
         )
         if "|w(x)|" not in recorded("./program")[0]:
-            raise Wrong(f"compiled by {given}: nothing of x is recorded")
-    with open("words", "w", encoding="ascii") as words:
-        words.write("-DNAME='a\n")
-    _, told = ran([os.path.join(RECORD, "cc"), "@words", "source.c"], wanted=1, env=environment)
-    if told != "record: words: no closing quotation\n":
-        raise Wrong(f"a file of words that ends in a quote: {told}")
+            raise Wrong(f"compiled by {options}: nothing of x is recorded")
+    with open("words", "w", encoding="ascii") as file:
+        file.write("-DNAME='a\n")
+    _, errors = ran([os.path.join(RECORD, "cc"), "@words", "source.c"], wanted=1, env=environment)
+    if errors != "record: words: no closing quotation\n":
+        raise Wrong(f"a file of words that ends in a quote: {errors}")
     compiled(TWO_THREADS, wanted=0)
-    _, told = ran([os.path.join(RECORD, "cc"), "source.c", "-o", "program", "-fuse-ld=bfd", "-v"], env=environment)
-    chosen = next((word for word in told.split() if "-fuse-ld" in word), "")
+    _, errors = ran([os.path.join(RECORD, "cc"), "source.c", "-o", "program", "-fuse-ld=bfd", "-v"], env=environment)
+    chosen = next((word for word in errors.split() if "-fuse-ld" in word), "")
     if c == "gcc" and chosen != "'-fuse-ld=bfd'":
         raise Wrong(f"the choice of the linker is no word by itself: {chosen}")
 
@@ -206,9 +206,9 @@ USAGES = [
 def judge_usages(_):
     """The usage of a command is whole, and an error names the arguments of the usage."""
     for name, usage, lacking in USAGES:
-        _, told = ran([os.path.join(RECORD, name)], wanted=2)
-        if not told.endswith(f"{usage}\nrecord/{name}: error: the following arguments are required: {lacking}\n"):
-            raise Wrong(f"record/{name} without words: {told}")
+        _, errors = ran([os.path.join(RECORD, name)], wanted=2)
+        if not errors.endswith(f"{usage}\nrecord/{name}: error: the following arguments are required: {lacking}\n"):
+            raise Wrong(f"record/{name} without words: {errors}")
 
 
 # Numbers that the recorder cannot take, with its message for each.
@@ -226,19 +226,19 @@ NUMBERS = [
 
 def judge_numbers(_):
     """A number that is too small or too large is refused, and nothing is run."""
-    for name, number, told in NUMBERS:
-        said = ran([os.path.join(RECORD, "run"), f"{name}={number}", "false"], 2)[1]
-        if not said.endswith(f"record/run: error: {name} is {told}\n"):
-            raise Wrong(f"{name}={number}: {said}")
+    for name, number, reason in NUMBERS:
+        errors = ran([os.path.join(RECORD, "run"), f"{name}={number}", "false"], 2)[1]
+        if not errors.endswith(f"record/run: error: {name} is {reason}\n"):
+            raise Wrong(f"{name}={number}: {errors}")
 
 
 def judge_closed(_):
     """Without standard output nothing is run, and a line says why."""
     compiled(TWO_THREADS)
     for command in (["run", "./program"], ["reported", "report", "trace"]):
-        words = [os.path.join(RECORD, command[0]), *command[1:]]
+        full_command = [os.path.join(RECORD, command[0]), *command[1:]]
         done = subprocess.run(
-            ["sh", "-c", 'exec "$@" >&-', "sh", *words], capture_output=True, timeout=PATIENCE, check=False
+            ["sh", "-c", 'exec "$@" >&-', "sh", *full_command], capture_output=True, timeout=PATIENCE, check=False
         )
         if (done.returncode, done.stderr) != (1, f"record/{command[0]}: standard output is closed\n".encode()):
             raise Wrong(f"{command} without standard output: {done.returncode} {done.stderr!r}")
@@ -250,19 +250,19 @@ def judge_language(_):
     text = "#include <thread>\nint main() { std::thread([] {}).join(); return 0; }\n"
     with open("source.cpp", "w", encoding="ascii") as source:
         source.write(text)
-    _, told = ran([os.path.join(RECORD, "cc"), "source.cpp", "-o", "program"], wanted=1)
-    if told.splitlines()[-1] != "record: for C++ use record/c++":
-        raise Wrong(f"C++ by record/cc: {told}")
-    _, told = compiled("int main(void) { return other(); }\n", wanted=1)
-    if "record: for C++" in told:
-        raise Wrong(f"a fault in C: {told}")
-    _, told = ran(
+    _, errors = ran([os.path.join(RECORD, "cc"), "source.cpp", "-o", "program"], wanted=1)
+    if errors.splitlines()[-1] != "record: for C++ use record/c++":
+        raise Wrong(f"C++ by record/cc: {errors}")
+    _, errors = compiled("int main(void) { return other(); }\n", wanted=1)
+    if "record: for C++" in errors:
+        raise Wrong(f"a fault in C: {errors}")
+    _, errors = ran(
         [os.path.join(RECORD, "cc"), "source.c", "-o", "program"],
         wanted=1,
         env=dict(os.environ, RECORD_CC="no-compiler"),
     )
-    if told != "record: no-compiler: No such file or directory; RECORD_CC and RECORD_CXX name the compilers\n":
-        raise Wrong(f"a compiler that is not here: {told}")
+    if errors != "record: no-compiler: No such file or directory; RECORD_CC and RECORD_CXX name the compilers\n":
+        raise Wrong(f"a compiler that is not here: {errors}")
 
 
 FULL_DISK = """mount -t tmpfs -o size=%s none small 2>/dev/null || exit 99
@@ -283,18 +283,18 @@ def judge_full_disk(c):
     if done.returncode == 99 or b"unshare" in done.stderr:
         print("record/: a full disk is not tested, since no small one can be mounted here")
         return
-    told = done.stderr.decode(errors="replace")
-    if done.returncode != 1 or done.stdout or "has no room" not in told or "Traceback" in told:
-        raise Wrong(f"a full disk: status {done.returncode}: {told}{done.stdout.decode(errors='replace')}")
+    errors = done.stderr.decode(errors="replace")
+    if done.returncode != 1 or done.stdout or "has no room" not in errors or "Traceback" in errors:
+        raise Wrong(f"a full disk: status {done.returncode}: {errors}{done.stdout.decode(errors='replace')}")
 
 
 def judge_killed(c):
     """A run that is killed leaves neither a file nor its program."""
     compiled('#include <unistd.h>\nint main(void) { write(1, "on\\n", 3); for (;;) pause(); }\n')
     os.mkdir("records")
-    words = [os.path.join(RECORD, "run"), "./program"]
+    command = [os.path.join(RECORD, "run"), "./program"]
     started = subprocess.Popen(
-        words,
+        command,
         stdout=subprocess.DEVNULL,
         stderr=subprocess.PIPE,
         env=dict(os.environ, TMPDIR=os.path.abspath("records")),
@@ -319,15 +319,15 @@ def judge_group(c):
             "<stdlib.h>", "<stdio.h>\n#include <unistd.h>"
         )
     )
-    words = [os.path.join(RECORD, "run"), "./program", "waits"]
-    started = subprocess.Popen(words, stdout=subprocess.PIPE, stderr=subprocess.PIPE, start_new_session=True)
+    command = [os.path.join(RECORD, "run"), "./program", "waits"]
+    started = subprocess.Popen(command, stdout=subprocess.PIPE, stderr=subprocess.PIPE, start_new_session=True)
     started.stderr.readline()
     for _ in range(2):
         os.killpg(started.pid, signal.SIGTERM)
         time.sleep(0.05)
-    out, told = started.communicate(timeout=PATIENCE)
-    if b"ended by signal 15 (SIGTERM)" not in told or b"recorded" not in told or out.count(b"\n") < 6:
-        raise Wrong(f"a group that is ended: {told}{out}")
+    out, errors = started.communicate(timeout=PATIENCE)
+    if b"ended by signal 15 (SIGTERM)" not in errors or b"recorded" not in errors or out.count(b"\n") < 6:
+        raise Wrong(f"a group that is ended: {errors}{out}")
 
 
 # Has record/running.py run a program, and sends it a signal before it comes to anything else. A caller such as `nohup`
@@ -347,15 +347,15 @@ print(*running.run(sys.argv[3:], dict(os.environ), None))
 
 def judge_at_once(_):
     """A signal that comes as soon as the program has begun is passed on, and a key ends the program alone."""
-    for number, words, ended in (
+    for number, command, ended in (
         (signal.SIGTERM, ["sleep", str(PATIENCE)], -signal.SIGTERM),
         (signal.SIGHUP, ["sleep", str(PATIENCE)], -signal.SIGHUP),
         (signal.SIGINT, ["sh", "-c", "exit 7"], 7),
         (signal.SIGQUIT, ["sh", "-c", "exit 7"], 7),
     ):
-        out, said = ran([sys.executable, "-c", AT_ONCE, RECORD, str(int(number)), *words], wanted=None)
+        out, errors = ran([sys.executable, "-c", AT_ONCE, RECORD, str(int(number)), *command], wanted=None)
         if out != f"{ended} False\n":
-            raise Wrong(f"signal {number} at once: {out}{said}")
+            raise Wrong(f"signal {number} at once: {out}{errors}")
 
 
 def is_ours(pid):
@@ -393,7 +393,7 @@ JUDGES = [
     ("ten recordings of OpenMP", judge_same_teams),
     ("how programs end", judge_ends),
     ("hooks", judge_hooks),
-    ("words of a compiler", judge_words),
+    ("words of a compiler", judge_arguments),
     ("a full disk", judge_full_disk),
     ("a killed run", judge_killed),
     ("a group that is ended", judge_group),

@@ -43,14 +43,14 @@ SAME = "counter cell mutex arc polled".split()
 Case = tuple[str, Callable[..., None], tuple[object, ...]]
 
 
-def ran(words: list[str], wanted: int = 0, cwd: str | None = None, **more: str) -> tuple[str, str]:
+def ran(command: list[str], wanted: int = 0, cwd: str | None = None, **more: str) -> tuple[str, str]:
     """What a command writes on standard output and on standard error, in an environment with more variables."""
     surroundings = {**os.environ, "RUST_BACKTRACE": "0", **more}
-    done = subprocess.run(words, capture_output=True, timeout=PATIENCE, check=False, cwd=cwd, env=surroundings)
-    out, said = done.stdout.decode(errors="replace"), done.stderr.decode(errors="replace")
+    done = subprocess.run(command, capture_output=True, timeout=PATIENCE, check=False, cwd=cwd, env=surroundings)
+    out, notes = done.stdout.decode(errors="replace"), done.stderr.decode(errors="replace")
     if done.returncode != wanted:
-        raise Wrong(f"{' '.join(words)}: status {done.returncode}, and not {wanted}: {said[-600:]}")
-    return out, said
+        raise Wrong(f"{' '.join(command)}: status {done.returncode}, and not {wanted}: {notes[-600:]}")
+    return out, notes
 
 
 @functools.lru_cache(maxsize=None)
@@ -58,19 +58,19 @@ def scenarios() -> str:
     """The program of tests/recorded/rust, which is built once."""
     folder = tempfile.mkdtemp(prefix="recorded_rust")
     atexit.register(shutil.rmtree, folder, True)
-    _, said = ran([os.path.join(RECORD, "cargo"), "build", "--offline", "--target-dir", folder], cwd=SOURCES)
+    _, notes = ran([os.path.join(RECORD, "cargo"), "build", "--offline", "--target-dir", folder], cwd=SOURCES)
     program = os.path.join(folder, building.TARGET, "debug", "scenarios")
-    if f"record it by: record/run {os.path.relpath(program, SOURCES)}" not in said:
-        raise Wrong(f"record/cargo does not say what it built: {said}")
+    if f"record it by: record/run {os.path.relpath(program, SOURCES)}" not in notes:
+        raise Wrong(f"record/cargo does not say what it built: {notes}")
     return program
 
 
 def recorded(name: str, *options: str, wanted: int = 0) -> tuple[str, str]:
     """The trace of a program, and what record/run says; the trace is in `trace.std` too."""
-    out, said = ran([os.path.join(RECORD, "run"), *options, scenarios(), name], wanted)
+    out, notes = ran([os.path.join(RECORD, "run"), *options, scenarios(), name], wanted)
     with open("trace.std", "w", encoding="utf-8") as file:
         file.write(out)
-    return out, said
+    return out, notes
 
 
 @functools.lru_cache(maxsize=None)
@@ -170,15 +170,15 @@ def judge_names() -> None:
 def judge_ends(racebench: str) -> None:
     """A program that ends by a panic, process::exit or a kill is recorded up to there, and the status is its own."""
     for name, status, text in ENDS:
-        _, said = recorded(name, "--status", wanted=status)
-        if text not in said:
-            raise Wrong(f"{name}: {said}")
+        _, notes = recorded(name, "--status", wanted=status)
+        if text not in notes:
+            raise Wrong(f"{name}: {notes}")
         judge_races(racebench, name, "broken")
     recorded("aborted", "--status", wanted=134)
     judge_races(racebench, "aborted", "broken")
-    _, said = recorded("alone", wanted=4)
-    if "the program made no second thread" not in said:
-        raise Wrong(f"a program with one thread: {said}")
+    _, notes = recorded("alone", wanted=4)
+    if "the program made no second thread" not in notes:
+        raise Wrong(f"a program with one thread: {notes}")
 
 
 def judge_many(racebench: str) -> None:
@@ -192,8 +192,8 @@ def judge_many(racebench: str) -> None:
 
 def judge_deadlock(racebench: str) -> None:
     """A program that hangs is recorded up to the signal that ends it."""
-    with open("trace.std", "wb") as out, open("said", "wb") as said:
-        started = subprocess.Popen([os.path.join(RECORD, "run"), scenarios(), "deadlock"], stdout=out, stderr=said)
+    with open("trace.std", "wb") as out, open("said", "wb") as notes:
+        started = subprocess.Popen([os.path.join(RECORD, "run"), scenarios(), "deadlock"], stdout=out, stderr=notes)
         while not os.path.getsize("said") and started.poll() is None:
             time.sleep(0.01)
         started.send_signal(signal.SIGTERM)
@@ -205,15 +205,15 @@ def judge_follow(racebench: str) -> None:
     """record/follow and record/confirm lead the real program to a race that a lock hides in the run."""
     recorded("cell", "--clock", "clock", "--seed", "2")
     confirm = [os.path.join(RECORD, "confirm"), "--racebench", racebench, "trace.std", "clock", scenarios(), "cell"]
-    out, said = ran(confirm)
+    out, notes = ran(confirm)
     if "stands" not in out or "departed 0" not in out.splitlines()[-1]:
-        raise Wrong(f"record/confirm: {out}{said}")
+        raise Wrong(f"record/confirm: {out}{notes}")
     first = re.search(r"^race (\d+) (\d+) ", ran([racebench, "triage", "trace.std"])[0], re.MULTILINE)
     if not first:
         raise Wrong("there is no race to follow")
     schedule, _ = ran([racebench, "witness", "trace.std", *first.groups()])
-    words = [os.path.join(RECORD, "follow"), "--then", "both", "clock", *first.groups(), scenarios(), "cell"]
-    done = subprocess.run(words, input=schedule, capture_output=True, text=True, timeout=PATIENCE, check=False)
+    command = [os.path.join(RECORD, "follow"), "--then", "both", "clock", *first.groups(), scenarios(), "cell"]
+    done = subprocess.run(command, input=schedule, capture_output=True, text=True, timeout=PATIENCE, check=False)
     differ = "record/follow: the order matters: the outputs differ: 42 with A first, 0 with B first\n"
     if "the race stands" not in done.stderr or differ not in done.stderr:
         raise Wrong(f"record/follow: {done.stdout}{done.stderr}")
@@ -241,27 +241,27 @@ def judge_report(racebench: str) -> None:
     (place,) = labels()["counter"]
     with open("report.txt", "w", encoding="utf-8") as file:
         file.write(REPORT.replace("PLACE", os.path.join(SOURCES, "src", place)))
-    words = [os.path.join(RECORD, "reported"), "--racebench", racebench, "report.txt", "trace.std"]
-    out, said = ran(words)
+    command = [os.path.join(RECORD, "reported"), "--racebench", racebench, "report.txt", "trace.std"]
+    out, notes = ran(command)
     if f"read {place} in scenarios::races::raise" not in out or "\na race here: " not in out:
-        raise Wrong(f"record/reported: {out}{said}")
+        raise Wrong(f"record/reported: {out}{notes}")
 
 
 def judge_missing() -> None:
     """A Rust without sources is refused by a line, and so is one that is not there."""
     cargo, rust = os.path.join(RECORD, "cargo"), building.found()
-    _, said = ran([cargo, "build"], 2, SOURCES, RECORD_CARGO="/no/such/cargo")
-    if said != f"record/cargo: there is no cargo with a rustc beside it at /no/such/cargo: {building.ADVICE}\n":
-        raise Wrong(f"no Rust: {said}")
+    _, notes = ran([cargo, "build"], 2, SOURCES, RECORD_CARGO="/no/such/cargo")
+    if notes != f"record/cargo: there is no cargo with a rustc beside it at /no/such/cargo: {building.ADVICE}\n":
+        raise Wrong(f"no Rust: {notes}")
     with open("rustc", "w", encoding="utf-8") as file:
         file.write(f'#!/bin/sh\n[ "$1" = --print ] && echo "$PWD" || echo "release: 9.9\\nhost: {building.TARGET}"\n')
     shutil.copy(rust.cargo, "cargo")
     os.chmod("rustc", 0o755)
     here = os.getcwd()
-    _, said = ran([os.path.join(RECORD, "rustc"), "x.rs"], 2, RECORD_CARGO=f"{here}/cargo")
+    _, notes = ran([os.path.join(RECORD, "rustc"), "x.rs"], 2, RECORD_CARGO=f"{here}/cargo")
     why = f"{here}/rustc (9.9) has no sources of its library in {here}/lib/rustlib/src/rust/library: {building.ADVICE}"
-    if said != f"record/rustc: {why}\n":
-        raise Wrong(f"no sources: {said}")
+    if notes != f"record/rustc: {why}\n":
+        raise Wrong(f"no sources: {notes}")
 
 
 def judge_unknown() -> None:
@@ -316,23 +316,27 @@ def judge_command(racebench: str) -> None:
         with open(name, "w", encoding="utf-8") as file:
             file.write(text)
     cargo = os.path.join(RECORD, "cargo")
-    trace, said = ran([cargo, "test", "--seed", "2", "--offline", "--lib", "races"])
+    trace, notes = ran([cargo, "test", "--seed", "2", "--offline", "--lib", "races"])
     with open("trace.std", "w", encoding="utf-8") as file:
         file.write(trace)
-    if shown(racebench) != {("src/lib.rs:3", "src/lib.rs:3")} or "tests::races ... ok" not in said or "passes" in said:
-        raise Wrong(f"record/cargo test: {shown(racebench)} {said}")
-    _, said = ran([cargo, "run", "--partial", "--status", "--offline", "--bin", "one", "--", "1", "2"], 3)
-    if "ended with status 3" not in said:
-        raise Wrong(f"record/cargo run: {said}")
-    _, said = ran([cargo, "test", "--offline", "--tests"], 2)
-    if not said.endswith("--into FOLDER writes a trace of each\n"):
-        raise Wrong(f"several programs of tests: {said}")
-    for words, why in (
+    if (
+        shown(racebench) != {("src/lib.rs:3", "src/lib.rs:3")}
+        or "tests::races ... ok" not in notes
+        or "passes" in notes
+    ):
+        raise Wrong(f"record/cargo test: {shown(racebench)} {notes}")
+    _, notes = ran([cargo, "run", "--partial", "--status", "--offline", "--bin", "one", "--", "1", "2"], 3)
+    if "ended with status 3" not in notes:
+        raise Wrong(f"record/cargo run: {notes}")
+    _, notes = ran([cargo, "test", "--offline", "--tests"], 2)
+    if not notes.endswith("--into FOLDER writes a trace of each\n"):
+        raise Wrong(f"several programs of tests: {notes}")
+    for arguments, why in (
         (["build", "--target", "x"], f"--target can't be used: programs are recorded on {building.TARGET}"),
         (["check"], "check is none of build, test and run"),
     ):
-        if ran([cargo, *words], 2)[1] != f"record/cargo: {why}\n":
-            raise Wrong(f"record/cargo {' '.join(words)} is not refused so: {why}")
+        if ran([cargo, *arguments], 2)[1] != f"record/cargo: {why}\n":
+            raise Wrong(f"record/cargo {' '.join(arguments)} is not refused so: {why}")
 
 
 def judge_rustc(racebench: str) -> None:

@@ -90,31 +90,31 @@ def labels_of(paths):
     for path in paths:
         with open(path, encoding="utf-8") as text:
             for number, line in enumerate(text, start=1):
-                said = re.search(r"/[/*] RACE ?(\w*)", line)
-                if said:
-                    found.setdefault(said[1], set()).add(f"{os.path.basename(path)}:{number}")
+                mark = re.search(r"/[/*] RACE ?(\w*)", line)
+                if mark:
+                    found.setdefault(mark[1], set()).add(f"{os.path.basename(path)}:{number}")
     return found
 
 
-def ran(words, **more):
+def ran(command, **more):
     """How a command ended, and what it wrote."""
     try:
-        done = names_of_runs.run(words, capture_output=True, timeout=PATIENCE, check=False, **more)
+        done = names_of_runs.run(command, capture_output=True, timeout=PATIENCE, check=False, **more)
     except subprocess.TimeoutExpired:
-        raise Wrong(f"{' '.join(words)}: does not end") from None
+        raise Wrong(f"{' '.join(command)}: does not end") from None
     return done.returncode, done.stdout.decode(errors="replace"), done.stderr.decode(errors="replace")
 
 
 def compiled(name, compiler, to, environment=None, folder=FOLDER):
     """Compiles a program, and what it opens if there is something."""
-    words = COMPILED.get(name, ["-std=c++17"] if name.endswith(".cpp") else [])
+    flags = COMPILED.get(name, ["-std=c++17"] if name.endswith(".cpp") else [])
     source = os.path.join(folder, name)
-    status, _, told = ran([compiler, "-O1", "-w", "-g", "-pthread", source, "-o", to, *words], env=environment)
+    status, _, errors = ran([compiler, "-O1", "-w", "-g", "-pthread", source, "-o", to, *flags], env=environment)
     if status:
-        raise Wrong(f"{name} is not compiled: {told[-600:]}")
+        raise Wrong(f"{name} is not compiled: {errors[-600:]}")
 
 
-def compiled_both(name, c, cxx, folder):
+def compiled_twice(name, c, cxx, folder):
     """Compiles a program to `plain` and to `program`."""
     plain, hooked = (cxx, "c++") if name.endswith(".cpp") else (c, "cc")
     compiled(name, plain, "plain", folder=folder)
@@ -122,26 +122,26 @@ def compiled_both(name, c, cxx, folder):
     compiled(name, os.path.join(RECORD, hooked), "program", environment, folder)
 
 
-def judge_run(name, words, seed):
+def judge_run(name, arguments, seed):
     """The recorded program ends as the plain one, and writes the same words in any order; the trace is written."""
     source = INPUT.get(name, b"")
-    plain, *written = ran(["./plain", *words], input=source)
-    recording = [os.path.join(RECORD, "run"), "--seed", str(seed), "--status", "--partial", "./program", *words]
-    status, trace, told = ran(["timeout", str(LONGEST), *recording], input=source)
+    plain, *written = ran(["./plain", *arguments], input=source)
+    recording = [os.path.join(RECORD, "run"), "--seed", str(seed), "--status", "--partial", "./program", *arguments]
+    status, trace, errors = ran(["timeout", str(LONGEST), *recording], input=source)
     wanted = plain if plain >= 0 else 128 - plain
     with open("trace.std", "w", encoding="utf-8") as text:
         text.write(trace)
     if name in MAY_CRASH and status in CRASHED:
         return
     if status != wanted and (wanted or trace):
-        raise Wrong(f"seed {seed}: ends with {status}, and not with {wanted}: {told[-600:]}")
-    own = "".join(line for line in told.splitlines(True) if not line.startswith("record"))
+        raise Wrong(f"seed {seed}: ends with {status}, and not with {wanted}: {errors[-600:]}")
+    own = "".join(line for line in errors.splitlines(True) if not line.startswith("record"))
     if sorted(own.split()) != sorted("".join(written).split()):
-        raise Wrong(f"seed {seed}: prints {own!r}, and not {''.join(written)!r}; status {status}: {told[-300:]}")
-    if "left out" in told:
-        raise Wrong(f"seed {seed}: something is left out: {told[-600:]}")
-    if name in EVEN and "let go by another thread" in told:
-        raise Wrong(f"seed {seed}: a lock seems to be let go by another thread than took it: {told[-600:]}")
+        raise Wrong(f"seed {seed}: prints {own!r}, and not {''.join(written)!r}; status {status}: {errors[-300:]}")
+    if "left out" in errors:
+        raise Wrong(f"seed {seed}: something is left out: {errors[-600:]}")
+    if name in EVEN and "let go by another thread" in errors:
+        raise Wrong(f"seed {seed}: a lock seems to be let go by another thread than took it: {errors[-600:]}")
     # How many wait orders nothing, and would hide races of those that wait.
     if "__waiter_pool_base" in trace:
         raise Wrong(f"seed {seed}: the library's counts of who waits are in the trace")
@@ -149,38 +149,38 @@ def judge_run(name, words, seed):
 
 def races(racebench):
     """The pairs of places of the races of a trace, with their lines."""
-    status, printed, told = ran([racebench, "triage", "trace.std", "--json"])
+    status, printed, errors = ran([racebench, "triage", "trace.std", "--json"])
     if status:
-        raise Wrong(f"the trace is refused: {told[-300:]}")
+        raise Wrong(f"the trace is refused: {errors[-300:]}")
     for line in printed.splitlines():
         pair = json.loads(line)
         if pair["kind"] == "race":
             yield {access["location"].split(" < ")[0] for access in pair["accesses"]}, pair["accesses"]
 
 
-def met_in(racebench, wanted, name, words, seed):
+def met_in(racebench, wanted, name, arguments, seed):
     """The labels of the races of a recording; each race has one."""
-    judge_run(name, words, seed)
+    judge_run(name, arguments, seed)
     met = set()
     for places, accesses in races(racebench) if os.path.getsize("trace.std") else ():
-        said = [label for label, lines in wanted.items() if places <= lines]
-        if not said:
+        labels = [label for label, lines in wanted.items() if places <= lines]
+        if not labels:
             raise Wrong(f"seed {seed}: a race that is none: {accesses}")
-        met.update(said)
+        met.update(labels)
     return met
 
 
 def judge_stranger(racebench, name, c, cxx, folder=FOLDER):
     """No recording has a race that is none; all races are met within some seeds."""
     wanted = labels_of([os.path.join(folder, name)])
-    compiled_both(name, c, cxx, folder)
-    for words in CALLED.get(name, ("",)):
+    compiled_twice(name, c, cxx, folder)
+    for arguments in CALLED.get(name, ("",)):
         missing, seed = set(wanted), 0
         while seed < SEEDS[-1] or (missing and seed < LAST_SEED):
             seed += 1
-            missing -= met_in(racebench, wanted, name, words.split(), seed)
+            missing -= met_in(racebench, wanted, name, arguments.split(), seed)
         if missing:
-            raise Wrong(f"{words} no race at the lines that say RACE {sorted(missing)}, with the seeds to {seed}")
+            raise Wrong(f"{arguments} no race at the lines that say RACE {sorted(missing)}, with the seeds to {seed}")
 
 
 # What this judge has to find wrong: a race that is none, one that is not said, another output, and another status.
@@ -209,16 +209,16 @@ int main(void) {
 
 def judge_defects(racebench, c):
     """`judge_stranger` finds what is wrong."""
-    for told, step in DEFECTS.items():
+    for defect, step in DEFECTS.items():
         with open("defective.c", "w", encoding="ascii") as source:
             source.write(DEFECTIVE.replace("STEP", step))
         try:
             judge_stranger(racebench, "defective.c", c, None, os.getcwd())
         except Wrong as wrong:
-            if told not in str(wrong):
-                raise Wrong(f"{step} is wrong otherwise: {wrong}, and not {told}") from wrong
+            if defect not in str(wrong):
+                raise Wrong(f"{step} is wrong otherwise: {wrong}, and not {defect}") from wrong
             continue
-        raise Wrong(f"nothing is wrong with {step}, and it should be: {told}")
+        raise Wrong(f"nothing is wrong with {step}, and it should be: {defect}")
 
 
 def judge_calls(c):
@@ -236,27 +236,27 @@ def judge_searches(c):
     """What a search of the C library calls back is called where the program searches."""
     with open("source.c", "w", encoding="ascii") as source:
         source.write(SEARCHES)
-    words = [os.path.join(RECORD, "cc"), "-O0", "source.c", "-oprogram"]
-    status, _, told = ran(words, env=dict(os.environ, RECORD_CC=c))
-    _, trace, said = ran([os.path.join(RECORD, "run"), "--all", "./program"])
+    command = [os.path.join(RECORD, "cc"), "-O0", "source.c", "-oprogram"]
+    status, _, errors = ran(command, env=dict(os.environ, RECORD_CC=c))
+    _, trace, notes = ran([os.path.join(RECORD, "run"), "--all", "./program"])
     calls = {line.split(" < ", 2)[-1] for line in trace.splitlines() if "|r(sorted[0])|" in line}
     wanted = {f"looks source.c:{line} < main source.c:16" for line in (7, 8, 9, 10, 11)}
     if status or calls != wanted:
-        raise Wrong(f"the calls of a search are {sorted(calls)}, and not {sorted(wanted)}: {told}{said}")
+        raise Wrong(f"the calls of a search are {sorted(calls)}, and not {sorted(wanted)}: {errors}{notes}")
 
 
 def judge_late(c):
     """A library that a thread opens late has its lines, also if the program does not end by itself."""
     environment, folder = dict(os.environ, RECORD_CC=c), os.path.join(SOURCES, "late")
     library = ["-fPIC", "-shared", os.path.join(folder, "plugin.c"), "-Wl,--no-undefined,-z,defs", "-oplugin.so"]
-    for words in (library, [os.path.join(folder, "main.c"), "-oprogram"]):
-        status, _, told = ran([os.path.join(RECORD, "cc"), "-O1", *words], env=environment)
+    for arguments in (library, [os.path.join(folder, "main.c"), "-oprogram"]):
+        status, _, errors = ran([os.path.join(RECORD, "cc"), "-O1", *arguments], env=environment)
         if status:
-            raise Wrong(f"{words[-1]} is not linked: {told[-600:]}")
-    status, trace, told = ran([os.path.join(RECORD, "run"), "--status", "./program", "crash"])
+            raise Wrong(f"{arguments[-1]} is not linked: {errors[-600:]}")
+    status, trace, errors = ran([os.path.join(RECORD, "run"), "--status", "./program", "crash"])
     places = {line.split("|", 2)[2] for line in trace.splitlines() if "plugged)" in line}
     if status != 134 or not places or not all(place.startswith("plugin.c:4 < touch") for place in places):
-        raise Wrong(f"status {status}, and the places in a library that is opened late are {sorted(places)}: {told}")
+        raise Wrong(f"status {status}, and the places in a library that is opened late are {sorted(places)}: {errors}")
 
 
 def judge_waves(c):
@@ -264,16 +264,16 @@ def judge_waves(c):
     trace."""
     with open("waves.c", "w", encoding="ascii") as source:
         source.write(WAVES)
-    status, _, told = ran(
+    status, _, errors = ran(
         [os.path.join(RECORD, "cc"), "-O0", "waves.c", "-oprogram"], env=dict(os.environ, RECORD_CC=c)
     )
     if status:
-        raise Wrong(f"waves.c is not compiled: {told[-600:]}")
+        raise Wrong(f"waves.c is not compiled: {errors[-600:]}")
     for seed in SEEDS:
-        _, trace, told = ran([os.path.join(RECORD, "run"), "--seed", str(seed), "./program"])
+        _, trace, errors = ran([os.path.join(RECORD, "run"), "--seed", str(seed), "./program"])
         strange = [line for line in trace.splitlines() if "(heap:" in line]
-        if "ended with status 0" not in told or strange:
-            raise Wrong(f"seed {seed}: blocks of the C library: {strange[:3]}: {told}")
+        if "ended with status 0" not in errors or strange:
+            raise Wrong(f"seed {seed}: blocks of the C library: {strange[:3]}: {errors}")
 
 
 def judge_header(c):
@@ -282,10 +282,10 @@ def judge_header(c):
     with open("all.h", "w", encoding="ascii") as header, open("source.c", "w", encoding="ascii") as source:
         header.write("#include <pthread.h>\n")
         source.write('#include "all.h"\n' + LONG.replace("50000", "5"))
-    for words in (["all.h"], ["-xc-header", "all.h", "-oother.gch"], ["source.c", "-oprogram"]):
-        status, _, told = ran([os.path.join(RECORD, "cc"), *words], env=environment)
+    for arguments in (["all.h"], ["-xc-header", "all.h", "-oother.gch"], ["source.c", "-oprogram"]):
+        status, _, errors = ran([os.path.join(RECORD, "cc"), *arguments], env=environment)
         if status:
-            raise Wrong(f"{words}: {told[-600:]}")
+            raise Wrong(f"{arguments}: {errors[-600:]}")
     if not (os.path.exists("all.h.gch") and os.path.exists("other.gch") and os.path.exists("program")):
         raise Wrong(f"what is compiled is not there: {os.listdir()}")
 
@@ -299,14 +299,14 @@ def judge_own_names(c):
         with open(name, "w", encoding="ascii") as source:
             source.write(text)
     environment, cc = dict(os.environ, RECORD_CC=c), os.path.join(RECORD, "cc")
-    for words in (["-c", "second.c"], ["-fPIC", "-shared", "third.c", "-olib.so"], PATTERNS):
-        ran([cc, "-w", "-fno-builtin", *words], env=environment)
-    words = ["first.c", "second.o", "./lib.so", "-L.", "-lpatterns", "-Wl,-rpath,.", "-oprogram"]
-    status, _, told = ran([cc, "-w", "-fno-builtin", *words], env=environment)
-    _, trace, said = ran([os.path.join(RECORD, "run"), "--all", "./program"])
+    for arguments in (["-c", "second.c"], ["-fPIC", "-shared", "third.c", "-olib.so"], PATTERNS):
+        ran([cc, "-w", "-fno-builtin", *arguments], env=environment)
+    arguments = ["first.c", "second.o", "./lib.so", "-L.", "-lpatterns", "-Wl,-rpath,.", "-oprogram"]
+    status, _, errors = ran([cc, "-w", "-fno-builtin", *arguments], env=environment)
+    _, trace, notes = ran([os.path.join(RECORD, "run"), "--all", "./program"])
     named = "(memmem.b)" in trace and "w(threads)" in trace and "w(ends[1])" in trace
-    if status or not said.startswith("47 3 9 texts 7\n") or not named or "ended with status 0" not in said:
-        raise Wrong(f"the program's own names are not its own: {told}{said}{trace}")
+    if status or not notes.startswith("47 3 9 texts 7\n") or not named or "ended with status 0" not in notes:
+        raise Wrong(f"the program's own names are not its own: {errors}{notes}{trace}")
 
 
 def judge_memory_names(c):
@@ -315,11 +315,11 @@ def judge_memory_names(c):
     with open("source.c", "w", encoding="ascii") as source:
         source.write(MEMORY_NAMES)
     ran([os.path.join(RECORD, "cc"), "-O0", "source.c", "-o", "program"], env=dict(os.environ, RECORD_CC=c))
-    _, trace, told = ran([os.path.join(RECORD, "run"), "--all", "./program"])
+    _, trace, errors = ran([os.path.join(RECORD, "run"), "--all", "./program"])
     names = set(re.findall(r"\|w\((.*)\)\|", trace))
     wanted = {"work:mine", "main:mine", "heap:source.c:20+5000", "sync:posted#1", "grown", "of_thread"}
     if names != wanted:
-        raise Wrong(f"the names are {sorted(names)}, and not {sorted(wanted)}: {told}")
+        raise Wrong(f"the names are {sorted(names)}, and not {sorted(wanted)}: {errors}")
 
 
 def judge_regions(c, cxx):
@@ -327,27 +327,27 @@ def judge_regions(c, cxx):
     clang's library, whose orders the recorder does not know, it is said so."""
     with open("source.cpp", "w", encoding="ascii") as source:
         source.write(REGIONS)
-    words = ["-fopenmp", "-O1", "source.cpp", "-o", "program"]
+    arguments = ["-fopenmp", "-O1", "source.cpp", "-o", "program"]
     environment = dict(os.environ, RECORD_CC=c, RECORD_CXX=cxx)
-    status, _, told = ran([os.path.join(RECORD, "c++"), *words], env=environment)
+    status, _, errors = ran([os.path.join(RECORD, "c++"), *arguments], env=environment)
     if status and c == "clang":
         print("record/: OpenMP of clang is not tested, since its library is not here")
         return
     wanted = {"gcc": {"Grid::each(OpenMP)", "main(OpenMP)"}, "clang": {"(OpenMP)"}}[c]
-    status, trace, told = ran([os.path.join(RECORD, "run"), "--all", "--partial", "./program"])
+    status, trace, errors = ran([os.path.join(RECORD, "run"), "--all", "--partial", "./program"])
     writes = [line for line in trace.splitlines() if "|w(sum)|" in line or "|w(other)|" in line]
     names = {line.split(" < ")[1].split(" ")[0] for line in writes}
     locks = {line.split("|")[1] for line in trace.splitlines() if "|acq(omp." in line}
     if c == "gcc" and locks != {"acq(omp.critical)", "acq(omp.critical:adding)"}:
         raise Wrong(f"the locks of critical sections are {sorted(locks)}")
-    if status or names != wanted or ("a race in a region of OpenMP may be false" in told) != (c == "clang"):
-        raise Wrong(f"the functions of OpenMP are {sorted(names)}: {told}")
+    if status or names != wanted or ("a race in a region of OpenMP may be false" in errors) != (c == "clang"):
+        raise Wrong(f"the functions of OpenMP are {sorted(names)}: {errors}")
 
 
 def judge_few_files(c):
     """A low limit of open files does not end the recording."""
     compiled("mutex_kinds.c", os.path.join(RECORD, "cc"), "program", dict(os.environ, RECORD_CC=c))
-    words = [
+    command = [
         "sh",
         "-c",
         'ulimit -n 64 && exec "$@"',
@@ -357,13 +357,15 @@ def judge_few_files(c):
         "200000",
         "./program",
     ]
-    _, trace, told = ran(words)
+    _, trace, errors = ran(command)
     with open("source.c", "w", encoding="ascii") as source:
         source.write(LONG)
-    status, _, said = ran([os.path.join(RECORD, "cc"), "source.c", "-o", "program"], env=dict(os.environ, RECORD_CC=c))
-    _, _, long_told = ran(words)
-    if status or not trace or "left out" in told or "left out" in long_told:
-        raise Wrong(f"with few files: {said}{told}{long_told}")
+    status, _, notes = ran(
+        [os.path.join(RECORD, "cc"), "source.c", "-o", "program"], env=dict(os.environ, RECORD_CC=c)
+    )
+    _, _, long_errors = ran(command)
+    if status or not trace or "left out" in errors or "left out" in long_errors:
+        raise Wrong(f"with few files: {notes}{errors}{long_errors}")
 
 
 def has_own_descriptors():
@@ -380,10 +382,12 @@ def judge_descriptors(c):
         return
     with open("source.c", "w", encoding="ascii") as source:
         source.write(DESCRIPTORS)
-    status, _, said = ran([os.path.join(RECORD, "cc"), "source.c", "-o", "program"], env=dict(os.environ, RECORD_CC=c))
-    _, _, told = ran([os.path.join(RECORD, "run"), "--all", "./program"])
-    if status or not told.startswith("a thread has its own\n"):
-        raise Wrong(f"the recorder's descriptors are the program's: {said}{told}")
+    status, _, notes = ran(
+        [os.path.join(RECORD, "cc"), "source.c", "-o", "program"], env=dict(os.environ, RECORD_CC=c)
+    )
+    _, _, errors = ran([os.path.join(RECORD, "run"), "--all", "./program"])
+    if status or not errors.startswith("a thread has its own\n"):
+        raise Wrong(f"the recorder's descriptors are the program's: {notes}{errors}")
 
 
 # Looks, for a minute at least, for a thread that has no more than one descriptor.

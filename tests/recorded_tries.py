@@ -13,19 +13,19 @@ from recorded_places import PATIENCE, RECORD, SOURCES, ran
 FOLDER = os.path.join(SOURCES, "deadlocks")
 
 
-def compiled(source, c, cxx, *words):
+def compiled(source, c, cxx, *options):
     """Compiles a source of the folder, or else of the examples, in the current folder."""
     name, ending = os.path.splitext(source)
     path = os.path.join(FOLDER, source)
     path = path if os.path.exists(path) else os.path.join(os.path.dirname(RECORD), "examples", source)
-    by, words = ("c++", ("-std=c++17", *words)) if ending == ".cpp" else ("cc", words)
+    by, options = ("c++", ("-std=c++17", *options)) if ending == ".cpp" else ("cc", options)
     environment = dict(os.environ, RECORD_CC=c, RECORD_CXX=cxx or "")
-    ran([os.path.join(RECORD, by), "-O1", *words, path, "-o", name], env=environment)
+    ran([os.path.join(RECORD, by), "-O1", *options, path, "-o", name], env=environment)
 
 
-def run(*words):
+def run(*arguments):
     """The status of a recording, its trace, and what is said of it."""
-    command = [os.path.join(RECORD, "run"), *words]
+    command = [os.path.join(RECORD, "run"), *arguments]
     done = names_of_runs.run(command, capture_output=True, timeout=PATIENCE, check=False)
     return done.returncode, done.stdout.decode(), done.stderr.decode(errors="replace")
 
@@ -46,13 +46,13 @@ def judge_marks(source, c, cxx):
     compiled(source, c, cxx, *([] if source.endswith(".cpp") else ["-fopenmp"]))
     tries, waits = lines_that_say(source, "TRY"), lines_that_say(source, "WAITS")
     for options, mark in (([], " < try in "), (["--frames", "0"], " < try")):
-        status, trace, said = run(*options, f"./{source.partition('.')[0]}")
+        status, trace, notes = run(*options, f"./{source.partition('.')[0]}")
         found = acquires(trace, source)
         marked = {line for line, rest in found if rest.startswith(mark)}
         others = {line for line, rest in found if " < try" not in rest}
         if status or marked != tries or not waits <= others or others & tries:
             raise Wrong(
-                f"{source} {options}: status {status}: {sorted(marked ^ tries)} {sorted(waits - others)}: {said}"
+                f"{source} {options}: status {status}: {sorted(marked ^ tries)} {sorted(waits - others)}: {notes}"
             )
 
 

@@ -94,19 +94,19 @@ def write(name, text):
         source.write(text)
 
 
-def judge_run(words, last, wanted):
+def judge_run(arguments, last, wanted):
     """A run has this last line and this status, and with --partial the same last line and the status 0."""
     for partial, status in (([], wanted), (["--partial"], 0)):
-        command = [os.path.join(RECORD, "run"), *partial, *words]
+        command = [os.path.join(RECORD, "run"), *partial, *arguments]
         done = subprocess.run(command, capture_output=True, timeout=PATIENCE, check=False)
-        trace, told = done.stdout.decode(), done.stderr.decode(errors="replace")
+        trace, notes = done.stdout.decode(), done.stderr.decode(errors="replace")
         ends = re.search(rf"\nrecording\|end\({last}\)\|\n\Z", trace)
         if not trace.startswith("recording|begin(RECORDED)|\n") or not ends:
-            raise Wrong(f"{words}: the last line is {trace.splitlines()[-1:]}, and not {last}: {told}")
+            raise Wrong(f"{arguments}: the last line is {trace.splitlines()[-1:]}, and not {last}: {notes}")
         if done.returncode != status:
-            raise Wrong(f"{words} {partial}: status {done.returncode}, and not {status}: {told}")
-        if ("the recording is not whole" in told) != (status == 4):
-            raise Wrong(f"{words} {partial}: {told}")
+            raise Wrong(f"{arguments} {partial}: status {done.returncode}, and not {status}: {notes}")
+        if ("the recording is not whole" in notes) != (status == 4):
+            raise Wrong(f"{arguments} {partial}: {notes}")
 
 
 def judge_causes(c):
@@ -142,9 +142,9 @@ def judge_linked(c):
         "libpart.so": r"LEFT OUT 1 FROM 0: LIBRARY",
     }
     for part, last in linked.items():
-        words = ["user.c", part, "-Wl,-rpath," + os.getcwd(), "-o", "program"]
+        command = ["user.c", part, "-Wl,-rpath," + os.getcwd(), "-o", "program"]
         done = subprocess.run(
-            [os.path.join(RECORD, "cc"), "-O1", *words], capture_output=True, text=True, check=False, env=environment
+            [os.path.join(RECORD, "cc"), "-O1", *command], capture_output=True, text=True, check=False, env=environment
         )
         if done.returncode or ("no hooks" in done.stderr) != ("HOOKS" in last):
             raise Wrong(f"linked with {part}: {done}")
@@ -162,8 +162,8 @@ def judge_small_disk(c):
     os.mkdir("small")
     mounted = "mount -t tmpfs -o size=5m none small 2>/dev/null || exit 99\n"
     command = f"{mounted}TMPDIR=$PWD/small exec {RECORD}/run ./program"
-    words = ["unshare", "--map-root-user", "--mount", "sh", "-c", command]
-    done = subprocess.run(words, capture_output=True, check=False, timeout=PATIENCE)
+    unshared = ["unshare", "--map-root-user", "--mount", "sh", "-c", command]
+    done = subprocess.run(unshared, capture_output=True, check=False, timeout=PATIENCE)
     if done.returncode == 99 or b"unshare" in done.stderr:
         print("record/: a full disk is not tested, since no small one can be mounted here")
         return

@@ -5,7 +5,7 @@ import pathlib
 import shutil
 import subprocess
 
-from judging import Wrong, given
+from judging import Wrong, texts_of
 
 # How long a run may take that takes a moment, in seconds: a machine may be slow and busy.
 PATIENCE = 900
@@ -16,20 +16,20 @@ def write(name, text):
         out.write(text)
 
 
-def ended(program, words, more=None):
+def ended(program, arguments, more=None):
     """The status with which the program ends, and what it writes on standard output and on standard error; `more` is
     added to its environment."""
     done = subprocess.run(
-        [program, *words], capture_output=True, timeout=PATIENCE, check=False, env={**os.environ, **(more or {})}
+        [program, *arguments], capture_output=True, timeout=PATIENCE, check=False, env={**os.environ, **(more or {})}
     )
     return done.returncode, done.stdout, done.stderr
 
 
-def printed(program, words):
+def printed(program, arguments):
     """What the program writes, where it ends well."""
-    status, out, err = ended(program, words)
+    status, out, err = ended(program, arguments)
     if status != 0 or err:
-        raise Wrong(f"{words[0]}: status {status}: {err.decode()[:300]}{given(words[1:])}")
+        raise Wrong(f"{arguments[0]}: status {status}: {err.decode()[:300]}{texts_of(arguments[1:])}")
     return out
 
 
@@ -52,18 +52,18 @@ BEST_ROOM = []
 def parts_of(lines, lengths):
     """The lines of each client, who made this many calls, and the log as pairs of a client and a call."""
     at = 0
-    told = []
+    answers = []
     for client, calls in enumerate(lengths, start=1):
         if lines[at : at + 1] != [f"client {client}"]:
             raise Wrong(f"line {at + 1} is not that of client {client}: {lines[at : at + 1]}")
-        told.append(lines[at + 1 : at + 1 + calls])
+        answers.append(lines[at + 1 : at + 1 + calls])
         at += 1 + calls
     if lines[at : at + 1] != [f"log {len(lines) - at - 1}"]:
         raise Wrong(f"line {at + 1} does not count the log: {lines[at : at + 1]}")
     log = []
     for number, line in enumerate(lines[at + 1 :]):
-        entry, client, words = line.split(" ", 2)
+        entry, client, call = line.split(" ", 2)
         if int(entry) != number:
             raise Wrong(f"entry {number} of the log has another number: {line}")
-        log.append((int(client), words))
-    return told, log
+        log.append((int(client), call))
+    return answers, log

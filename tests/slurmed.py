@@ -82,17 +82,17 @@ class Slurm:
         self.environment = {**os.environ, "PATH": PATH, "SLURM_CONF": str(self.folder / "slurm.conf")}
         self.daemons = {}
 
-    def start(self, name, words):
+    def start(self, name, command):
         """Starts a daemon in the foreground, so that its number is known."""
         with open(self.folder / f"{name}.log", "wb") as log:
             self.daemons[name] = subprocess.Popen(
-                words, stdin=subprocess.DEVNULL, stdout=log, stderr=log, env=self.environment
+                command, stdin=subprocess.DEVNULL, stdout=log, stderr=log, env=self.environment
             )
 
-    def asked(self, words):
+    def answer_of(self, command):
         """What a command of Slurm's prints."""
         return subprocess.run(
-            words, capture_output=True, env=self.environment, check=False, timeout=PATIENCE
+            command, capture_output=True, env=self.environment, check=False, timeout=PATIENCE
         ).stdout.decode()
 
     def configure(self):
@@ -109,7 +109,7 @@ class Slurm:
         (self.folder / "slurm.conf").write_text(text, encoding="ascii")
 
     def idle(self):
-        return self.asked(["sinfo", "-h", "-N", "-o", "%T"]).split().count("idle")
+        return self.answer_of(["sinfo", "-h", "-N", "-o", "%T"]).split().count("idle")
 
     def __enter__(self):
         self.configure()
@@ -131,7 +131,7 @@ class Slurm:
         return self
 
     def __exit__(self, *_):
-        self.asked(["scancel", "--user", getpass.getuser()])
+        self.answer_of(["scancel", "--user", getpass.getuser()])
         end = time.monotonic() + 10
         while self.has_jobs() and time.monotonic() < end:
             time.sleep(0.2)
@@ -144,7 +144,7 @@ class Slurm:
                 daemon.kill()
 
     def has_jobs(self):
-        return bool(self.asked(["squeue", "-h"]).strip())
+        return bool(self.answer_of(["squeue", "-h"]).strip())
 
     def wait(self):
         """Waits until no job is left."""

@@ -39,8 +39,8 @@ def races_in(text):
     lines, found = text.splitlines(), set()
     for at, line in enumerate(lines):
         if line.startswith("race "):
-            accesses = [told for told in lines[at + 1 : at + 9] if told.startswith("  ") and told[2] != " "]
-            found.add(tuple(sorted(told.rsplit("|", 1)[1] for told in accesses[:2])))
+            accesses = [line for line in lines[at + 1 : at + 9] if line.startswith("  ") and line[2] != " "]
+            found.add(tuple(sorted(line.rsplit("|", 1)[1] for line in accesses[:2])))
     return found
 
 
@@ -53,11 +53,13 @@ def feed(out, blocks):
     out.close()
 
 
-def run(program, events, words):
+def run(program, events, arguments):
     """Judges a trace of about this many events; answers what is wrong, if anything is, and prints time and memory."""
     blocks, size = events // BLOCK, len(block())
     begun = time.monotonic()
-    with subprocess.Popen([program, "triage", "-", *words], stdin=subprocess.PIPE, stdout=subprocess.PIPE) as running:
+    with subprocess.Popen(
+        [program, "triage", "-", *arguments], stdin=subprocess.PIPE, stdout=subprocess.PIPE
+    ) as running:
         pid = running.pid
         feed(running.stdin, blocks)
         out = running.stdout.read().decode()

@@ -36,16 +36,16 @@ def installed(text: str) -> str:
     return text
 
 
-def told(command: str) -> str:
+def help_of(command: str) -> str:
     """What a command says of itself; with its usage and its options, as --help prints them, if it does not name
     them."""
     script = os.path.join(RECORD, COMMANDS[command][0])
     with open(script, encoding="utf-8") as file:
         text = ast.get_docstring(ast.parse(file.read())) or ""
     if "ArgumentParser" in open(script, encoding="utf-8").read() and not re.search(r"^  -", text, re.MULTILINE):
-        words = [sys.executable, "-B", script, "--help"]
+        call = [sys.executable, "-B", script, "--help"]
         surroundings = dict(os.environ, COLUMNS="10000")
-        help_text = subprocess.run(words, capture_output=True, text=True, check=True, env=surroundings).stdout
+        help_text = subprocess.run(call, capture_output=True, text=True, check=True, env=surroundings).stdout
         usage = help_text.split("\n\n", 1)[0].removeprefix("usage: ")
         options = re.split(r"^options:$", help_text, flags=re.MULTILINE)[1].strip("\n")
         text = f"{usage}\n\n{text}\n\n" + re.sub(r"\n {8,}", "  ", options)
@@ -61,7 +61,7 @@ def plain(text: str) -> str:
 
 def parts(command: str) -> tuple[str, list[str], list[tuple[str, str]]]:
     """The usage, the paragraphs, and the options with their texts."""
-    paragraphs = told(command).split("\n\n")
+    paragraphs = help_of(command).split("\n\n")
     usage = command + " WORD.."
     if paragraphs[0].startswith(command):
         usage = " ".join(paragraphs.pop(0).split())
@@ -97,7 +97,7 @@ def page(command: str, version: str) -> str:
     lines.pop()
     if options:
         lines.append(".SH OPTIONS")
-    for words, text in options:
-        lines += [".TP", "\\fB" + plain(words) + "\\fR", plain(text)]
+    for names, text in options:
+        lines += [".TP", "\\fB" + plain(names) + "\\fR", plain(text)]
     lines += [".SH SEE ALSO", ".BR racebench (1)"]
     return "\n".join(lines) + "\n"
