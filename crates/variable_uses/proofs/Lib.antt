@@ -1,0 +1,11 @@
+pub mod ColumnLemmas
+pub mod EndLemmas
+pub mod HeldLemmas
+pub mod LockLemmas
+pub mod NumberLemmas
+pub mod OrderLemmas
+pub mod OwnerLemmas
+pub mod RaceLemmas
+pub mod SeenLemmas
+pub mod SharedLemmas
+pub mod TableLemmas

@@ -1,0 +1,12 @@
+pub mod Columns
+pub mod Edges
+pub mod Ends
+pub mod Held
+pub mod Numbers
+pub mod Order
+pub mod Owners
+pub mod Parts
+pub mod Rows
+pub mod Seen
+pub mod Shared
+pub mod Table
