@@ -133,7 +133,7 @@ locations may race.",
             name: "source",
             kind: Kind::Text("DIR"),
             help: Some(
-                "With --sarif or --lines, the folder of the code: paths of files in it are written from there",
+                "With --sarif, the folder of the code: paths are relative to it, and fingerprints have its lines",
             ),
         },
         Word {
@@ -271,7 +271,7 @@ parts means nothing, and a part that comes twice counts once.",
             name: "source",
             kind: Kind::Text("DIR"),
             help: Some(
-                "With --sarif, the folder of the code: paths of files in it are written from there",
+                "With --sarif, the folder of the code: paths are relative to it, and fingerprints have its lines",
             ),
         },
         Word {

@@ -103,15 +103,7 @@ fn check_triage(given: &ArgMatches<'_>) -> Result<(), Unread> {
         "page",
         "`--confirmed` goes with `--page`",
     )?;
-    if given.get_flag("lines") {
-        return Ok(());
-    }
-    check_beside(
-        given,
-        "source",
-        "sarif",
-        "`--source` goes with `--sarif` or `--lines`",
-    )
+    check_source(given)
 }
 
 /// The numbers that `triage` was given.

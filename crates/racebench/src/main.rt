@@ -4,14 +4,12 @@
 
 ghost use Rattle.program_words.specs.Tasks.{IsWithin};
 
-mod code_names;
 mod coding;
 mod cutting;
 mod doing;
 mod ends;
 mod failing;
 mod file_notes;
-mod finding_files;
 mod folders;
 mod front;
 mod input;

@@ -3,7 +3,6 @@ use race_page::About;
 use race_triage::{Filters, Watch};
 use std::thread::Threads;
 use triage_file::Value;
-use triage_report::folder::Folder;
 use triage_report::sarif::Sources;
 
 /// The options of a report on the races of a trace.
@@ -31,10 +30,7 @@ pub enum Form<'a> {
     /// An object of JSON a line.
     Json,
     /// Lines as compilers write them (docs/FORMATS.md, "Lines for editors").
-    Lines {
-        /// The folder of the code, for the paths of files in it.
-        folder: &'a Folder,
-    },
+    Lines,
     /// A triage file with an entry for each race.
     Entries,
     /// A log of SARIF 2.1.0, which code-scanning pages read.

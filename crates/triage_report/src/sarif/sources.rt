@@ -1,8 +1,6 @@
-//! Lines of the code.
+//! The folder of the code, and lines of the code.
 ghost use Rattle.std.specs.Prelude.{◌≡◌};
 ghost use Rattle.triage_report.specs.sarif.Places.{is_at, line_at, line_text, text_at, text_if};
-
-use crate::folder::Folder;
 
 /// A line of the code.
 #[derive(Drop)]
@@ -16,8 +14,8 @@ pub struct SourceLine {
 /// The code that ran.
 #[derive(Clone, Copy)]
 pub struct Sources<'a> {
-    /// The folder of the code.
-    pub root: &'a Folder,
+    /// The folder of the code with a slash at the end; empty if no folder is named.
+    pub root: &'a [u8],
     /// Lines of the code that were read. Fingerprints have their texts.
     pub lines: &'a [SourceLine],
 }
