@@ -1,0 +1,10 @@
+pub mod EndLemmas
+pub mod KeyLemmas
+pub mod ListLemmas
+pub mod NestLemmas
+pub mod PatternLemmas
+pub mod RowLemmas
+pub mod StepLemmas
+pub mod ThreadLemmas
+pub mod TryLemmas
+pub mod VisitLemmas

@@ -1,0 +1,154 @@
+//! Visits pairs of requests, and keeps a row for each pattern.
+ghost use Rattle.std.specs.Prelude.{◌≡◌, ◌+◌, ◌<◌, IfOk, OnOk, Some, length, slice_get, slice_index};
+ghost use Rattle.deadlock_triage.specs.Rows.{AreRowsOf, IsJudge, IsNext, IsRowAt, first_outcome};
+ghost use Rattle.deadlock_triage.specs.Verdicts.{IsVerdict};
+
+use crate::judging::judged;
+use crate::outcomes::Verdict;
+use crate::patterns::pattern_of;
+use crate::refusal::Refusal;
+use crate::rows::{Rows, add, index_of};
+use crate::stepping::{after, fresh, given_up, is_settled};
+use must_order::Analysis;
+use rapid_text::OutOfMemory;
+use std::alloc::Global;
+
+/// The most patterns.
+pub const MAX_PATTERNS: usize = 1_048_576;
+
+// The most pairs of a pattern that are judged.
+const MAX_JUDGED: u32 = 65_536;
+
+/// What judging needs: the trace, the number of each event's location, the nested requests, how many pairs are tried
+/// for a pattern, and whether all pairs are visited.
+#[derive(Clone, Copy)]
+pub(crate) struct Judge<'a> {
+    pub(crate) alloc: Global,
+    pub(crate) analysis: &'a Analysis<'a>,
+    pub(crate) places: &'a [u32],
+    pub(crate) nested: &'a [u32],
+    pub(crate) tries: u32,
+    pub(crate) is_whole: bool,
+}
+
+impl Judge<'_> {
+    /// Visits the pairs of a later request with each earlier one.
+    pub(crate) fn visit_all(
+        &self,
+        rows: &mut Rows,
+        left: &mut u64,
+        later: usize,
+    ) -> Result<(), Refusal>
+        requires judge { IsJudge self.now }
+        requires later { later < length self.now.nested.now }
+        requires rows { AreRowsOf self.now 0 later rows.old }
+        ensures { OnOk result (AreRowsOf self.now 0 (later + 1) rows.new) }
+    {
+        for earlier in 0..later {
+            self.visit(rows, left, earlier, later)?;
+        }
+        Ok(())
+    }
+
+    // Visits a pair of requests, whose indices are given.
+    fn visit(
+        &self,
+        rows: &mut Rows,
+        left: &mut u64,
+        earlier: usize,
+        later: usize,
+    ) -> Result<(), Refusal>
+        requires judge { IsJudge self.now }
+        requires earlier { earlier < later }
+        requires later { later < length self.now.nested.now }
+        requires rows { AreRowsOf self.now earlier later rows.old }
+        ensures { OnOk result (AreRowsOf self.now (earlier + 1) later rows.new) }
+    {
+        let first = self.nested[earlier];
+        let second = self.nested[later];
+        match pattern_of(self.analysis, self.places, first, second) {
+            None => Ok(()),
+            Some(pattern) => {
+                let start = fresh(first, second, pattern, self.is_whole);
+                self.visit_cycle(rows, left, start, earlier, later)
+            }
+        }
+    }
+
+    // Visits two requests that wait for each other, given the first verdict on their pattern.
+    fn visit_cycle(
+        &self,
+        rows: &mut Rows,
+        left: &mut u64,
+        start: Verdict,
+        earlier: usize,
+        later: usize,
+    ) -> Result<(), Refusal>
+        requires start { IsVerdict self.now.analysis.now (slice_index self.now.places.now) start }
+        requires outcome { start.outcome ≡ first_outcome self.now.is_whole }
+        requires first { slice_get self.now.nested.now earlier ≡ Some start.first }
+        requires second { slice_get self.now.nested.now later ≡ Some start.second }
+        requires rows { AreRowsOf self.now earlier later rows.old }
+        ensures { OnOk result (AreRowsOf self.now (earlier + 1) later rows.new) }
+    {
+        let at = self.row_of(rows, start, earlier, later)?;
+        let next = self.next(rows.verdicts[at], left, start.first, start.second)?;
+        rows.verdicts[at] = next;
+        Ok(())
+    }
+
+    // The index of the row of this verdict's pattern. If the pattern is new, the verdict becomes its row.
+    fn row_of(
+        &self,
+        rows: &mut Rows,
+        start: Verdict,
+        _earlier: usize,
+        _later: usize,
+    ) -> Result<usize, Refusal>
+        requires start { IsVerdict self.now.analysis.now (slice_index self.now.places.now) start }
+        requires outcome { start.outcome ≡ first_outcome self.now.is_whole }
+        requires rows { AreRowsOf self.now _earlier _later rows.old }
+        ensures at { IfOk result (IsRowAt rows.new.verdicts.items start.pattern) }
+        ensures rows { OnOk result (AreRowsOf self.now _earlier _later rows.new) }
+    {
+        if let Some(at) = index_of(&rows.patterns, start.pattern) {
+            return Ok(at);
+        }
+        if rows.verdicts.len() >= MAX_PATTERNS {
+            return Err(Refusal::TooMany);
+        }
+        add(&mut rows.patterns, self.alloc, start.pattern)?;
+        let at = rows.verdicts.len();
+        rows.verdicts.push(start)?;
+        Ok(at)
+    }
+
+    // The verdict after one more pair.
+    fn next(
+        &self,
+        row: Verdict,
+        left: &mut u64,
+        first: u32,
+        second: u32,
+    ) -> Result<Verdict, OutOfMemory>
+        requires first { first < length self.now.analysis.now.events }
+        requires second { second < length self.now.analysis.now.events }
+        ensures { IfOk result (IsNext self.now.analysis.now.events first second row) }
+    {
+        let indexed = self.analysis.indexed();
+        if is_settled(row, self.tries) {
+            return Ok(row);
+        }
+        if is_over(row, *left) {
+            return Ok(given_up(row, first, second, indexed));
+        }
+        *left = left.saturating_sub(1);
+        let answer = judged(self.alloc, self.analysis, first, second, self.tries > 0)?;
+        Ok(after(row, first, second, answer, self.tries, indexed))
+    }
+}
+
+// Whether no more pairs of the pattern are judged: the work is bounded.
+fn is_over(row: Verdict, left: u64) -> bool {
+    row.judged >= MAX_JUDGED || left == 0
+}

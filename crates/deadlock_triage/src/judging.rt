@@ -1,0 +1,159 @@
+//! Judges two requests that wait for each other.
+ghost use Rattle.std.specs.Prelude.{◌≡◌, ◌<◌, ◌≤◌, ◌+◌, ◌↔◌, [], ◌∷◌, All, AllPairs, IfOk, IsTrue, Some, length};
+ghost use Rattle.event_index.specs.Events.{thread_at};
+ghost use Rattle.witness_search.specs.trace_order.Sizes.{HasThread};
+ghost use Rattle.deadlock_triage.specs.Threads.{IsCountBelow};
+ghost use Rattle.deadlock_triage.specs.Verdicts.{IsJudged, IsThreadCount};
+ghost use Rattle.deadlock_triage.specs.declared.outcomes.How.TheVariants.{Ordered};
+ghost use Rattle.lock_waits.specs.Required.{AreRefuted};
+ghost use Rattle.lock_waits.specs.Waits.{ShowsDeadlock};
+
+use crate::outcomes::How;
+use crate::searching::schedule_of;
+use event_index::Indexed;
+use lock_waits::{are_refuted, refuted_is_never_shown};
+use must_order::Analysis;
+use rapid_text::OutOfMemory;
+use schedule::Schedule;
+use std::alloc::Global;
+
+/// What is known of two requests.
+#[derive(Clone, Copy)]
+pub(crate) enum Judgement {
+    /// No correct reordering shows them.
+    Never,
+    /// A schedule with this many events shows them.
+    Shown {
+        /// The order of the schedule.
+        how: How,
+        /// How many events it has.
+        events: u32,
+        /// How many threads have events in it.
+        threads: u32,
+    },
+    /// No schedule was found.
+    Missed,
+}
+
+/// Judges two requests. It searches for a schedule only if `may_search` is true.
+pub(crate) fn judged(
+    alloc: Global,
+    analysis: &Analysis<'_>,
+    first: u32,
+    second: u32,
+    may_search: bool,
+) -> Result<Judgement, OutOfMemory>
+    requires first { first < length analysis.now.events }
+    requires second { second < length analysis.now.events }
+    ensures judged { IfOk result (IsJudged analysis.now.events first second) }
+{
+    if are_refuted(alloc, analysis, &[first, second])? {
+        return Ok(never(analysis, first, second));
+    }
+    if !may_search {
+        return Ok(Judgement::Missed);
+    }
+    match schedule_of(alloc, analysis, first, second)? {
+        Some(schedule) => Ok(shown(analysis, &schedule, first, second)),
+        None => Ok(Judgement::Missed),
+    }
+}
+
+// The answer if the two requests are refuted.
+fn never(analysis: &Analysis<'_>, _first: u32, _second: u32) -> Judgement
+    requires { AreRefuted analysis.now.events (_first ∷ _second ∷ []) }
+    ensures { IsJudged analysis.now.events _first _second result }
+{
+    refuted_is_never_shown();
+    let indexed = analysis.indexed();
+    let _len = indexed.len();
+    Judgement::Never
+}
+
+// The answer if this schedule shows the two requests.
+fn shown(analysis: &Analysis<'_>, schedule: &Schedule, _first: u32, _second: u32) -> Judgement
+    requires trace { schedule.now.trace ≡ analysis.now }
+    requires shows { ShowsDeadlock analysis.now.events schedule.now.events (_first ∷ _second ∷ []) }
+    ensures { IsJudged analysis.now.events _first _second result }
+{
+    let indexed = analysis.indexed();
+    let _len = indexed.len();
+    let events = schedule.events();
+    Judgement::Shown {
+        how: how_of(events),
+        events: events.len() as u32,
+        threads: threads_in(indexed, events),
+    }
+}
+
+// Whether the events are in the order of the trace.
+fn how_of(events: &[u32]) -> How
+    ensures { result ≡ Ordered → AllPairs ◌<◌ events.now }
+{
+    if is_rising(events) {
+        How::Ordered
+    } else {
+        How::Turned
+    }
+}
+
+// Whether each event is greater than the one before it.
+fn is_rising(events: &[u32]) -> bool
+    ensures { IsTrue result → AllPairs ◌<◌ events.now }
+{
+    for at in 1..events.len() {
+        if events[at - 1] >= events[at] {
+            return false;
+        }
+    }
+    true
+}
+
+// How many threads have an event in the list.
+fn threads_in(indexed: &Indexed, events: &[u32]) -> u32
+    requires { All (λ e. e < length indexed.now.events) events.now }
+    ensures { IsThreadCount indexed.now.events events.now result }
+{
+    let mut count = 0u32;
+    for thread in 0..indexed.threads() {
+        count = count_more(count, indexed, events, thread);
+    }
+    count
+}
+
+// The number of threads up to this one that have an event in the list, given the number of those before it.
+fn count_more(count: u32, indexed: &Indexed, events: &[u32], thread: u32) -> u32
+    requires few { count ≤ thread }
+    requires thread { thread < length indexed.now.threads }
+    requires events { All (λ e. e < length indexed.now.events) events.now }
+    requires counted { IsCountBelow indexed.now.events events.now thread count }
+    ensures few { result ≤ thread + 1 }
+    ensures counted { IsCountBelow indexed.now.events events.now (thread + 1) result }
+{
+    let _threads = indexed.threads();
+    if has_thread(indexed, events, thread) {
+        return count + 1;
+    }
+    count
+}
+
+// Whether the thread has an event in the list.
+fn has_thread(indexed: &Indexed, events: &[u32], thread: u32) -> bool
+    requires { All (λ e. e < length indexed.now.events) events.now }
+    ensures { IsTrue result ↔ HasThread indexed.now.events events.now thread }
+{
+    for at in 0..events.len() {
+        if is_of_thread(indexed, events[at], thread) {
+            return true;
+        }
+    }
+    false
+}
+
+// Whether the event is of the thread.
+fn is_of_thread(indexed: &Indexed, event: u32, thread: u32) -> bool
+    requires { event < length indexed.now.events }
+    ensures { IsTrue result ↔ (thread_at indexed.now.events event ≡ Some thread) }
+{
+    indexed.event(event).thread == thread
+}
