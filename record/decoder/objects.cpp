@@ -67,27 +67,30 @@ void Objects::begin_stack(const record &one) {
 
 // What was inside there is there no more.
 void Objects::cut_inside(u64 start, u64 end) {
-    if (inside.empty()) return;
     auto at = inside.upper_bound(start);
-    if (at != inside.begin()) --at;
-    while (at != inside.end() && at->first < end) {
-        u64 first = at->first;
+    while (at != inside.end() && at->second.start < end) {
         Piece piece = at->second;
-        if (piece.end <= start) {
-            ++at;
-            continue;
+        if (piece.start < start) inside.emplace_hint(at, start, piece);
+        if (at->first > end) {
+            at->second.start = end;
+            return;
         }
         at = inside.erase(at);
-        if (first < start) inside[first] = {start, piece.thing};
-        if (piece.end > end) inside[end] = piece;
     }
 }
 
-void Objects::begin_inside(u64 start, u64 end, Thing thing) {
-    if (end <= start) return;
-    cut_inside(start, end);
-    inside[start] = {end, thing};
-    changed_inside(start, end, thing);
+// If one piece alone is in the way and has the same end, its entry is used again: so it is for most calls.
+void Objects::begin_inside(u64 end, const Piece &piece) {
+    if (end <= piece.start) return;
+    auto at = inside.upper_bound(piece.start);
+    if (at != inside.end() && at->first == end) {
+        if (at->second.start < piece.start) inside.emplace_hint(at, piece.start, at->second);
+        at->second = piece;
+    } else {
+        cut_inside(piece.start, end);
+        inside[end] = piece;
+    }
+    changed_inside(end, piece);
 }
 
 void Objects::Recents::cut(u64 start, u64 end) {
@@ -97,9 +100,9 @@ void Objects::Recents::cut(u64 start, u64 end) {
 }
 
 // A part began. The page's other parts that were found last are still known.
-void Objects::changed_inside(u64 start, u64 end, Thing thing) {
-    u64 first = start >> PAGE_BITS, last = (end - 1) >> PAGE_BITS;
-    if (last - first >= WHOLE_PAGES) return changed(start, end);
+void Objects::changed_inside(u64 end, const Piece &piece) {
+    u64 first = piece.start >> PAGE_BITS, last = (end - 1) >> PAGE_BITS;
+    if (last - first >= WHOLE_PAGES) return changed(piece.start, end);
     for (u64 page = first; page <= last; page++) {
         Whole &whole = pages[page % WHOLE_PAGES];
         u32 &age = ages[page % PAGES];
@@ -107,20 +110,18 @@ void Objects::changed_inside(u64 start, u64 end, Thing thing) {
         age++;
         if (!is_known) continue;
         whole = {page, 0, age, NOTHING};
-        recent[page % WHOLE_PAGES].cut(start, end);
-        recent[page % WHOLE_PAGES].put({start, end - start, start - place_in(thing, start, start), thing});
+        recent[page % WHOLE_PAGES].cut(piece.start, end);
+        recent[page % WHOLE_PAGES].put({piece.start, end - piece.start, piece.base, piece.thing});
     }
 }
 
 // The activation that has more memory than was known, or else a new one.
 Thing Objects::same_frame(const record &one) const {
-    auto after = inside.lower_bound(one.at + one.size);
-    if (!one.order || after == inside.begin()) return NOTHING;
-    const Piece &piece = std::prev(after)->second;
-    const Activation *found = activation_of(piece.thing);
-    bool is_same =
-        found && found->frame.end == one.at + one.size && found->body == one.pc && piece.end == found->frame.end;
-    return is_same ? piece.thing : NOTHING;
+    auto at = one.order ? inside.find(one.at + one.size) : inside.end();
+    if (at == inside.end()) return NOTHING;
+    const Activation *found = activation_of(at->second.thing);
+    bool is_same = found && found->frame.end == at->first && found->body == one.pc;
+    return is_same ? at->second.thing : NOTHING;
 }
 
 void Objects::begin_frame(const record &one) {
@@ -133,7 +134,7 @@ void Objects::begin_frame(const record &one) {
             activations.push_back({one.pc, {one.answer, end}, one.thread});
         }
     }
-    begin_inside(one.at, end, thing);
+    begin_inside(end, {one.at, end - BEFORE_END, thing});
 }
 
 void Objects::begin_own_variables(const record &stack) {
@@ -141,17 +142,12 @@ void Objects::begin_own_variables(const record &stack) {
     if (!size || size > stack.answer) return;
     Thing thing = next++;
     if (names.size() < next) names.push_back({OWN_PLACE, 0, 0, stack.thread, size});
-    begin_inside(stack.answer - size, stack.answer, thing);
+    begin_inside(stack.answer, {stack.answer - size, stack.answer - size, thing});
 }
 
 const Activation *Objects::activation_of(Thing thing) const {
     bool is_frame = thing < names.size() && names[thing].place == FRAME_PLACE;
     return is_frame ? &activations[names[thing].site] : nullptr;
-}
-
-u64 Objects::place_in(Thing thing, u64 start, u64 address) const {
-    const Activation *frame = activation_of(thing);
-    return frame ? address + BEFORE_END - frame->frame.end : address - start;
 }
 
 void Objects::resize(u64 start, u64 size) {
@@ -170,8 +166,8 @@ Where Objects::living_at(u64 start) const {
 void Objects::find_whole(u64 page, Whole &to) const {
     u64 start = page << PAGE_BITS, end = start + (1ull << PAGE_BITS);
     to = {page, 0, ages[page % PAGES], NOTHING};
-    auto piece = inside.lower_bound(end);
-    if (piece != inside.begin() && std::prev(piece)->second.end > start) return;
+    auto piece = inside.upper_bound(start);
+    if (piece != inside.end() && piece->second.start < end) return;
     auto after = living.upper_bound(start);
     if (after == living.begin()) return;
     auto &block = *std::prev(after);
@@ -200,12 +196,12 @@ Where Objects::found_at(u64 address) {
 }
 
 Where Objects::searched(u64 address) {
-    auto behind = inside.upper_bound(address);
-    if (behind != inside.begin() && address < std::prev(behind)->second.end) {
-        auto &[start, part] = *std::prev(behind);
-        u64 place = place_in(part.thing, start, address);
-        recent[(address >> PAGE_BITS) % WHOLE_PAGES].put({start, part.end - start, address - place, part.thing});
-        return {part.thing, place};
+    auto found = inside.upper_bound(address);
+    if (found != inside.end() && found->second.start <= address) {
+        const Piece &piece = found->second;
+        recent[(address >> PAGE_BITS) % WHOLE_PAGES].put(
+            {piece.start, found->first - piece.start, piece.base, piece.thing});
+        return {piece.thing, address - piece.base};
     }
     auto after = living.upper_bound(address);
     if (after != living.begin()) {

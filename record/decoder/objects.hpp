@@ -81,9 +81,9 @@ private:
         u16 thread;
         u64 size;
     };
-    // A part of a frame, or the variables that a thread has.
+    // A part of a frame, or the variables that a thread has. An address is at a place of `address - base`.
     struct Piece {
-        u64 end;
+        u64 start, base;
         Thing thing;
     };
     // Where blocks were allocated, where the first of them was written first, and of which type they are, if that was
@@ -122,12 +122,11 @@ private:
     static constexpr int PAGE_BITS = 12;
     static constexpr u32 STACK_PLACE = ~0u, FRAME_PLACE = ~0u - 1, OWN_PLACE = ~0u - 2;
     void begin(u64 start, u64 size);
-    void begin_inside(u64 start, u64 end, Thing thing);
+    void begin_inside(u64 end, const Piece &piece);
     void cut_inside(u64 start, u64 end);
     Thing same_frame(const record &one) const;
-    u64 place_in(Thing thing, u64 start, u64 address) const;
     void changed(u64 start, u64 end);
-    void changed_inside(u64 start, u64 end, Thing thing);
+    void changed_inside(u64 end, const Piece &piece);
     Where found_at(u64 address);
     Where searched(u64 address);
     void find_whole(u64 page, Whole &to) const;
@@ -143,6 +142,7 @@ private:
     Thing lasting(const std::string &name, u64 symbol = 0);
     places::Modules &modules;
     std::map<u64, Living> living;
+    // By their ends, since the frames of the calls of one function end at one address.
     std::map<u64, Piece> inside;
     std::vector<Activation> activations;
     std::map<std::pair<Thing, u64>, locals::Uses> uses;
