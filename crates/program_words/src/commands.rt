@@ -1,6 +1,5 @@
 //! The commands of the program, each with its arguments, as a table: it has the texts of help, and what `clap` accepts.
 
-use crate::deadlock_commands::DEADLOCKS;
 use crate::pair_commands::{EXPLAIN, WITNESS};
 use crate::words::{Kind, Most, TRACE, Word, Words};
 use crate::workspace_commands::{LOG, REPLAY, SESSION, THREADS};
@@ -14,7 +13,6 @@ pub(crate) enum CommandName {
     Log,
     Threads,
     Triage,
-    Deadlocks,
     Explain,
     Witness,
     Cut,
@@ -22,14 +20,13 @@ pub(crate) enum CommandName {
 }
 
 /// All commands, in the order of help.
-pub(crate) const COMMANDS: [CommandName; 11] = [
+pub(crate) const COMMANDS: [CommandName; 10] = [
     CommandName::Info,
     CommandName::Replay,
     CommandName::Session,
     CommandName::Log,
     CommandName::Threads,
     CommandName::Triage,
-    CommandName::Deadlocks,
     CommandName::Explain,
     CommandName::Witness,
     CommandName::Cut,
@@ -307,7 +304,6 @@ pub(crate) fn words_of(command: CommandName) -> Words {
         CommandName::Log => LOG,
         CommandName::Threads => THREADS,
         CommandName::Triage => TRIAGE,
-        CommandName::Deadlocks => DEADLOCKS,
         CommandName::Explain => EXPLAIN,
         CommandName::Witness => WITNESS,
         CommandName::Cut => CUT,

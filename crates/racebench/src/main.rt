@@ -6,7 +6,6 @@ ghost use Rattle.program_words.specs.Tasks.{IsWithin};
 
 mod coding;
 mod cutting;
-mod deadlocking;
 mod doing;
 mod ends;
 mod failing;
@@ -50,7 +49,6 @@ mod windows;
 mod write_notes;
 
 use crate::cutting::cut_of_file;
-use crate::deadlocking::deadlocks_in_file;
 use crate::doing::{
     explain_in_file, info_of_file, replay_files, replay_input, threads_on_files, witness_in_file,
 };
@@ -109,7 +107,6 @@ fn work<R: Threads + Wait + Sync + Clone + Send + Drop + 'static>(
             Some(most) => triage_windows(rt, starts, task, most),
             None => triage_file(rt, starts, task),
         },
-        Task::Deadlocks(task) => deadlocks_in_file(rt, task),
         Task::Explain(pair, all) => explain_in_file(rt, pair, *all),
         Task::Witness(pair, form) => witness_in_file(rt, pair, *form),
         Task::Cut(task) => cut_of_file(rt, task),
