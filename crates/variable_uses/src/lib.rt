@@ -11,6 +11,8 @@ mod keys;
 mod locks;
 mod numbering;
 mod order;
+#[cfg(test)]
+mod tests;
 mod threads;
 mod uses;
 
