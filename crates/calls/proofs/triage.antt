@@ -4,4 +4,3 @@ pub mod LeavingListedLemmas
 pub mod LeavingMetLemmas
 pub mod LeavingSplitLemmas
 mod OneLemmas
-pub mod SpotLemmas

@@ -9,4 +9,3 @@ pub mod RaceLemmas
 pub mod SeenLemmas
 pub mod SharedLemmas
 pub mod TableLemmas
-pub mod TotalLemmas

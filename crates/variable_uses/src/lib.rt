@@ -11,8 +11,6 @@ mod keys;
 mod locks;
 mod numbering;
 mod order;
-#[cfg(test)]
-mod tests;
 mod threads;
 mod uses;
 
