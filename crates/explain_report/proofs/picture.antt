@@ -1,2 +1,5 @@
+pub mod BoxLemmas
+pub mod DrawingLemmas
 pub mod PieceLemmas
+pub mod PlacingLemmas
 pub mod ShapeLemmas

@@ -7,7 +7,7 @@ use Rattle.rapid_text.specs.Recording.{Recording}
 use Rattle.rapid_text.specs.declared.event.Event.{Event}
 use Rattle.event_index.specs.Events.{thread_at}
 use Rattle.explain_report.specs.Chains.{line_at}
-use Rattle.explain_report.specs.Runs.{place_after, runs_of}
+use Rattle.explain_report.specs.Runs.{runs_of}
 use Rattle.explain_report.specs.Verdicts.{count_text}
 use Rattle.explain_report.specs.Waiting.{AreWaiters, words_between}
 use Rattle.explain_report.specs.declared.folded.Tally.{Tally}

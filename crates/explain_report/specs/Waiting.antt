@@ -1,11 +1,11 @@
 -- Which event of a schedule waits for another, and the words for the reason. `T` is the events of a trace, `es` a list
 -- of events. All notions here are this project's own.
-use Rattle.std.specs.Prelude.{◌≡◌, ℕ, ◌<◌, nat_eq, ◌==◌, Bool, true, false, not, ◌&&◌, ◌||◌, cond, List, length, slice_get, Option, Some, None, codes}
+use Rattle.std.specs.Prelude.{◌≡◌, ℕ, ◌<◌, nat_eq, ◌==◌, Bool, true, false, not, ◌&&◌, ◌||◌, cond, List, length, slice_get, Option, Some, codes}
 use Rattle.std.specs.Option.{option_eq}
 use Rattle.rapid_text.specs.Operations.{is_acquire, is_fork, is_join, is_write}
 use Rattle.rapid_text.specs.declared.event.Event.{Event}
 use Rattle.rapid_text.specs.declared.event.Op.{Op}
-use Rattle.rapid_text.specs.declared.event.Op.TheVariants.{Read, Write, Acquire, Release, Fork, Join}
+use Rattle.rapid_text.specs.declared.event.Op.TheVariants.{Read, Write, Release, Fork, Join}
 use Rattle.event_index.specs.Events.{op_at, thread_at}
 use Rattle.event_index.specs.Relations.{is_access, pass_both}
 

@@ -45,7 +45,11 @@ fn append_found(
 }
 
 /// Appends an operation as `word(name)`.
-fn append_operation(out: &mut Vec<u8>, trace: &RawTrace, op: Op) -> Result<(), OutOfMemory>
+pub(crate) fn append_operation(
+    out: &mut Vec<u8>,
+    trace: &RawTrace,
+    op: Op,
+) -> Result<(), OutOfMemory>
     requires { IsNamedOp trace.now op }
     ensures { Appended result out.old out.new (op_text trace.now op) }
 {

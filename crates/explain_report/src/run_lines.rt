@@ -129,7 +129,7 @@ fn append_run(
 }
 
 /// The number of events of the run.
-fn event_total(run: Run) -> u32
+pub(crate) fn event_total(run: Run) -> u32
     ensures { result ≡ event_total run }
 {
     run.end.saturating_sub(run.start)
@@ -242,7 +242,7 @@ fn append_waiter(
 }
 
 /// An event that waits for the one at this index.
-fn waiter_at(waiters: &[Option<u32>], place: u32) -> Option<u32>
+pub(crate) fn waiter_at(waiters: &[Option<u32>], place: u32) -> Option<u32>
     ensures { result ≡ slice_index_or waiters.now place None }
 {
     match waiters.get(place as usize) {

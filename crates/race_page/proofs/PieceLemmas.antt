@@ -81,13 +81,13 @@ with_made p q new row kept last shown same is e f g =
 
 -- a picture of a schedule that shows the pair
 pub drawn_of :
-    (r s : Recording) (events : List ℕ) (a b : ℕ) (none made text shown : List ℕ) → none ≡ [] → made ≡ none ++ text → shown ≡ made → IsFigure events a b text
-    → r ≡ s → IsCorrectReordering s.events events → Shows s.events events a b → IsDrawn r a b shown
-drawn_of r s events a b none made text shown e f g figure same reordering shows = record {
+    (r t : Recording) (events : List ℕ) (a b : ℕ) (none made text shown : List ℕ) → none ≡ [] → made ≡ none ++ text → shown ≡ made → IsFigure t events a b text
+    → t ≡ r → IsCorrectReordering r.events events → Shows r.events events a b → IsDrawn r a b shown
+drawn_of r t events a b none made text shown e f g figure same reordering shows = record {
   events = events;
-  reordering = rw same reordering;
-  shows = rw same shows;
-  figure = rw (g ∙ (f ∙ ap (λ (xs : List ℕ). xs ++ text) e)) figure;
+  reordering = reordering;
+  shows = shows;
+  figure = subst (λ (s : Recording). IsFigure s events a b shown) same (rw (g ∙ (f ∙ ap (λ (xs : List ℕ). xs ++ text) e)) figure);
 }
 
 -- a test that fails refutes what it decides

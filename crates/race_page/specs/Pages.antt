@@ -38,12 +38,12 @@ pub data IsPiece : List ℕ → Type 0 where
   piece : (p m : List ℕ) → IsPiece p → IsPiece m → IsPiece (m ++ p)
 
 -- The text draws a schedule of the trace, a correct reordering that shows the pair. The description of the figure lists
--- its events if there are at most 2,000, and else counts them.
+-- its events if there are at most 2,000, and else counts them. Its shapes are those of the schedule.
 pub record IsDrawn (r : Recording) (a b : ℕ) (text : List ℕ) : Type 0 where
   pub events : List ℕ
   pub reordering : IsCorrectReordering r.events events
   pub shows : Shows r.events events a b
-  pub figure : IsFigure events a b text
+  pub figure : IsFigure r events a b text
 
 -- what contracts see of a page that is being written
 pub record Made : Type 0 where

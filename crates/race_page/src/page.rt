@@ -127,7 +127,7 @@ impl<'a> Page<'a> {
     {
         let mut figure = Vec::new(*self.text.allocator());
         figure_text(
-            self.analysis.indexed(),
+            self.analysis,
             events,
             shown.first,
             shown.second,

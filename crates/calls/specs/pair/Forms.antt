@@ -17,4 +17,4 @@ lines_form Svg = None
 
 -- the text prints the schedule in this form
 abbrev pub IsPrinted : Recording → List ℕ → ℕ → ℕ → Form → List ℕ → Type 0
-IsPrinted r P a b form text = MatchOption (lines_form form) (IsPicture P a b text) (λ lines. text ≡ witness_lines r P a b lines)
+IsPrinted r P a b form text = MatchOption (lines_form form) (IsPicture r P a b text) (λ lines. text ≡ witness_lines r P a b lines)

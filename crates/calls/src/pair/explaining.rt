@@ -20,28 +20,6 @@ use must_order::Analysis;
 use rapid_text::OutOfMemory;
 use std::alloc::Global;
 
-/// What is found of a conflicting pair; `first` is the earlier event.
-pub(crate) fn finding_of(
-    alloc: Global,
-    indexed: &Indexed,
-    first: u32,
-    second: u32,
-) -> Result<Finding, OutOfMemory>
-    requires first { first < length indexed.now.events }
-    requires second { second < length indexed.now.events }
-    ensures finding { IfOk result (IsFinding indexed.now first second) }
-    ensures never { IfOk result (IsNeverShown indexed.now.events first second) }
-{
-    match Analysis::new(alloc, indexed) {
-        Ok(analysis) => {
-            let found = find(alloc, &analysis, first, second);
-            drop(analysis);
-            found
-        }
-        Err(refused) => Err(refused),
-    }
-}
-
 /// Appends the text of a finding on the pair, whose earlier event comes first.
 fn append_finding(
     text: &mut Vec<u8>,

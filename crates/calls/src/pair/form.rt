@@ -3,9 +3,9 @@ ghost use Rattle.std.specs.Prelude.{◌≡◌, ◌<◌, length, All};
 ghost use Rattle.calls.specs.pair.Forms.{IsPrinted, lines_form};
 ghost use Rattle.rapid_text.specs.Appended.{AppendedOne};
 
-use event_index::Indexed;
 use explain_report::picture::picture_text;
 use explain_report::{Form as LinesForm, witness_text};
+use must_order::Analysis;
 use rapid_text::OutOfMemory;
 
 /// The form in which a schedule is printed.
@@ -36,20 +36,21 @@ fn lines_form_of(form: Form) -> Option<LinesForm>
 /// Appends the schedule with these events, which shows the pair, in this form.
 pub(crate) fn append_schedule(
     text: &mut Vec<u8>,
-    indexed: &Indexed,
+    analysis: &Analysis<'_>,
     events: &[u32],
     first: u32,
     second: u32,
     form: Form,
 ) -> Result<(), OutOfMemory>
-    requires events { All (λ e. e < length indexed.now.events) events.now }
-    requires first { first < length indexed.now.events }
-    requires second { second < length indexed.now.events }
-    ensures { AppendedOne result text.old text.new (IsPrinted indexed.now events.now first second form) }
+    requires events { All (λ e. e < length analysis.now.events) events.now }
+    requires first { first < length analysis.now.events }
+    requires second { second < length analysis.now.events }
+    ensures { AppendedOne result text.old text.new (IsPrinted analysis.now events.now first second form) }
 {
+    let indexed = analysis.indexed();
     match lines_form_of(form) {
         Some(lines) => witness_text(indexed, events, first, second, lines, text)?,
-        None => picture_text(indexed, events, first, second, text)?,
+        None => picture_text(analysis, events, first, second, text)?,
     }
     Ok(())
 }

@@ -8,32 +8,31 @@ ghost use Rattle.calls.specs.pair.Named.{IsNamedPair};
 ghost use Rattle.calls.specs.pair.Answers.{IsUnwitnessed, IsWitness, IsWitnessed, IsWritten, IsListed, IsUnlisted};
 ghost use Rattle.calls.specs.declared.pair.fault.PairFault.TheVariants.{Replay};
 
-use crate::pair::explaining::finding_of;
 use crate::pair::fault::PairFault;
 use crate::pair::form::{Form, append_schedule};
 use crate::pair::naming::named_pair;
 use crate::pair::writing::write_text;
 use client_scripts::{Sink, Source, read_trace};
 use event_index::{EventList, Indexed};
-use explain_report::findings::Finding;
+use explain_report::findings::{Finding, find};
 use explain_report::places::Name;
-use must_order::Kind;
+use must_order::{Analysis, Kind};
 use std::alloc::Global;
 
 /// The schedule that shows a conflicting pair; `first` is the earlier event.
 fn schedule_of(
     alloc: Global,
-    indexed: &Indexed,
+    analysis: &Analysis<'_>,
     first: u32,
     second: u32,
 ) -> Result<EventList, PairFault>
-    requires first { first < length indexed.now.events }
-    requires second { second < length indexed.now.events }
-    requires conflict { IsConflicting indexed.now.events first second }
-    ensures listed { IfOk result (IsListed indexed.now first second) }
-    ensures unlisted { IfErr result (IsUnlisted indexed.now first second) }
+    requires first { first < length analysis.now.events }
+    requires second { second < length analysis.now.events }
+    requires conflict { IsConflicting analysis.now.events first second }
+    ensures listed { IfOk result (IsListed analysis.now first second) }
+    ensures unlisted { IfErr result (IsUnlisted analysis.now first second) }
 {
-    match finding_of(alloc, indexed, first, second)? {
+    match find(alloc, analysis, first, second)? {
         Finding::Race { how: _, events } => Ok(events),
         Finding::Forced { chains: _ } => Err(PairFault::NotShown(Kind::Forced)),
         Finding::Guarded { lock: _ } => Err(PairFault::NotShown(Kind::Guarded)),
@@ -44,27 +43,49 @@ fn schedule_of(
 /// The text of the schedule that shows this pair, which the two names mean.
 fn witness_of_pair(
     alloc: Global,
-    indexed: &Indexed,
+    analysis: &Analysis<'_>,
     _one: Name<'_>,
     _other: Name<'_>,
     pair: (u32, u32),
     form: Form,
 ) -> Result<Vec<u8>, PairFault>
-    requires named { IsNamedPair indexed.now _one _other pair.0 pair.1 }
-    requires first { pair.0 < length indexed.now.events }
-    requires second { pair.1 < length indexed.now.events }
-    requires conflict { IsConflicting indexed.now.events pair.0 pair.1 }
-    ensures text { IfOk result (λ text. IsWitness indexed.now _one.entry _other.entry form text.items) }
-    ensures fault { IfErr result (IsUnwitnessed indexed.now _one.entry _other.entry) }
+    requires named { IsNamedPair analysis.now _one _other pair.0 pair.1 }
+    requires first { pair.0 < length analysis.now.events }
+    requires second { pair.1 < length analysis.now.events }
+    requires conflict { IsConflicting analysis.now.events pair.0 pair.1 }
+    ensures text { IfOk result (λ text. IsWitness analysis.now _one.entry _other.entry form text.items) }
+    ensures fault { IfErr result (IsUnwitnessed analysis.now _one.entry _other.entry) }
 {
     let (first, second) = pair;
-    let events = match schedule_of(alloc, indexed, first, second) {
+    let events = match schedule_of(alloc, analysis, first, second) {
         Ok(events) => events,
         Err(fault) => return Err(fault),
     };
     let mut text = Vec::new(alloc);
-    append_schedule(&mut text, indexed, events.items(), first, second, form)?;
+    append_schedule(&mut text, analysis, events.items(), first, second, form)?;
     Ok(text)
+}
+
+/// Computes the orders of the trace, and makes the text of the schedule that shows this pair.
+fn witness_by_orders(
+    alloc: Global,
+    indexed: &Indexed,
+    one: Name<'_>,
+    other: Name<'_>,
+    pair: (u32, u32),
+    form: Form,
+) -> Result<Vec<u8>, PairFault>
+    requires named { IsNamedPair indexed.now one other pair.0 pair.1 }
+    requires first { pair.0 < length indexed.now.events }
+    requires second { pair.1 < length indexed.now.events }
+    requires conflict { IsConflicting indexed.now.events pair.0 pair.1 }
+    ensures text { IfOk result (λ text. IsWitness indexed.now one.entry other.entry form text.items) }
+    ensures fault { IfErr result (IsUnwitnessed indexed.now one.entry other.entry) }
+{
+    match Analysis::new(alloc, indexed) {
+        Ok(analysis) => witness_of_pair(alloc, &analysis, one, other, pair, form),
+        Err(refused) => Err(PairFault::from(refused)),
+    }
 }
 
 /// Finds the pair that the two names mean, and makes the text of the schedule that shows it.
@@ -79,7 +100,7 @@ fn witness_of(
     ensures fault { IfErr result (IsUnwitnessed indexed.now one.entry other.entry) }
 {
     match named_pair(alloc, indexed, one, other) {
-        Ok(Some(pair)) => witness_of_pair(alloc, indexed, one, other, pair, form),
+        Ok(Some(pair)) => witness_by_orders(alloc, indexed, one, other, pair, form),
         Ok(None) => Err(PairFault::NoSuchPair),
         Err(refused) => Err(PairFault::from(refused)),
     }

@@ -1,5 +1,7 @@
 -- What a picture is, and the content of its words. All notions here are this project's own.
 use Rattle.std.specs.Prelude.{◌≡◌, ℕ, List, [], ◌++◌, cond, length, nat_le, flat_map, codes, decimal}
+use Rattle.rapid_text.specs.Recording.{Recording}
+use Rattle.explain_report.specs.picture.Boxes.{AreOf}
 use Rattle.explain_report.specs.picture.Shapes.{AreShapes, attribute_text, point_text}
 use Rattle.explain_report.specs.declared.picture.style.TheConstants.{STYLE}
 
@@ -42,8 +44,8 @@ abbrev pub drawn_text : List ℕ → List ℕ
 drawn_text shapes = codes "<rect class=\"paper\" width=\"100%\" height=\"100%\"/>\n" ++ shapes ++ codes "</svg>\n"
 
 -- The text is a picture of the schedule P, which shows the pair: it has this title, this description, this style, and
--- shapes. Which shapes there are, and where, is presentation.
-pub record IsStyled (style P : List ℕ) (a b : ℕ) (text : List ℕ) : Type 0 where
+-- the shapes of that schedule. Where they stand is presentation.
+pub record IsStyled (r : Recording) (style P : List ℕ) (a b : ℕ) (text : List ℕ) : Type 0 where
   pub width : ℕ
   pub height : ℕ
   pub shown_width : ℕ
@@ -51,11 +53,12 @@ pub record IsStyled (style P : List ℕ) (a b : ℕ) (text : List ℕ) : Type 0 
   pub shapes : List ℕ
   pub printed : text ≡ root_text width height shown_width shown_height ++ described P a b ++ style ++ drawn_text shapes
   pub drawn : AreShapes shapes
+  pub told : AreOf r P a b shapes
 
 -- a picture that is a separate file, with the style of pictures
-abbrev pub IsPicture : List ℕ → ℕ → ℕ → List ℕ → Type 0
-IsPicture P a b text = IsStyled STYLE.now P a b text
+abbrev pub IsPicture : Recording → List ℕ → ℕ → ℕ → List ℕ → Type 0
+IsPicture r P a b text = IsStyled r STYLE.now P a b text
 
 -- the same without a style, for a page that has the style itself
-abbrev pub IsFigure : List ℕ → ℕ → ℕ → List ℕ → Type 0
-IsFigure P a b text = IsStyled [] P a b text
+abbrev pub IsFigure : Recording → List ℕ → ℕ → ℕ → List ℕ → Type 0
+IsFigure r P a b text = IsStyled r [] P a b text

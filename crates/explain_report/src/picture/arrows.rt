@@ -1,4 +1,6 @@
 //! Draws the arrows from a run to the event that waits for it.
+ghost use Rattle.explain_report.specs.picture.Boxes.{Drew, IsArrow, Many};
+
 use crate::event_lines::thread_of;
 use crate::picture::canvas::Canvas;
 use crate::picture::columns::Columns;
@@ -17,16 +19,41 @@ pub(crate) fn draw_arrows(
     columns: &Columns,
     list: &[u32],
     placed: &[Placed],
-) -> Result<(), OutOfMemory> {
+) -> Result<(), OutOfMemory>
+    ensures { Drew result canvas.old canvas.new (Many IsArrow) }
+{
     for from in placed {
-        if let Some(waiter) = from.waiter {
-            let thread = thread_of(indexed, waiter);
-            if let Some(to) = waiting_run(list, placed, from, thread, waiter) {
-                draw_arrow(canvas, columns, from, to)?;
-            }
-        }
+        let to = pointed_at(indexed, list, placed, from);
+        draw_if(canvas, columns, from, to)?;
     }
     Ok(())
+}
+
+/// Draws an arrow to this box, if there is one.
+fn draw_if(
+    canvas: &mut Canvas,
+    columns: &Columns,
+    from: &Placed,
+    to: Option<&Placed>,
+) -> Result<(), OutOfMemory>
+    ensures { Drew result canvas.old canvas.new (Many IsArrow) }
+{
+    if let Some(to) = to {
+        draw_arrow(canvas, columns, from, to)?;
+    }
+    Ok(())
+}
+
+/// The first later run that has the event which waits for this run.
+fn pointed_at<'a>(
+    indexed: &Indexed,
+    list: &[u32],
+    placed: &'a [Placed],
+    from: &Placed,
+) -> Option<&'a Placed> {
+    let waiter = from.waiter?;
+    let thread = thread_of(indexed, waiter);
+    waiting_run(list, placed, from, thread, waiter)
 }
 
 /// The first later run of the thread that has the event.
@@ -61,7 +88,9 @@ fn draw_arrow(
     columns: &Columns,
     from: &Placed,
     to: &Placed,
-) -> Result<(), OutOfMemory> {
+) -> Result<(), OutOfMemory>
+    ensures { Drew result canvas.old canvas.new IsArrow }
+{
     let from_left = columns.left(from.run.thread);
     let to_left = columns.left(to.run.thread);
     let start = from.top.saturating_add(from.height);
@@ -76,5 +105,6 @@ fn draw_arrow(
         below: start.saturating_add(BEND),
         to: (to_x, to.top),
         above: to.top.saturating_sub(BEND),
-    })
+    })?;
+    Ok(())
 }

@@ -1,5 +1,6 @@
 //! The canvas of a drawing. It accepts only shapes, so a function that draws cannot write markup.
-ghost use Rattle.std.specs.Prelude.{◌≡◌};
+ghost use Rattle.std.specs.Prelude.{◌≡◌, []};
+ghost use Rattle.explain_report.specs.picture.Boxes.{Drew, IsArrow, IsRect, IsWhole};
 ghost use Rattle.explain_report.specs.picture.Shapes.{AreShapes};
 
 use crate::picture::class::Class;
@@ -27,7 +28,9 @@ impl Model for Canvas {
 
 impl Canvas {
     /// An empty canvas.
-    pub(crate) fn new(alloc: Global) -> Canvas {
+    pub(crate) fn new(alloc: Global) -> Canvas
+        ensures { result ≡ [] }
+    {
         Canvas {
             text: Vec::new(alloc),
         }
@@ -54,7 +57,9 @@ impl Canvas {
         top: u64,
         width: u64,
         height: u64,
-    ) -> Result<(), OutOfMemory> {
+    ) -> Result<(), OutOfMemory>
+        ensures { Drew result self.old self.new (IsRect class) }
+    {
         let mut shape = Vec::new(self.allocator());
         append_rect(&mut shape, class, left, top, width, height)?;
         self.text.extend_from_slice(shape.as_slice())?;
@@ -68,7 +73,9 @@ impl Canvas {
         left: u64,
         base: u64,
         text: &[u8],
-    ) -> Result<(), OutOfMemory> {
+    ) -> Result<(), OutOfMemory>
+        ensures { Drew result self.old self.new (IsWhole class text.now) }
+    {
         let mut shape = Vec::new(self.allocator());
         append_line(&mut shape, class, left, base, text)?;
         self.text.extend_from_slice(shape.as_slice())?;
@@ -76,7 +83,9 @@ impl Canvas {
     }
 
     /// Draws an arrow.
-    pub(crate) fn arrow(&mut self, arrow: Arrow) -> Result<(), OutOfMemory> {
+    pub(crate) fn arrow(&mut self, arrow: Arrow) -> Result<(), OutOfMemory>
+        ensures { Drew result self.old self.new IsArrow }
+    {
         let mut shape = Vec::new(self.allocator());
         append_arrow(&mut shape, arrow)?;
         self.text.extend_from_slice(shape.as_slice())?;

@@ -1,8 +1,13 @@
 //! Chooses the runs that a picture draws one by one: all of a few; of many the last ones, and the last that those
 //! waited for.
+ghost use Rattle.std.specs.Prelude.{◌≡◌, ◌<◌, ◌≤◌, IfOk, Some, length, slice_get, true};
+ghost use Rattle.explain_report.specs.picture.Boxes.{AreChosen};
+ghost use Rattle.explain_report.specs.picture.Placing.{KeepsFrom};
+
 use crate::Run;
 use event_index::Indexed;
 use rapid_text::OutOfMemory;
+use std::alloc::Global;
 
 /// The most runs that are drawn one by one.
 pub(crate) const MOST_RUNS: usize = 40;
@@ -10,57 +15,61 @@ pub(crate) const MOST_RUNS: usize = 40;
 /// If there are more runs, this many of the last ones are drawn.
 const LAST_RUNS: usize = 20;
 
-/// Appends for each run whether it is drawn one by one.
-pub(crate) fn choose_runs(
-    shown: &mut Vec<bool>,
+/// For each run, whether it is drawn one by one.
+pub(crate) fn chosen_runs(
+    alloc: Global,
     indexed: &Indexed,
     list: &[u32],
     runs: &[Run],
     waiters: &[Option<u32>],
-) -> Result<(), OutOfMemory> {
-    if runs.len() <= MOST_RUNS {
-        shown.resize(runs.len(), true)?;
-        return Ok(());
+) -> Result<Vec<bool>, OutOfMemory>
+    ensures { IfOk result (λ shown. AreChosen (length runs.now) shown.items) }
+{
+    let mut shown = vec![in alloc; true; runs.len()]?;
+    if runs.len() > MOST_RUNS {
+        let last = runs.len() - LAST_RUNS;
+        let late = late_events(alloc, indexed, list, runs.get(last).copied())?;
+        choose_earlier(&mut shown, late.as_slice(), runs, waiters, last);
     }
-    let alloc = *shown.allocator();
-    let last = runs.len().saturating_sub(LAST_RUNS);
-    let mut late = vec![in alloc; false; indexed.len() as usize]?;
-    note_late(&mut late, list, runs, last);
-    shown.resize(last, false)?;
-    shown.resize(runs.len(), true)?;
-    choose_earlier(shown, &late, runs, waiters, last);
-    Ok(())
+    Ok(shown)
 }
 
-/// Marks the events of the runs from run `last` on.
-fn note_late(late: &mut Vec<bool>, list: &[u32], runs: &[Run], last: usize) {
-    let start = match runs.get(last) {
-        Some(run) => run.start as usize,
-        None => list.len(),
-    };
-    for event in list.iter().skip(start) {
-        if let Some(is_late) = late.get_mut(*event as usize) {
-            *is_late = true;
+/// For each event, whether it is in this run or a later one.
+fn late_events(
+    alloc: Global,
+    indexed: &Indexed,
+    list: &[u32],
+    run: Option<Run>,
+) -> Result<Vec<bool>, OutOfMemory> {
+    let mut late = vec![in alloc; false; indexed.len() as usize]?;
+    if let Some(run) = run {
+        for event in list.iter().skip(run.start as usize) {
+            if let Some(is_late) = late.get_mut(*event as usize) {
+                *is_late = true;
+            }
         }
     }
+    Ok(late)
 }
 
-/// Chooses the last runs before run `last` for which a marked event waits.
+/// Of the runs before run `last`, keeps the last ones for which a late event waits.
 fn choose_earlier(
     shown: &mut Vec<bool>,
     late: &[bool],
     runs: &[Run],
     waiters: &[Option<u32>],
     last: usize,
-) {
-    let mut left = MOST_RUNS.saturating_sub(LAST_RUNS);
+)
+    requires { last ≤ length shown.old.items }
+    ensures { KeepsFrom last shown.old.items shown.new.items }
+{
+    let mut left = MOST_RUNS - LAST_RUNS;
     for step in 0..last {
-        let at = last.saturating_sub(step).saturating_sub(1);
-        if left > 0 && is_waited_for(runs.get(at).copied(), late, waiters) {
-            left = left.saturating_sub(1);
-            if let Some(is_shown) = shown.get_mut(at) {
-                *is_shown = true;
-            }
+        let at = last - step - 1;
+        let is_shown = left > 0 && is_waited_for(runs.get(at).copied(), late, waiters);
+        shown[at] = is_shown;
+        if is_shown {
+            left -= 1;
         }
     }
 }

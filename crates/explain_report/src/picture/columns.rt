@@ -24,33 +24,27 @@ pub(crate) struct Columns {
     places: Vec<Option<u32>>,
 }
 
+/// A column for each of the two threads of the pair, and then for each thread of a run that is drawn.
+pub(crate) fn columns_of(
+    alloc: Global,
+    indexed: &Indexed,
+    placed: &[Placed],
+    first: u32,
+    second: u32,
+) -> Result<Columns, OutOfMemory> {
+    let mut columns = Columns {
+        threads: Vec::new(alloc),
+        places: vec![in alloc; None; indexed.threads() as usize]?,
+    };
+    columns.add_of(indexed, first)?;
+    columns.add_of(indexed, second)?;
+    for one in placed {
+        columns.add(one.run.thread)?;
+    }
+    Ok(columns)
+}
+
 impl Columns {
-    /// No columns.
-    pub(crate) fn new(alloc: Global) -> Columns {
-        Columns {
-            threads: Vec::new(alloc),
-            places: Vec::new(alloc),
-        }
-    }
-
-    /// Gives a column to the two threads of the pair, and then to each thread of a run that is drawn.
-    pub(crate) fn fill(
-        &mut self,
-        indexed: &Indexed,
-        placed: &[Placed],
-        first: u32,
-        second: u32,
-    ) -> Result<(), OutOfMemory> {
-        let count = indexed.trace().raw().threads() as usize;
-        self.places.resize(count, None)?;
-        self.add_of(indexed, first)?;
-        self.add_of(indexed, second)?;
-        for box_of_run in placed {
-            self.add(box_of_run.run.thread)?;
-        }
-        Ok(())
-    }
-
     /// Gives the event's thread a column, unless it has one.
     fn add_of(&mut self, indexed: &Indexed, event: u32) -> Result<(), OutOfMemory> {
         match thread_of(indexed, event) {

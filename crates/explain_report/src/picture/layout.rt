@@ -1,5 +1,10 @@
 //! The positions of boxes.
+ghost use Rattle.std.specs.Prelude.{◌≡◌, ◌++◌, OnOk, false, map, slice_index_or};
+ghost use Rattle.explain_report.specs.picture.Boxes.{box_if, boxes_after, told_of};
+ghost use Rattle.explain_report.specs.picture.Placing.{box_of};
+
 use crate::Run;
+use crate::run_lines::{event_total, waiter_at};
 use rapid_text::OutOfMemory;
 
 /// The width of a box.
@@ -53,39 +58,57 @@ pub(crate) fn place_runs(
     shown: &[bool],
     waiters: &[Option<u32>],
     top: u64,
-) -> Result<(), OutOfMemory> {
+) -> Result<(), OutOfMemory>
+    ensures { OnOk result (map box_of all.new.items ≡ map box_of all.old.items ++ boxes_after waiters.now shown.now 0 runs.now) }
+{
     let mut next = top;
-    let mut number = 0u64;
-    for run in runs {
-        let is_shown = shown.get(number as usize).copied().unwrap_or(false);
-        number = number.saturating_add(1);
-        if is_shown {
-            let placed = placed_at(*run, number, waiters, next);
-            next = next.saturating_add(placed.height).saturating_add(GAP);
-            all.push(placed)?;
-        }
+    for at in 0..runs.len() {
+        let placed = placed_at(runs[at], at as u64 + 1, waiters, next);
+        next = place_run(all, placed, is_drawn(shown, at))?;
     }
     Ok(())
 }
 
+/// Appends the box, if its run is drawn. Returns the top of the next box.
+fn place_run(all: &mut Vec<Placed>, placed: Placed, is_drawn: bool) -> Result<u64, OutOfMemory>
+    ensures { OnOk result (map box_of all.new.items ≡ map box_of all.old.items ++ box_if is_drawn (box_of placed)) }
+{
+    let mut next = placed.top;
+    if is_drawn {
+        all.push(placed)?;
+        next = next.saturating_add(placed.height).saturating_add(GAP);
+    }
+    Ok(next)
+}
+
+/// Whether the run at this index is drawn one by one.
+fn is_drawn(shown: &[bool], at: usize) -> bool
+    ensures { result ≡ slice_index_or shown.now at false }
+{
+    match shown.get(at) {
+        Some(is_shown) => *is_shown,
+        None => false,
+    }
+}
+
 /// The box of a run, whose top is at `top`.
-fn placed_at(run: Run, number: u64, waiters: &[Option<u32>], top: u64) -> Placed {
-    let last = run.end.saturating_sub(1);
-    let waiter = waiters.get(last as usize).copied().flatten();
-    let mut lines = 2u64;
-    if run.end.saturating_sub(run.start) > 1 {
-        lines = 3;
-    }
-    if waiter.is_some() {
-        lines = lines.saturating_add(1);
-    }
+fn placed_at(run: Run, number: u64, waiters: &[Option<u32>], top: u64) -> Placed
+    ensures { box_of result ≡ told_of number run waiters.now }
+{
+    let waiter = waiter_at(waiters, run.end.saturating_sub(1));
     Placed {
         run,
         number,
         waiter,
         top,
-        height: height_of(lines),
+        height: height_of(lines_of(run, waiter)),
     }
+}
+
+/// The number of lines in the box of the run.
+fn lines_of(run: Run, waiter: Option<u32>) -> u64 {
+    let events = if event_total(run) > 1 { 3 } else { 2 };
+    if waiter.is_some() { events + 1 } else { events }
 }
 
 /// The end of the last box and the free space below it; `top` if there is no box.

@@ -1,7 +1,8 @@
 //! Words and numbers of a line, and the end of a line that is too long.
-ghost use Rattle.std.specs.Prelude.{◌≤◌, length, decimal};
+ghost use Rattle.std.specs.Prelude.{◌≡◌, ◌≤◌, ◌<◌, length, take, decimal};
+ghost use Rattle.explain_report.specs.picture.Boxes.{IsCut};
 ghost use Rattle.explain_report.specs.picture.Pieces.{piece_text, pieces_text};
-ghost use Rattle.rapid_text.specs.Appended.{Appended};
+ghost use Rattle.rapid_text.specs.Appended.{Appended, AppendedOne};
 
 use itoa::Buffer;
 use rapid_text::OutOfMemory;
@@ -11,6 +12,9 @@ const MOST_BYTES: usize = 46;
 
 /// The number of bytes that are kept of a longer line, before the ellipsis.
 const KEPT_BYTES: usize = 45;
+
+/// The least number of bytes that are kept. A character of UTF-8 has at most four bytes.
+const LEAST_BYTES: usize = 42;
 
 /// A piece of a text.
 #[derive(Clone, Copy)]
@@ -57,33 +61,52 @@ fn append_number(out: &mut Vec<u8>, number: u64) -> Result<(), OutOfMemory>
     Ok(())
 }
 
-/// The ending of a noun for this number of things.
-pub(crate) fn plural_of(number: u64) -> &'static [u8] {
-    if number == 1 { b"" } else { b"s" }
+/// Appends a text. If it is longer than a line, it is cut and ends with an ellipsis.
+pub(crate) fn append_cut(out: &mut Vec<u8>, text: &[u8]) -> Result<(), OutOfMemory>
+    ensures { AppendedOne result out.old out.new (IsCut text.now) }
+{
+    let count = text.len();
+    if count <= MOST_BYTES {
+        append_words(out, text)?;
+    } else {
+        append_begun(out, text)?;
+    }
+    Ok(())
 }
 
-/// Appends a text. If it is longer than a line, it is cut and ends with an ellipsis.
-pub(crate) fn append_cut(out: &mut Vec<u8>, text: &[u8]) -> Result<(), OutOfMemory> {
-    if text.len() <= MOST_BYTES {
-        append_words(out, text)
-    } else {
-        append_words(out, &text[..cut_at(text)])?;
-        append_words(out, "…".as_bytes())
-    }
+/// Appends the beginning of a long text, and an ellipsis.
+fn append_begun(out: &mut Vec<u8>, text: &[u8]) -> Result<(), OutOfMemory>
+    requires { 46 < length text.now }
+    ensures { AppendedOne result out.old out.new (IsCut text.now) }
+{
+    let count = cut_at(text);
+    append_words(out, begin_of(text, count))?;
+    append_words(out, b"\xE2\x80\xA6")?;
+    Ok(())
+}
+
+/// The first `count` bytes.
+fn begin_of(text: &[u8], count: usize) -> &[u8]
+    requires { count ≤ length text.now }
+    ensures { result.now ≡ take count text.now }
+{
+    &text[..count]
 }
 
 /// The index at which a long text is cut: not within a character, if the text is UTF-8.
 fn cut_at(text: &[u8]) -> usize
-    ensures { result ≤ length text.now }
+    requires { 46 < length text.now }
+    ensures least { 42 ≤ result }
+    ensures most { result ≤ 45 }
 {
-    let mut at = KEPT_BYTES.min(text.len());
+    let mut at = KEPT_BYTES;
     for _step in 0..3 {
-        if !is_within_character(text, at) {
+        if at <= LEAST_BYTES || !is_within_character(text, at) {
             break;
         }
-        at = at.saturating_sub(1);
+        at -= 1;
     }
-    at.min(text.len())
+    at
 }
 
 /// Whether the byte at this index continues a character.

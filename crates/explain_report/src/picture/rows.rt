@@ -1,12 +1,19 @@
 //! The boxes of runs.
+ghost use Rattle.std.specs.Prelude.{◌≡◌, ◌-◌, nat_lt, slice_get};
+ghost use Rattle.explain_report.specs.RunTexts.{event_total};
+ghost use Rattle.explain_report.specs.picture.Boxes.{AreLines, Drew, If, IsEarlier, IsEarlierEvents, IsEarlierRuns, IsEvent, IsLine, IsReason, IsRect, IsRunBox, count_words, label_words, reason_words};
+ghost use Rattle.explain_report.specs.declared.picture.class.Class.TheVariants.{Note};
+ghost use Rattle.explain_report.specs.picture.Placing.{box_of};
+
+use crate::Run;
 use crate::picture::canvas::Canvas;
 use crate::picture::class::Class;
 use crate::picture::columns::{Columns, MARGIN};
-use crate::picture::labels::{draw_line, name_in, thread_name, word_of};
+use crate::picture::labels::{append_label, append_reason, append_run_words, draw_line};
 use crate::picture::layout::{BOX, GAP, INDENT, Placed, TOP, base_of, height_of};
-use crate::picture::pieces::{Piece, append_pieces, plural_of};
 use crate::picture::shades::{Held, draw_bar};
-use crate::{Run, words_between};
+use crate::pieces::{append_count, append_words};
+use crate::run_lines::event_total;
 use event_index::Indexed;
 use rapid_text::OutOfMemory;
 
@@ -17,8 +24,11 @@ pub(crate) fn draw_box(
     left: u64,
     top: u64,
     height: u64,
-) -> Result<(), OutOfMemory> {
-    canvas.rect(class, left, top, BOX, height)
+) -> Result<(), OutOfMemory>
+    ensures { Drew result canvas.old canvas.new (IsRect class) }
+{
+    canvas.rect(class, left, top, BOX, height)?;
+    Ok(())
 }
 
 /// A line of a box: the position of the box, and the number of the line, counted from 0.
@@ -30,31 +40,17 @@ pub(crate) struct BoxLine {
 }
 
 /// Draws a line of a box.
-fn draw_box_line(
+pub(crate) fn draw_box_line(
     canvas: &mut Canvas,
     class: Class,
     at: BoxLine,
     text: &[u8],
-) -> Result<(), OutOfMemory> {
-    draw_line(
-        canvas,
-        class,
-        at.left.saturating_add(INDENT),
-        base_of(at.top, at.line),
-        text,
-    )
-}
-
-/// Draws a line of a box with these pieces.
-pub(crate) fn draw_pieces(
-    canvas: &mut Canvas,
-    class: Class,
-    at: BoxLine,
-    pieces: &[Piece<'_>],
-) -> Result<(), OutOfMemory> {
-    let mut text = Vec::new(canvas.allocator());
-    append_pieces(&mut text, pieces)?;
-    draw_box_line(canvas, class, at, &text)
+) -> Result<(), OutOfMemory>
+    ensures { Drew result canvas.old canvas.new (IsLine class text.now) }
+{
+    let left = at.left.saturating_add(INDENT);
+    draw_line(canvas, class, left, base_of(at.top, at.line), text)?;
+    Ok(())
 }
 
 /// Draws the box of a run: its number of events, its first, its last, and the event of another thread that waits for
@@ -66,13 +62,34 @@ pub(crate) fn draw_run(
     list: &[u32],
     held: &Held,
     placed: &Placed,
-) -> Result<(), OutOfMemory> {
+) -> Result<(), OutOfMemory>
+    ensures { Drew result canvas.old canvas.new (IsRunBox indexed.now list.now (box_of placed.now)) }
+{
     let left = columns.left(placed.run.thread);
-    let top = placed.top;
-    draw_box(canvas, Class::Run, left, top, placed.height)?;
+    draw_box(canvas, Class::Run, left, placed.top, placed.height)?;
     draw_bar(canvas, left, placed, held)?;
+    draw_lines(canvas, indexed, list, placed, left)?;
+    Ok(())
+}
+
+/// Draws the lines of the box.
+fn draw_lines(
+    canvas: &mut Canvas,
+    indexed: &Indexed,
+    list: &[u32],
+    placed: &Placed,
+    left: u64,
+) -> Result<(), OutOfMemory>
+    ensures { Drew result canvas.old canvas.new (AreLines indexed.now list.now (box_of placed.now)) }
+{
     draw_count(canvas, indexed, placed, left)?;
-    draw_ends(canvas, indexed, list, placed, left)
+    draw_first(canvas, indexed, list, placed, left)?;
+    let last = last_of(list, placed);
+    let line = last_line_of(placed);
+    draw_event(canvas, indexed, last, line_of(placed, left, line))?;
+    let at = line_of(placed, left, line.saturating_add(1));
+    draw_reason(canvas, indexed, last, placed.waiter, at)?;
+    Ok(())
 }
 
 /// Draws the line with the number of the run, its number of events, and its thread.
@@ -81,48 +98,55 @@ fn draw_count(
     indexed: &Indexed,
     placed: &Placed,
     left: u64,
-) -> Result<(), OutOfMemory> {
-    let count = u64::from(count_of(&placed.run));
-    draw_pieces(
+) -> Result<(), OutOfMemory>
+    ensures { Drew result canvas.old canvas.new (IsLine Note (count_words indexed.now placed.now.number placed.now.run)) }
+{
+    let mut text = Vec::new(canvas.allocator());
+    append_run_words(&mut text, indexed, placed.number, placed.run)?;
+    draw_box_line(
         canvas,
         Class::Note,
         line_of(placed, left, 0),
-        &[
-            Piece::Words(b"run "),
-            Piece::Number(placed.number),
-            Piece::Words(b", "),
-            Piece::Number(count),
-            Piece::Words(b" event"),
-            Piece::Words(plural_of(count)),
-            Piece::Words(b" of "),
-            Piece::Words(thread_name(indexed, placed.run.thread)),
-        ],
-    )
+        text.as_slice(),
+    )?;
+    Ok(())
 }
 
-/// The number of events of the run.
-fn count_of(run: &Run) -> u32 {
-    run.end.saturating_sub(run.start)
-}
-
-/// Draws the lines for the first event of the run, unless it is the last too, for the last, and for the event that
-/// waits.
-fn draw_ends(
+/// Draws the line of the first event of the run, unless it is the last too.
+fn draw_first(
     canvas: &mut Canvas,
     indexed: &Indexed,
     list: &[u32],
     placed: &Placed,
     left: u64,
-) -> Result<(), OutOfMemory> {
-    let last = placed.run.end.saturating_sub(1);
-    let mut line = 1u64;
-    if count_of(&placed.run) > 1 {
-        let at = line_of(placed, left, line);
-        draw_event(canvas, indexed, list, placed.run.start, at)?;
-        line = 2;
+) -> Result<(), OutOfMemory>
+    ensures { Drew result canvas.old canvas.new (If (nat_lt 1 (event_total placed.now.run)) (IsEvent indexed.now (slice_get list.now placed.now.run.start))) }
+{
+    let count = event_total(placed.run);
+    if count > 1 {
+        let first = first_of(list, placed);
+        draw_event(canvas, indexed, first, line_of(placed, left, 1))?;
     }
-    draw_event(canvas, indexed, list, last, line_of(placed, left, line))?;
-    draw_waiter(canvas, indexed, list, placed, left, line.saturating_add(1))
+    Ok(())
+}
+
+/// The first event of the run.
+fn first_of(list: &[u32], placed: &Placed) -> Option<u32>
+    ensures { result ≡ slice_get list.now placed.now.run.start }
+{
+    list.get(placed.run.start as usize).copied()
+}
+
+/// The last event of the run.
+fn last_of(list: &[u32], placed: &Placed) -> Option<u32>
+    ensures { result ≡ slice_get list.now (placed.now.run.end - 1) }
+{
+    list.get(placed.run.end.saturating_sub(1) as usize).copied()
+}
+
+/// The number of the line of the last event.
+fn last_line_of(placed: &Placed) -> u64 {
+    if event_total(placed.run) > 1 { 2 } else { 1 }
 }
 
 /// A line of the box of a run.
@@ -134,16 +158,17 @@ fn line_of(placed: &Placed, left: u64, line: u64) -> BoxLine {
     }
 }
 
-/// Draws a line with the event at this index of the list.
+/// Draws a line with the event, if there is one.
 fn draw_event(
     canvas: &mut Canvas,
     indexed: &Indexed,
-    list: &[u32],
-    place: u32,
+    event: Option<u32>,
     at: BoxLine,
-) -> Result<(), OutOfMemory> {
-    match list.get(place as usize) {
-        Some(event) => draw_label(canvas, Class::Event, indexed, *event, at),
+) -> Result<(), OutOfMemory>
+    ensures { Drew result canvas.old canvas.new (IsEvent indexed.now event) }
+{
+    match event {
+        Some(event) => draw_label(canvas, Class::Event, indexed, event, at),
         None => Ok(()),
     }
 }
@@ -155,54 +180,45 @@ pub(crate) fn draw_label(
     indexed: &Indexed,
     event: u32,
     at: BoxLine,
-) -> Result<(), OutOfMemory> {
-    if event >= indexed.len() {
-        return draw_box_line(canvas, class, at, b"");
-    }
-    let raw = indexed.trace().raw();
-    let op = raw.event(event).op;
-    draw_pieces(
-        canvas,
-        class,
-        at,
-        &[
-            Piece::Number(u64::from(event)),
-            Piece::Words(b"  "),
-            Piece::Words(word_of(op)),
-            Piece::Words(b"("),
-            Piece::Words(name_in(raw, op)),
-            Piece::Words(b") "),
-            Piece::Words(raw.location(event)),
-        ],
-    )
+) -> Result<(), OutOfMemory>
+    ensures { Drew result canvas.old canvas.new (IsLine class (label_words indexed.now event)) }
+{
+    let mut text = Vec::new(canvas.allocator());
+    append_label(&mut text, indexed, event)?;
+    draw_box_line(canvas, class, at, text.as_slice())?;
+    Ok(())
 }
 
-/// Draws the line with the reason why an event of another thread waits for the run, if one does.
+/// Draws the line with the reason why the second event waits for the first, if there are two.
+fn draw_reason(
+    canvas: &mut Canvas,
+    indexed: &Indexed,
+    event: Option<u32>,
+    waiter: Option<u32>,
+    at: BoxLine,
+) -> Result<(), OutOfMemory>
+    ensures { Drew result canvas.old canvas.new (IsReason indexed.now event waiter) }
+{
+    match (event, waiter) {
+        (Some(first), Some(second)) => draw_waiter(canvas, indexed, first, second, at),
+        _ => Ok(()),
+    }
+}
+
+/// Draws the line with the reason why the second event waits for the first.
 fn draw_waiter(
     canvas: &mut Canvas,
     indexed: &Indexed,
-    list: &[u32],
-    placed: &Placed,
-    left: u64,
-    line: u64,
-) -> Result<(), OutOfMemory> {
-    let last = placed.run.end.saturating_sub(1);
-    let Some(event) = list.get(last as usize).copied() else {
-        return Ok(());
-    };
-    let Some(waiter) = placed.waiter else {
-        return Ok(());
-    };
-    draw_pieces(
-        canvas,
-        Class::Note,
-        line_of(placed, left, line),
-        &[
-            Piece::Words(words_between(indexed, event, waiter)),
-            Piece::Words(b" "),
-            Piece::Number(u64::from(waiter)),
-        ],
-    )
+    first: u32,
+    second: u32,
+    at: BoxLine,
+) -> Result<(), OutOfMemory>
+    ensures { Drew result canvas.old canvas.new (IsLine Note (reason_words indexed.now first second)) }
+{
+    let mut text = Vec::new(canvas.allocator());
+    append_reason(&mut text, indexed, first, second)?;
+    draw_box_line(canvas, Class::Note, at, text.as_slice())?;
+    Ok(())
 }
 
 /// Draws one box for the runs that are not drawn one by one: the number of these runs, of their threads and of their
@@ -212,33 +228,38 @@ pub(crate) fn draw_earlier(
     indexed: &Indexed,
     runs: &[Run],
     shown: &[bool],
-) -> Result<(), OutOfMemory> {
+) -> Result<(), OutOfMemory>
+    ensures { Drew result canvas.old canvas.new IsEarlier }
+{
     let alloc = canvas.allocator();
     let mut seen = vec![in alloc; false; indexed.trace().raw().threads() as usize]?;
     let earlier = earlier_of(runs, shown, &mut seen);
     draw_box(canvas, Class::Run, MARGIN, TOP, height_of(2))?;
-    draw_counted(
-        canvas,
-        0,
-        &[
-            Piece::Number(earlier.runs),
-            Piece::Words(b" earlier run"),
-            Piece::Words(plural_of(earlier.runs)),
-            Piece::Words(b" of "),
-            Piece::Number(earlier.threads),
-            Piece::Words(b" thread"),
-            Piece::Words(plural_of(earlier.threads)),
-        ],
-    )?;
-    draw_counted(
-        canvas,
-        1,
-        &[
-            Piece::Number(earlier.events),
-            Piece::Words(b" event"),
-            Piece::Words(plural_of(earlier.events)),
-        ],
-    )
+    draw_earlier_runs(canvas, earlier)?;
+    draw_earlier_events(canvas, earlier.events)?;
+    Ok(())
+}
+
+/// Draws the line with the number of these runs and of their threads.
+fn draw_earlier_runs(canvas: &mut Canvas, earlier: Earlier) -> Result<(), OutOfMemory>
+    ensures { Drew result canvas.old canvas.new (IsEarlierRuns earlier.runs earlier.threads) }
+{
+    let mut text = Vec::new(canvas.allocator());
+    append_count(&mut text, earlier.runs, b"earlier run")?;
+    append_words(&mut text, b" of ")?;
+    append_count(&mut text, earlier.threads, b"thread")?;
+    draw_box_line(canvas, Class::Note, earlier_line(0), text.as_slice())?;
+    Ok(())
+}
+
+/// Draws the line with the number of their events.
+fn draw_earlier_events(canvas: &mut Canvas, events: u64) -> Result<(), OutOfMemory>
+    ensures { Drew result canvas.old canvas.new (IsEarlierEvents events) }
+{
+    let mut text = Vec::new(canvas.allocator());
+    append_count(&mut text, events, b"event")?;
+    draw_box_line(canvas, Class::Note, earlier_line(1), text.as_slice())?;
+    Ok(())
 }
 
 /// The height of the box of earlier runs, with the free space below it.
@@ -246,14 +267,13 @@ pub(crate) fn earlier_height() -> u64 {
     height_of(2).saturating_add(GAP)
 }
 
-/// Draws a line of that box.
-fn draw_counted(canvas: &mut Canvas, line: u64, pieces: &[Piece<'_>]) -> Result<(), OutOfMemory> {
-    let at = BoxLine {
+/// A line of that box.
+fn earlier_line(line: u64) -> BoxLine {
+    BoxLine {
         left: MARGIN,
         top: TOP,
         line,
-    };
-    draw_pieces(canvas, Class::Note, at, pieces)
+    }
 }
 
 /// The number of runs that are not drawn one by one, of their threads, and of their events.
@@ -286,7 +306,7 @@ fn with_run(earlier: Earlier, run: &Run, is_new: bool) -> Earlier {
     Earlier {
         runs: earlier.runs.saturating_add(1),
         threads: earlier.threads.saturating_add(if is_new { 1 } else { 0 }),
-        events: earlier.events.saturating_add(u64::from(count_of(run))),
+        events: earlier.events.saturating_add(u64::from(event_total(*run))),
     }
 }
 

@@ -1,4 +1,7 @@
 //! Draws the bar at the left edge of a box, which is shaded where the thread holds a lock.
+ghost use Rattle.explain_report.specs.declared.picture.class.Class.TheVariants.{Held as HeldPart};
+ghost use Rattle.explain_report.specs.picture.Boxes.{AreBars, Drew, IsRect, Many};
+
 use crate::Run;
 use crate::event_lines::{op_of, thread_of};
 use crate::picture::canvas::Canvas;
@@ -26,26 +29,17 @@ pub(crate) struct Held {
     is_coarse: bool,
 }
 
-impl Held {
-    /// No locks are held.
-    pub(crate) fn new(alloc: Global) -> Held {
-        Held {
-            events: Vec::new(alloc),
-            is_coarse: false,
-        }
-    }
-
-    /// Notes where the threads hold locks, and counts the shades of these boxes.
-    pub(crate) fn fill(
-        &mut self,
-        indexed: &Indexed,
-        list: &[u32],
-        placed: &[Placed],
-    ) -> Result<(), OutOfMemory> {
-        note_held(&mut self.events, indexed, list)?;
-        self.is_coarse = shades_of(&self.events, placed) > MOST_SHADES;
-        Ok(())
-    }
+/// Where the threads hold locks in the list, and whether these boxes have too many shades.
+pub(crate) fn held_in(
+    alloc: Global,
+    indexed: &Indexed,
+    list: &[u32],
+    placed: &[Placed],
+) -> Result<Held, OutOfMemory> {
+    let mut events = Vec::new(alloc);
+    note_held(&mut events, indexed, list)?;
+    let is_coarse = shades_of(events.as_slice(), placed) > MOST_SHADES;
+    Ok(Held { events, is_coarse })
 }
 
 /// Appends for each index of the list whether the thread of its event holds a lock before or after the event.
@@ -114,7 +108,9 @@ pub(crate) fn draw_bar(
     left: u64,
     placed: &Placed,
     held: &Held,
-) -> Result<(), OutOfMemory> {
+) -> Result<(), OutOfMemory>
+    ensures { Drew result canvas.old canvas.new AreBars }
+{
     canvas.rect(Class::Edge, left, placed.top, BAR, placed.height)?;
     let mut parts = Vec::new(canvas.allocator());
     if held.is_coarse && shade_count(&held.events, &placed.run) > FEW_SHADES {
@@ -122,7 +118,8 @@ pub(crate) fn draw_bar(
     } else {
         note_parts(&mut parts, &held.events, &placed.run)?;
     }
-    draw_shades(canvas, left, placed, &parts)
+    draw_shades(canvas, left, placed, parts.as_slice())?;
+    Ok(())
 }
 
 /// Appends for each event of the run whether a lock is held.
@@ -167,20 +164,28 @@ fn draw_shades(
     left: u64,
     placed: &Placed,
     parts: &[bool],
-) -> Result<(), OutOfMemory> {
+) -> Result<(), OutOfMemory>
+    ensures { Drew result canvas.old canvas.new (Many (IsRect HeldPart)) }
+{
     let count = (parts.len() as u64).max(1);
     let mut begun: Option<u64> = None;
     let mut place = 0u64;
     for holds in parts {
-        if !*holds {
-            draw_shade(canvas, left, placed, begun, place, count)?;
-            begun = None;
-        } else if begun.is_none() {
-            begun = Some(place);
-        }
+        let ended = if *holds { None } else { begun };
+        draw_shade(canvas, left, placed, ended, place, count)?;
+        begun = begun_at(begun, *holds, place);
         place = place.saturating_add(1);
     }
-    draw_shade(canvas, left, placed, begun, place, count)
+    draw_shade(canvas, left, placed, begun, place, count)?;
+    Ok(())
+}
+
+/// Where the shade begins that goes on after this part, if one does.
+fn begun_at(begun: Option<u64>, holds: bool, place: u64) -> Option<u64> {
+    if !holds {
+        return None;
+    }
+    begun.or(Some(place))
 }
 
 /// Draws the shade between two indices of the run, if a shade has begun.
@@ -191,7 +196,9 @@ fn draw_shade(
     begun: Option<u64>,
     end: u64,
     count: u64,
-) -> Result<(), OutOfMemory> {
+) -> Result<(), OutOfMemory>
+    ensures { Drew result canvas.old canvas.new (Many (IsRect HeldPart)) }
+{
     let Some(start) = begun else {
         return Ok(());
     };
@@ -200,7 +207,8 @@ fn draw_shade(
         .saturating_sub(from)
         .max(1);
     let top = placed.top.saturating_add(from);
-    canvas.rect(Class::Held, left, top, BAR, high)
+    canvas.rect(Class::Held, left, top, BAR, high)?;
+    Ok(())
 }
 
 /// `parts` of `count` parts of a height.
