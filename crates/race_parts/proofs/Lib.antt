@@ -1,13 +1,17 @@
 pub mod DigitLemmas
 pub mod FactLemmas
+pub mod FrontLemmas
 pub mod KeptLemmas
 pub mod LineLemmas
 pub mod LoopLemmas
 pub mod MergingLemmas
 pub mod PairLemmas
+pub mod PlainLemmas
 pub mod PutLemmas
 pub mod QuoteLemmas
+pub mod ReadBackLemmas
 pub mod ReadLemmas
+pub mod ReportLemmas
 pub mod ScanLemmas
 pub mod SortLemmas
 pub mod UndoLemmas

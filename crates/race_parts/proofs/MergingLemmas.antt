@@ -127,7 +127,8 @@ taking_stops old now file lines left behind v place (Line line) taking cut refus
   line_is = refused.0 ∙ taking.place_is;
   before = taking.taken;
   why = refused.1.0;
-  refused = refused.1.1;
+  in_text = refused.1.1;
+  refused = refused.1.2;
 }
 taking_stops old now file lines left behind v place Version taking cut refused = refused
 taking_stops old now file lines left behind v place (Clash other) taking cut refused = tt

@@ -16,7 +16,7 @@ use Rattle.race_parts.specs.Facts.{IsKnown}
 use Rattle.race_parts.specs.Printed.{strings, row_data, IsAccess, IsOutcome}
 use Rattle.race_parts.specs.declared.scan.Known.{Known}
 
-data_read : (d : Data) → HasNumbers (outline d) → depth (outline d) ≤ max_depth → of_json (outline d) ≡ Some d → read (compact_text d) ≡ Some d
+pub data_read : (d : Data) → HasNumbers (outline d) → depth (outline d) ≤ max_depth → of_json (outline d) ≡ Some d → read (compact_text d) ≡ Some d
 data_read d numbers shallow same =
     let ts = json_tokens (outline d) in
     let printed : tokens (compact_text d) ≡ ts = ap tokens (sym (print-outline d)) ∙ tokens-print ts (ArePrintable-json_tokens (outline d) numbers) in

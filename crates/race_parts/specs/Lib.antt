@@ -12,6 +12,7 @@ pub mod Objects
 pub mod Pairs
 pub mod Parts
 pub mod Printed
+pub mod ReadBack
 pub mod Rows
 pub mod Said
 pub mod Texts

@@ -148,9 +148,16 @@ IsUnsound text d Version = (ds : List Data) × AreLines text (d ∷ ds) × (is_o
 IsUnsound text d (Clash file) = ⊥
 IsUnsound text d OutOfMemory = ⊤
 
+-- the reason lies in the text
+abbrev pub IsInText : PartRefusal → Type 0
+IsInText (Line line) = ⊤
+IsInText Version = ⊤
+IsInText (Clash file) = ⊥
+IsInText OutOfMemory = ⊥
+
 -- the reason why the part in a line is refused
 abbrev pub IsLineRefused : List ℕ → ℕ → PartRefusal → Type 0
-IsLineRefused text number (Line line) = (line ≡ number) × ((why : PartRefusal) × IsPartRefused text why)
+IsLineRefused text number (Line line) = (line ≡ number) × ((why : PartRefusal) × IsInText why × IsPartRefused text why)
 IsLineRefused text number Version = ⊥
 IsLineRefused text number (Clash file) = ⊤
 IsLineRefused text number OutOfMemory = ⊤
@@ -165,6 +172,7 @@ pub record IsNoPartIn (lines : List Value) (line : ℕ) : Type 0 where
   pub line_is : line ≡ length done + 1
   pub before : All (λ v. IsPartText (text_told v)) done
   pub why : PartRefusal
+  pub in_text : IsInText why
   pub refused : IsPartRefused (said_text (codes "text") (view value)) why
 
 abbrev pub IsUntaken : List Value → PartRefusal → Type 0

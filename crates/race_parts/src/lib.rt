@@ -26,7 +26,7 @@ mod undoing;
 pub use cells::{Cell, Row, cells_of, event_in, rows_of};
 pub use counting::races_in;
 pub use facts::{Fact, data_of};
-pub use laws::merging_is_a_union;
+pub use laws::{merging_is_a_union, reads_back};
 pub use lines::{MAX_LINES, PartRefusal};
 pub use members::{access_in, number_of, text_of};
 pub use merging::take_file;
