@@ -4,3 +4,4 @@ pub mod LeavingListedLemmas
 pub mod LeavingMetLemmas
 pub mod LeavingSplitLemmas
 mod OneLemmas
+pub mod SpotLemmas

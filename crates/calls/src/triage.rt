@@ -30,7 +30,8 @@ pub use race_page::About;
 pub use race_triage::{Filters, MAX_TRIES, Silent, Watch, has_block};
 pub use recording::read_recording;
 pub use triage_file::{Table, Value, entries_of, hides};
-pub use triage_report::sarif::{SourceLine, Sources, file_of, line_of, relative};
+pub use triage_report::folder::{Folder, path_in};
+pub use triage_report::sarif::{SourceLine, Sources, file_of, line_of};
 pub use triaged::{TriagedFault, read_triaged, triaged_fault_text};
 pub use wholeness::{
     Judged, Place, Wholeness, append_begin, append_end, said, status_of, wholeness_of,

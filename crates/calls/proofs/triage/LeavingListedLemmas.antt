@@ -12,7 +12,7 @@ use Rattle.race_groups.specs.Rows.{same_places}
 use Rattle.race_groups.proofs.RowLemmas.{same_places-equiv, same_places_are}
 use Rattle.race_parts.specs.declared.cells.Cell.{Cell}
 use Rattle.race_triage.specs.Known.{AreKnown, NamesRace}
-use Rattle.race_triage.specs.Places.{IsSpot}
+use Rattle.race_triage.specs.Places.{AreKept, IsSpot}
 use Rattle.calls.specs.triage.LeavingListed.{AreListed, HasPlaces, HaveAllPlaces, IsRight, in_pairs, number_in}
 
 -- whether a key is the text
@@ -29,6 +29,10 @@ one_text (k ∷ ks) s t n is also =
     let one : s ≡ at.items = (bytes_decides s at.items).0 (ap (λ i. is_text s (get_or (k ∷ ks) i k)) (sym is.0) ∙ first) in
     let other : t ≡ at.items = (bytes_decides t at.items).0 (ap (λ i. is_text t (get_or (k ∷ ks) i k)) (sym also.0) ∙ second) in
     one ∙ sym other
+
+-- a set that keeps the numbers of another has those of its cells
+pub HasPlaces-kept : (old new : List (Vec ℕ Global)) (c : Cell) → AreKept old new → HasPlaces old c → HasPlaces new c
+HasPlaces-kept old new c kept has = ((has.0.0, kept c.first.now has.0.0 has.0.1), (has.1.0, kept c.second.now has.1.0 has.1.1))
 
 -- a cell more, and no more
 pub all-more : (ks : List (Vec ℕ Global)) (c : Cell) (cs left : List Cell) → left ≡ c ∷ cs → HasPlaces ks c → HaveAllPlaces ks cs → HaveAllPlaces ks left

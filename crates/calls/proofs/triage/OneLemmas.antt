@@ -7,6 +7,7 @@ use Rattle.triage_file.specs.Writing.{race_entries, IsTriageFile}
 use Rattle.std.specs.declared.alloc.Global.{Global}
 use Rattle.rapid_text.specs.Recording.{Recording}
 use Rattle.triage_report.specs.json.Lines.{json_line, left_out_line, verdict_lines, IsTriageJson}
+use Rattle.triage_report.specs.declared.folder.Folder.{Folder}
 use Rattle.triage_report.specs.lines.Lines.{all_lines, IsLinesText}
 use Rattle.triage_report.specs.json.Objects.{counts_object}
 use Rattle.race_triage.specs.Chosen.{is_known, AreChosen}
@@ -44,8 +45,8 @@ module _ (r : Recording) (place : ℕ → ℕ) (tries : ℕ) (apart : Bool) (leg
       ∙ ap (λ (o : Option ℕ). json_printed r another.totals d.verdicts.items d.known o) same_choice.hidden
       ∙ sym another.printed
 
-  lines_same : (text words : List ℕ) → IsLinesText r c text → IsLinesText r d words → text ≡ words
-  lines_same text words told another = told ∙ ap (λ (l : List Verdict). all_lines r l) same_choice.verdicts ∙ sym another
+  lines_same : (folder : Folder) (text words : List ℕ) → IsLinesText r folder c text → IsLinesText r folder d words → text ≡ words
+  lines_same folder text words told another = told ∙ ap (λ (l : List Verdict). all_lines r folder l) same_choice.verdicts ∙ sym another
 
   entries_same : (numbers : List ℕ) (text words : List ℕ) → IsTriageFile r numbers c text → IsTriageFile r numbers d words → text ≡ words
   entries_same numbers text words told another = told ∙ ap (λ (l : List Verdict). concat (race_entries r numbers l)) same_choice.verdicts ∙ sym another
@@ -92,7 +93,7 @@ module _ (r : Recording) (numbers : List ℕ) (legal : IsLegal r) (asked : Asked
       → IsTextOf form r numbers asked.apart vs c text → IsTextOf form r numbers asked.apart ws d words → text ≡ words
   text_same_in Text lines c d chosen also told another = text_same r (slice_index numbers) asked.tries asked.apart legal vs ws one two known (only_of asked) (hide_of asked) c d chosen (chosen_by d also) text words told another
   text_same_in Json lines c d chosen also told another = json_same r (slice_index numbers) asked.tries asked.apart legal vs ws one two known (only_of asked) (hide_of asked) c d chosen (chosen_by d also) text words told another
-  text_same_in Lines lines c d chosen also told another = lines_same r (slice_index numbers) asked.tries asked.apart legal vs ws one two known (only_of asked) (hide_of asked) c d chosen (chosen_by d also) text words told another
+  text_same_in (Lines folder) lines c d chosen also told another = lines_same r (slice_index numbers) asked.tries asked.apart legal vs ws one two known (only_of asked) (hide_of asked) c d chosen (chosen_by d also) folder.now text words told another
   text_same_in Entries lines c d chosen also told another = entries_same r (slice_index numbers) asked.tries asked.apart legal vs ws one two known (only_of asked) (hide_of asked) c d chosen (chosen_by d also) numbers text words told another
   text_same_in (Sarif sources) lines c d chosen also told another = absurd lines
   text_same_in (Page about) lines c d chosen also told another = absurd lines

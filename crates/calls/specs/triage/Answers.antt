@@ -55,7 +55,7 @@ hide_of asked = map (λ t. t.now) asked.filters.hide.now
 abbrev pub IsTextOf : Form → Recording → List ℕ → Bool → List Verdict → Chosen → List ℕ → Type 0
 IsTextOf Text r numbers apart vs c text = IsTriageText r vs c text
 IsTextOf Json r numbers apart vs c text = IsTriageJson r vs c text
-IsTextOf Lines r numbers apart vs c text = IsLinesText r c text
+IsTextOf (Lines folder) r numbers apart vs c text = IsLinesText r folder.now c text
 IsTextOf Entries r numbers apart vs c text = IsTriageFile r numbers c text
 IsTextOf (Sarif sources) r numbers apart vs c text = IsSarif r sources c text
 IsTextOf (Page about) r numbers apart vs c text =

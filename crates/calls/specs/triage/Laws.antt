@@ -11,7 +11,7 @@ use Rattle.calls.specs.declared.triage.asked.Form.TheVariants.{Text, Json, Lines
 abbrev pub IsLines : Form → Type 0
 IsLines Text = ⊤
 IsLines Json = ⊤
-IsLines Lines = ⊤
+IsLines (Lines folder) = ⊤
 IsLines Entries = ⊤
 IsLines (Sarif sources) = ⊥
 IsLines (Page about) = ⊥

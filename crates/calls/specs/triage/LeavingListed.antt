@@ -29,9 +29,13 @@ AreListed text listed (c ∷ cs) = IsRight text listed c × AreListed text liste
 abbrev pub number_in : List (Vec ℕ Global) → List ℕ → ℕ
 number_in ks name = position_or_len (λ v. pointwise nat_eq name v.items) ks
 
+-- the location has a number
+abbrev pub HasNumber : List (Vec ℕ Global) → List ℕ → Type 0
+HasNumber ks name = (n : ℕ) × IsSpot ks name n
+
 -- both locations of the cell have numbers
 abbrev pub HasPlaces : List (Vec ℕ Global) → Cell → Type 0
-HasPlaces ks c = ((m : ℕ) × IsSpot ks c.first.now m) × ((n : ℕ) × IsSpot ks c.second.now n)
+HasPlaces ks c = HasNumber ks c.first.now × HasNumber ks c.second.now
 
 abbrev pub HaveAllPlaces : List (Vec ℕ Global) → List Cell → Type 0
 HaveAllPlaces ks [] = ⊤

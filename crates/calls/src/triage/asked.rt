@@ -3,6 +3,7 @@ use race_page::About;
 use race_triage::{Filters, Watch};
 use std::thread::Threads;
 use triage_file::Value;
+use triage_report::folder::Folder;
 use triage_report::sarif::Sources;
 
 /// The options of a report on the races of a trace.
@@ -30,7 +31,10 @@ pub enum Form<'a> {
     /// An object of JSON a line.
     Json,
     /// Lines as compilers write them (docs/FORMATS.md, "Lines for editors").
-    Lines,
+    Lines {
+        /// The folder of the code, for the paths of files in it.
+        folder: &'a Folder,
+    },
     /// A triage file with an entry for each race.
     Entries,
     /// A log of SARIF 2.1.0, which code-scanning pages read.

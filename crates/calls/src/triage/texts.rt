@@ -144,7 +144,7 @@ fn append_chosen(
     match asked.form {
         Form::Text => triage_text(analysis.indexed(), analysis.must(), found, chosen, out),
         Form::Json => triage_json(analysis, found, chosen, out),
-        Form::Lines => triage_lines(analysis, chosen, out),
+        Form::Lines { folder } => triage_lines(analysis, chosen, folder, out),
         Form::Entries => append_entries(analysis.indexed(), found, chosen, out),
         Form::Sarif { sources } => triage_sarif(analysis, chosen, sources, out),
         Form::Page { about } => page_text(analysis, found, chosen, asked.apart, about, out),

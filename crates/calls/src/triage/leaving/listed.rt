@@ -1,6 +1,7 @@
 //! Which races a text of known races names.
 ghost use Rattle.std.specs.Prelude.{◌≡◌, IfOk, OnOk};
-ghost use Rattle.calls.specs.triage.LeavingListed.{is_listed, AreListed, HasPlaces, HaveAllPlaces};
+ghost use Rattle.calls.specs.triage.LeavingListed.{is_listed, AreListed, HasNumber, HasPlaces, HaveAllPlaces};
+ghost use Rattle.race_triage.specs.Places.{AreKept};
 
 use crate::triage::leaving::lines::cell_at;
 use indexmap::IndexSet;
@@ -8,6 +9,9 @@ use race_parts::Cell;
 use race_triage::{Known, Places, known_of};
 use rapid_text::{OutOfMemory, TextKeyed};
 use std::alloc::Global;
+
+/// Locations by their numbers.
+type Locations = IndexSet<Vec<u8>, TextKeyed>;
 
 /// The numbered locations of the cells, and the pairs of locations that a text of known races names.
 #[derive(Drop)]
@@ -17,47 +21,50 @@ pub(crate) struct Listed {
 }
 
 /// Gives the location a number, if it has none.
-fn add(places: &mut Places, alloc: Global, location: &[u8]) -> Result<(), OutOfMemory> {
-    if places.locations.get_index_of(location).is_none() {
-        let owned = Vec::from_slice(alloc, location)?;
-        places.locations.insert_full(owned)?;
+fn add(locations: &mut Locations, alloc: Global, location: &[u8]) -> Result<(), OutOfMemory>
+    ensures spot { OnOk result (HasNumber locations.new.keys location.now) }
+    ensures kept { OnOk result (AreKept locations.old.keys locations.new.keys) }
+{
+    if let Some(_at) = locations.get_index_of(location) {
+        return Ok(());
+    }
+    let owned = Vec::from_slice(alloc, location)?;
+    locations.insert_full(owned)?;
+    Ok(())
+}
+
+/// Gives both locations of the cell a number, if they have none.
+fn add_both(locations: &mut Locations, alloc: Global, cell: &Cell<'_>) -> Result<(), OutOfMemory>
+    ensures has { OnOk result (HasPlaces locations.new.keys cell.now) }
+    ensures kept { OnOk result (AreKept locations.old.keys locations.new.keys) }
+{
+    add(locations, alloc, cell.first)?;
+    add(locations, alloc, cell.second)?;
+    Ok(())
+}
+
+/// Gives the locations of all cells their numbers.
+fn add_all(locations: &mut Locations, alloc: Global, cells: &[Cell<'_>]) -> Result<(), OutOfMemory>
+    ensures { OnOk result (HaveAllPlaces locations.new.keys cells.now) }
+{
+    let mut at = 0;
+    'cells: while at < cells.len() {
+        add_both(locations, alloc, &cell_at(cells, at))?;
+        at += 1;
     }
     Ok(())
 }
 
 /// Numbers the locations of the cells. The key of their hashes comes from the text.
-fn places_of(alloc: Global, cells: &[Cell<'_>], text: &[u8]) -> Result<Places, OutOfMemory> {
-    let mut places = Places {
-        locations: IndexSet::with_hasher(alloc, TextKeyed::of(text)),
+fn places_of(alloc: Global, cells: &[Cell<'_>], text: &[u8]) -> Result<Places, OutOfMemory>
+    ensures { IfOk result (λ places. HaveAllPlaces places.locations.keys cells.now) }
+{
+    let mut locations = IndexSet::with_hasher(alloc, TextKeyed::of(text));
+    add_all(&mut locations, alloc, cells)?;
+    Ok(Places {
+        locations,
         numbers: Vec::new(alloc),
-    };
-    for cell in cells {
-        add(&mut places, alloc, cell.first)?;
-        add(&mut places, alloc, cell.second)?;
-    }
-    Ok(places)
-}
-
-/// Checks that both locations of the cell have numbers. If one has no number, the fault is out of memory.
-fn check(places: &Places, cell: &Cell<'_>) -> Result<(), OutOfMemory>
-    ensures { OnOk result (HasPlaces places.now.locations.keys cell.now) }
-{
-    match (places.number(cell.first)?, places.number(cell.second)?) {
-        (Some(_), Some(_)) => Ok(()),
-        _ => Err(OutOfMemory),
-    }
-}
-
-/// Checks that the locations of all cells have numbers.
-fn check_all(places: &Places, cells: &[Cell<'_>]) -> Result<(), OutOfMemory>
-    ensures { OnOk result (HaveAllPlaces places.now.locations.keys cells.now) }
-{
-    let mut at = 0;
-    'cells: while at < cells.len() {
-        check(places, &cell_at(cells, at))?;
-        at += 1;
-    }
-    Ok(())
+    })
 }
 
 /// The races that a text of known races names, among those of these cells.
@@ -69,7 +76,6 @@ pub(crate) fn listed_of(
     ensures { IfOk result (λ listed. AreListed text.now (is_listed listed) cells.now) }
 {
     let places = places_of(alloc, cells, text)?;
-    check_all(&places, cells)?;
     let known = known_of(alloc, &places, text)?;
     Ok(Listed { places, known })
 }
