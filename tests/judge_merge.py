@@ -3,10 +3,11 @@
 
 Takes the program's path, how many lists of parts to draw, and the first seed. The parts are merged at once; in another
 order, with some parts twice; and in groups whose merged reports are merged. Each must print the same text, and the
-same JSON. The page is read as a browser's parser would read it, and has a row for each pair of locations. A part that
-is cut anywhere is refused, and so are lines that are no line of a report, another version, and two parts of one name.
-Some parts are what `triage --json` prints of drawn traces. Says what is wrong, if something is, and ends with status 1
-then, also if something that must be seen was never met.
+same JSON. With odd names the JSON has each part as it is, and is read as the same parts. The page is read as a
+browser's parser would read it, and has a row for each pair of locations. A part that is cut anywhere is refused, and so
+are lines that are no line of a report, another version, and two parts of one name. Some parts are what `triage --json`
+prints of drawn traces. Says what is wrong, if something is, and ends with status 1 then, also if something that must be
+seen was never met.
 """
 
 import collections
@@ -28,6 +29,7 @@ from judging import Wrong
 
 LISTS = 150
 PLACES = ["a.c:1 < f", "a.c:2", "b.c:10", "b.c:9", "é.c:3", "", 'q"\\.c:4', "<b>&.c:5 < </td>"]
+NAMES = ["a|b.json", 'q"\\.json', "t\tab", "l\nf", "\x01\x7f", "é", "\U0001f600", "\u2028", "{}", " ", "\ufffd"]
 REACHED = [
     "race",
     "undecided",
@@ -50,6 +52,7 @@ REACHED = [
     "page",
     "escaped",
     "not whole",
+    "odd names",
 ]
 
 
@@ -260,6 +263,21 @@ class Judge:
         if self.printed(["whole", "--json"]) != whole:
             raise Wrong("a merged report that is merged alone is another one")
 
+    def judge_names(self, chance, parts):
+        """Whatever its names are, the report has each part as it is, and is read as the same parts."""
+        texts = {new: pathlib.Path(name).read_bytes() for name, new in zip(parts, chance.sample(NAMES, len(parts)))}
+        for name, text in texts.items():
+            write(name, text)
+        whole = self.printed([*texts, "--json"])
+        lines = [json.loads(line) for line in whole.decode().split("\n")[1 : len(texts) + 1]]
+        told = [(line["name"], line["text"].encode()) for line in lines]
+        if told != sorted(texts.items(), key=lambda one: one[0].encode()):
+            raise Wrong(f"the report of {list(texts)} has the parts {told}")
+        write("odd", whole)
+        if self.printed(["odd", "--json"]) != whole:
+            raise Wrong(f"the report of {list(texts)} is read as another one")
+        self.seen["odd names"] += 1
+
     def judge_refusals(self, chance, parts):
         name = chance.choice(list(parts))
         with open(name, "rb") as source:
@@ -327,6 +345,7 @@ class Judge:
         self.note(parts)
         self.same(list(parts), parts)
         self.judge_groups(chance, parts)
+        self.judge_names(chance, parts)
         races = plain.merged(parts, False).split("\n")[1] != "races 0"
         status, line = failed(parts, races)
         for flags in [[], ["--json"], ["--page"], ["--sarif"]]:
@@ -355,9 +374,13 @@ class Judge:
         line += b"" if races else f"racebench: not whole: {absent}\n".encode()
         if (status, err) != (3 if races else 4, line):
             raise Wrong(f"--fail with {absent} not whole ends with {status} and {err!r}")
-        head = json.loads(self.printed([*parts, "--json"]).splitlines()[0])
+        report = self.printed([*parts, "--json"])
+        head = json.loads(report.splitlines()[0])
         if head.get("absent") != absent:
             raise Wrong(f"JSON says {head}, and {absent} are not whole")
+        write("whole", report)
+        if self.printed(["whole", "--json"]) != report:
+            raise Wrong("a merged report of parts that are not whole is read as another one")
         for name, text in texts.items():
             write(name, text)
         self.seen["not whole"] += 1

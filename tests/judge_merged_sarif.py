@@ -20,6 +20,7 @@ import sys
 import tempfile
 
 sys.dont_write_bytecode = True
+import code_folders
 import compiled
 import judge_merge
 import judge_sarif
@@ -59,22 +60,12 @@ class Access(judge_sarif.Event):
         return f"{self.thread} {verb} {self.name} at {self.place() or '?'}"
 
 
-def line_at(root, file, number):
-    """The line of the code, without blanks at its ends; nothing if it is not there."""
-    path = file if file.startswith("/") else root + file
-    if not root or not os.path.isfile(path):
-        return ""
-    with open(path, encoding="utf-8") as text:
-        lines = text.read().split("\n")
-    return lines[number - 1].strip() if 0 < number <= len(lines) else ""
-
-
 def side(access, root):
-    """What a fingerprint has of an access."""
+    """What a fingerprint has of an access. `root` is the folder of the code, if there is one."""
     file, number = judge_sarif.place_parts(access.place())
     shown = access.place() if file is None else file
-    shown = shown[len(root) :] if root and shown.startswith(root) else shown
-    line = line_at(root, file, number) if file else ""
+    shown = root.path_of(shown) if root else shown
+    line = root.line_at(file, number) if root and file else ""
     return f"{shown}\n{judge_sarif.calls_of(access.location)[0]}\n{without_number(access.name)}\n{line}"
 
 
@@ -115,7 +106,7 @@ class Judge(judge_sarif.Judge):
         self.equal("codeFlows" in result, False, "a code flow of a merged row")
         print_ = result["partialFingerprints"]["racePair/v1"]
         self.equal(print_, print_of(accesses, root), "the fingerprint")
-        self.tally["line of code"] += bool(root) and any(line.endswith(";") for line in print_.split("\n"))
+        self.tally["line of code"] += root is not None and any(line.endswith(";") for line in print_.split("\n"))
 
     def run_of(self, arguments):
         out = running.printed(self.program, arguments)
@@ -134,10 +125,11 @@ class Judge(judge_sarif.Judge):
         """The run has a result for each pair, and counts what was left out."""
         self.equal(len(run["results"]), len(pairs), "the number of results")
         self.tally["no results"] += not pairs
+        code = code_folders.CodeFolder(folder) if folder else None
         for result, pair in zip(run["results"], pairs):
-            self.check_pair(result, pair, len(parts), folder and f"{folder}/")
+            self.check_pair(result, pair, len(parts), code)
         self.equal(run["properties"], left or {}, "what was left out")
-        self.equal(list(run["originalUriBaseIds"]), ["SRCROOT"] if folder else [], "whether a folder is named")
+        self.equal(run["originalUriBaseIds"], judge_sarif.base_of(code), "the folder of the code")
         return run["results"]
 
     def check_same(self, name, folder):

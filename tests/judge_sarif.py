@@ -5,7 +5,8 @@ that `witness` prints.
 Takes traces with calls, hostile names and long schedules, and traces drawn by chance. Each log must have a result for
 each object of JSON, in their order, with its accesses, their calls as stacks, and, for a race, its schedule as a code
 flow: every step once, in the order of the schedule, and at its end the two accesses. Moves lines of code: the
-fingerprints must stay; and changes a line: they must differ.
+fingerprints must stay; and changes a line: they must differ. Names files below the folder of the code, which
+code_folders.py finds as well.
 
     judge_sarif.py PROGRAM [TRACES [SEED]]      this many drawn traces, the first of this seed
 
@@ -22,6 +23,7 @@ import urllib.parse
 
 sys.dont_write_bytecode = True
 import by_chance
+import code_folders
 import compiled
 import judging
 import plain_names
@@ -48,6 +50,30 @@ PLACES = [
     "\u00fc.c:2",
     "",
 ]
+# Names of files that exist below the folder `tree`, or seem to.
+NAMED = [
+    "one.c",
+    "src/one.c",
+    "./src/two.c",
+    "../src/two.c",
+    "/elsewhere/a/src/both.c",
+    "/elsewhere/c/src/both.c",
+    "both.c",
+    "b/src/both.c",
+    "src/both.c",
+    "lib/one.c",
+    "top.c",
+    "./top.c",
+    "gone.c",
+    "q.c",
+    "p.c",
+    "out.c",
+    "in.c",
+    "out/q.c",
+    "k#? %.c",
+    "/usr/include/stdio.h",
+    "tree/top.c",
+]
 CALLS = ["", " < put", " < put < main m.c:3", " < m.c:3 < main", " < operator< p.cc:7 < go < main m.c:4"]
 RULES = {
     "race": ("data-race", "fail", "error"),
@@ -66,6 +92,10 @@ REACHED = [
     "no file",
     "absolute",
     "within the folder",
+    "path below",
+    "several fit",
+    "uri of a folder",
+    "other line",
     "no line",
     "moved",
     "changed",
@@ -105,6 +135,25 @@ class Event:
         return f"{self.thread} {VERBS[self.word]} {self.name} at {self.place() or '?'}"
 
 
+def coded_line(line, code):
+    """A line for editors, with the paths of files in the folder of the code."""
+    place, kind, text = re.fullmatch(r"(.+?): (warning|note): (.*)", line).groups()
+    other = re.fullmatch(r"(.*, .* at )(.+)( \[[a-z-]+\])", text)
+    if other:
+        text = other[1] + coded_place(other[2], code) + other[3]
+    return f"{coded_place(place, code)}: {kind}: {text}"
+
+
+def coded_place(place, code):
+    file, _ = place_parts(place)
+    return code.path_of(file) + place[len(file) :] if file else place
+
+
+def base_of(code):
+    """What a log says of the folder of the code, if there is one."""
+    return {"SRCROOT": {"uri": code.uri()}} if code else {}
+
+
 def printed_without_code(pair):
     """The fingerprint of two accesses if no folder has their code: four lines each, the lesser four first."""
     lines = [
@@ -131,7 +180,8 @@ class Judge:
             raise Wrong(f"{what} is {found!r}, and not {wanted!r}")
 
     def check_location(self, location, place, function, text, root):
-        """Judges that a location has the place, the function and the text."""
+        """Judges that a location has the place, the function and the text. `root` is the folder of the code, if there
+        is one."""
         self.equal(location["message"]["text"], text, "the message of a location")
         self.equal(
             [one["fullyQualifiedName"] for one in location.get("logicalLocations", [])],
@@ -145,12 +195,13 @@ class Judge:
             return
         physical = location["physicalLocation"]
         artifact = physical["artifactLocation"]
-        path = file[len(root) :] if root and file.startswith(root) else file
+        path = root.path_of(file) if root else file
+        self.tally["path below"] += path != file
         if path.startswith("/"):
             self.tally["absolute"] += 1
             self.equal(artifact, {"uri": "file://" + urllib.parse.quote(path, safe="/")}, "the file")
         else:
-            self.tally["within the folder"] += bool(root)
+            self.tally["within the folder"] += root is not None
             base = {"uriBaseId": "SRCROOT"} if root else {}
             self.equal(artifact, {"uri": urllib.parse.quote(path, safe="/"), **base}, "the file")
         if 1 <= line <= MOST_LINE:
@@ -240,6 +291,15 @@ class Judge:
         self.equal(found, [(rule, level) for rule, _, level in RULES.values()], "the rules, and the level of each")
         return log
 
+    def check_lines(self, folder):
+        """Judges that `--lines` with the folder of the code has the lines that it has without, with the paths of files
+        in the folder."""
+        code = code_folders.CodeFolder(folder)
+        plain = running.printed(self.program, ["triage", "trace", "--lines"]).decode("utf-8")
+        coded = running.printed(self.program, ["triage", "trace", "--lines", "--source", folder]).decode("utf-8")
+        self.equal(coded.splitlines(), [coded_line(line, code) for line in plain.splitlines()], "the lines")
+        self.tally["other line"] += coded != plain
+
     def check(self, lines, arguments, root=None):
         """Judges the log of a trace with these lines. Returns the fingerprints of its results."""
         with open("trace", "w", encoding="utf-8") as out:
@@ -252,14 +312,15 @@ class Judge:
         ]
         blocks = [one for one in rows if one["kind"] in RULES]
         self.equal(len(run["results"]), len(blocks), "the number of results")
+        code = code_folders.CodeFolder(root) if root else None
         for at, (result, block) in enumerate(zip(run["results"], blocks)):
-            self.check_result(result, block, events, (root.rstrip("/") + "/") if root else "", at < MOST_FLOWS)
+            self.check_result(result, block, events, code, at < MOST_FLOWS)
         self.equal(
             run["properties"],
             {one["kind"]: one["count"] for one in rows if one["kind"] in ("known", "hidden")},
             "what was left out",
         )
-        self.equal(list(run["originalUriBaseIds"]), ["SRCROOT"] if root else [], "whether a folder is named")
+        self.equal(run["originalUriBaseIds"], base_of(code), "the folder of the code")
         prints = [result["partialFingerprints"]["racePair/v1"] for result in run["results"]]
         if root is None:
             pairs = [[events[access["event"]] for access in block["accesses"]] for block in blocks]
@@ -323,7 +384,7 @@ def check_moved(judge):
         turned = judge.check(["T2|r(x)|p.c:4 < get", "T1|w(x)|p.c:3 < put"], [], root)
         judge.equal(turned, before, "the fingerprint of two accesses in the other order")
         whole = judge.check([f"T1|w(x)|{os.path.abspath('code')}/p.c:3 < put", "T2|r(x)|p.c:4 < get"], [], root)
-        judge.equal(whole == before, root.startswith("/"), "whether a path within the folder is relative")
+        judge.equal(whole, before, "the fingerprint of a path within the folder")
         write_code({"p.c": ["// one", "// two", *code["p.c"]]})
         judge.equal(
             judge.check(["T1|w(x)|p.c:5 < put", "T2|r(x)|p.c:6 < get"], [], root),
@@ -354,6 +415,38 @@ def check_moved(judge):
             judge.tally["changed"] += 1
         gone = judge.check(["T1|w(x)|gone.c:3", "T2|r(x)|p.c:99999"], [], root)
         judge.equal(gone, ["gone.c\n\nx\n\np.c\n\nx\n"], "the fingerprint of lines that are not there")
+
+
+def check_below(judge):
+    """A file below the folder is found by the parts of its path. If two fit equally well, neither is written."""
+    write_code({"p.c": ["int x;", "x = 1;"], "sub/p.c": ["int y;", "y = 1;"], "q.c": ["return x;"]})
+    os.makedirs("tree/a/src", exist_ok=True)
+    os.makedirs("tree/b/src", exist_ok=True)
+    os.makedirs("tree/.hidden", exist_ok=True)
+    texts = {"a/src/one.c": "one;", "b/src/two.c": "two;", "a/src/both.c": "A;", "b/src/both.c": "B;"}
+    for name, text in {**texts, "top.c": "top;", ".hidden/gone.c": "gone;", "a/src/k#? %.c": "odd;"}.items():
+        with open(os.path.join("tree", name), "w", encoding="utf-8") as out:
+            out.write(text + "\n")
+    write_links()
+    for here in ("tree", "tree/", "tree/a", "tree/a/../../tree", os.path.abspath("tree"), "linked"):
+        for name in NAMED:
+            made = judge.check([f"T1|w(x)|{name}:1 < put", f"T2|r(x)|top.c:1 < get {name}:2"], [], here)
+            judge.tally["several fit"] += "both.c" in name and "both.c\nput" in made[0]
+            judge.check_lines(here)
+    name = "tree/a b%\u00fc"
+    os.makedirs(name, exist_ok=True)
+    judge.check(["T1|w(x)|p.c:1", "T2|r(x)|p.c:2"], [], name)
+    judge.tally["uri of a folder"] += 1
+
+
+def write_links():
+    """Links in the folder `tree`: round it, out of it, and within it; and one to it."""
+    links = {"tree/a/loop": "..", "tree/a/self": "self", "tree/out": "../code", "tree/out.c": "../code/q.c"}
+    for link, target in {**links, "tree/in.c": "b/src/two.c", "linked": "tree"}.items():
+        if not os.path.islink(link):
+            os.symlink(target, link)
+    for raw in (b"tree/\xff.c", b"tree/a/\xfe"):
+        os.makedirs(raw, exist_ok=True)
 
 
 def check_bounds(judge):
@@ -388,7 +481,7 @@ def check_filters(judge):
 
 def judged(run):
     judge = Judge(run.program)
-    for part in (check_filters, check_hostile, check_moved, check_bounds, check_long, check_many):
+    for part in (check_filters, check_hostile, check_moved, check_below, check_bounds, check_long, check_many):
         with judging.about(part.__name__):
             part(judge)
     for seed in run.seeds():

@@ -1,16 +1,20 @@
-//! Reads the lines of code that a trace names, from the folder that `--source` names.
+//! The code that a report is about: the files that were found in the folder of `--source`, and their lines.
 ghost use Rattle.std.specs.Prelude.{◌≤◌, length};
 
+use crate::code_names::{names_in_cells, names_in_trace};
+use crate::finding_files::{Found, find_files};
 use crate::lines::first_line;
 use crate::notes::{append_named, are_wanted};
+use crate::quoted::append_shown;
 use crate::telling::say;
-use calls::triage::{SourceLine, file_of, line_of, relative};
+use calls::triage::{Folder, SourceLine, Sources, file_of, line_of, path_in};
 use client_scripts::{FromRead, ReadCause, ReadFault, ReplayFault, read_all};
 use event_index::Indexed;
 use explain_report::places::{cut_at_arrow, is_line, place_of};
 use race_parts::Cell;
 use rapid_text::{OutOfMemory, trim};
 use std::alloc::Global;
+use std::collections::BTreeMap;
 use std::fs::{File, metadata};
 use std::io;
 
@@ -37,6 +41,93 @@ pub(crate) fn is_folder(rt: &HostRuntime, path: &str) -> bool {
     }
 }
 
+/// The code that a report is about: the folder, what was found in it, and lines of it.
+#[derive(Drop)]
+pub(crate) struct Code<'a> {
+    pub(crate) found: Found<'a>,
+    pub(crate) lines: Vec<SourceLine>,
+}
+
+impl<'a> Code<'a> {
+    /// No code: no folder is named.
+    pub(crate) fn none(alloc: Global) -> Code<'a> {
+        Code {
+            found: Found {
+                folder: Folder {
+                    path: Vec::new(alloc),
+                    files: BTreeMap::new(alloc),
+                },
+                unsure: Vec::new(alloc),
+                is_cut: false,
+            },
+            lines: Vec::new(alloc),
+        }
+    }
+
+    /// The code, as a SARIF log takes it.
+    pub(crate) fn sources(&self) -> Sources<'_> {
+        Sources {
+            root: &self.found.folder,
+            lines: self.lines.as_slice(),
+        }
+    }
+
+    /// Whether nothing was found of the files that the accesses name.
+    pub(crate) fn lacks_files(&self) -> bool {
+        self.found.folder.files.is_empty() && self.lines.is_empty()
+    }
+}
+
+/// The code of a trace in the folder at this path. Its lines are read if `has_lines` is true.
+pub(crate) fn code_of<'a>(
+    rt: &HostRuntime,
+    folder: &str,
+    indexed: &'a Indexed,
+    has_lines: bool,
+) -> Result<Code<'a>, ReplayFault> {
+    let names = names_in_trace(rt.alloc(), indexed)?;
+    let found = find_files(rt, folder, names.as_slice())?;
+    let places = if has_lines {
+        places_in(rt.alloc(), indexed)?
+    } else {
+        Vec::new(rt.alloc())
+    };
+    let lines = lines_at(rt, &found.folder, places.as_slice())?;
+    Ok(Code { found, lines })
+}
+
+/// The code of these cells in the folder at this path, if one is named.
+pub(crate) fn code_for<'a>(
+    rt: &HostRuntime,
+    folder: Option<&str>,
+    cells: &[Cell<'a>],
+) -> Result<Code<'a>, ReplayFault> {
+    let Some(folder) = folder else {
+        return Ok(Code::none(rt.alloc()));
+    };
+    let names = names_in_cells(rt.alloc(), cells)?;
+    let found = find_files(rt, folder, names.as_slice())?;
+    let places = places_of_cells(rt.alloc(), cells)?;
+    let lines = lines_at(rt, &found.folder, places.as_slice())?;
+    Ok(Code { found, lines })
+}
+
+/// Writes notes on this code, if a folder is named.
+pub(crate) fn tell_code(
+    rt: &HostRuntime,
+    folder: Option<&str>,
+    code: &Code<'_>,
+) -> Result<(), OutOfMemory> {
+    let Some(folder) = folder else {
+        return Ok(());
+    };
+    tell_found(rt, folder, &code.found)?;
+    if code.lacks_files() {
+        tell_codeless(rt, folder)?;
+    }
+    Ok(())
+}
+
 /// Writes a note, if notes are wanted, that the folder of code has none of the files that the accesses name.
 pub(crate) fn tell_codeless(rt: &HostRuntime, path: &str) -> Result<(), OutOfMemory> {
     if !are_wanted(rt) {
@@ -52,34 +143,47 @@ pub(crate) fn tell_codeless(rt: &HostRuntime, path: &str) -> Result<(), OutOfMem
     Ok(())
 }
 
-/// The path of a folder, with a slash at its end.
-pub(crate) fn root_of(alloc: Global, folder: &str) -> Result<Vec<u8>, OutOfMemory> {
-    let mut root = Vec::new(alloc);
-    root.extend_from_slice(folder.as_bytes())?;
-    if !folder.as_bytes().ends_with(b"/") {
-        root.push(b'/')?;
+/// Writes notes, if notes are wanted, on names that several files in the folder of code fit, and on a folder that is
+/// too large.
+pub(crate) fn tell_found(
+    rt: &HostRuntime,
+    path: &str,
+    found: &Found<'_>,
+) -> Result<(), OutOfMemory> {
+    if !are_wanted(rt) {
+        return Ok(());
     }
-    Ok(root)
+    let mut lines = Vec::new(rt.alloc());
+    for name in found.unsure.as_slice() {
+        append_unsure(&mut lines, path, *name)?;
+    }
+    if found.is_cut {
+        append_named(
+            &mut lines,
+            path,
+            b" is not searched whole: 4096 folders, 262144 names and 4096 files are the limits",
+        )?;
+    }
+    say(rt, &lines);
+    Ok(())
 }
 
-/// The lines of code at the places of the trace, as far as they can be read.
-pub(crate) fn lines_of(
-    rt: &HostRuntime,
-    indexed: &Indexed,
-    root: &[u8],
-) -> Result<Vec<SourceLine>, ReplayFault> {
-    let places = places_in(rt.alloc(), indexed)?;
-    lines_at(rt, root, places.as_slice())
+/// Appends the note on a name that several files in the folder of code fit.
+fn append_unsure(out: &mut Vec<u8>, path: &str, name: &[u8]) -> Result<(), OutOfMemory> {
+    let mut words = Vec::new(*out.allocator());
+    words.extend_from_slice(b" has several files that fit `")?;
+    append_shown(&mut words, name)?;
+    words.extend_from_slice(b"`: its places stay as the recording has them")?;
+    append_named(out, path, words.as_slice())
 }
 
-/// The lines of code at the places of these cells, as far as they can be read.
-pub(crate) fn lines_of_cells(
-    rt: &HostRuntime,
-    cells: &[Cell<'_>],
-    root: &[u8],
-) -> Result<Vec<SourceLine>, ReplayFault> {
-    let places = places_of_cells(rt.alloc(), cells)?;
-    lines_at(rt, root, places.as_slice())
+/// Adds the place of a location, if it is `FILE:LINE`.
+fn add_place<'a>(places: &mut Vec<&'a [u8]>, location: &'a [u8]) -> Result<(), OutOfMemory> {
+    let (place, _) = cut_at_arrow(location);
+    if is_line(place) {
+        places.push(place)?;
+    }
+    Ok(())
 }
 
 /// The places of the cells that are `FILE:LINE`, sorted, so that those of one file are next to each other.
@@ -91,15 +195,6 @@ fn places_of_cells<'a>(alloc: Global, cells: &[Cell<'a>]) -> Result<Vec<&'a [u8]
     }
     places.sort_unstable();
     Ok(places)
-}
-
-/// Adds the place of a location, if it is `FILE:LINE`.
-fn add_place<'a>(places: &mut Vec<&'a [u8]>, location: &'a [u8]) -> Result<(), OutOfMemory> {
-    let (place, _) = cut_at_arrow(location);
-    if is_line(place) {
-        places.push(place)?;
-    }
-    Ok(())
 }
 
 /// The places of the trace that are `FILE:LINE`, sorted, so that those of one file are next to each other.
@@ -118,11 +213,11 @@ fn places_in(alloc: Global, indexed: &Indexed) -> Result<Vec<&[u8]>, OutOfMemory
 /// The lines of code at these places.
 fn lines_at(
     rt: &HostRuntime,
-    root: &[u8],
+    folder: &Folder,
     places: &[&[u8]],
 ) -> Result<Vec<SourceLine>, ReplayFault> {
     let mut lines = Vec::new(rt.alloc());
-    add_files(rt, &mut lines, root, places)?;
+    add_files(rt, &mut lines, folder, places)?;
     Ok(lines)
 }
 
@@ -130,7 +225,7 @@ fn lines_at(
 fn add_files(
     rt: &HostRuntime,
     lines: &mut Vec<SourceLine>,
-    root: &[u8],
+    folder: &Folder,
     places: &[&[u8]],
 ) -> Result<(), ReplayFault> {
     let mut at = 0;
@@ -141,7 +236,7 @@ fn add_files(
         let rest = &places[at..];
         let file = file_of(places[at]);
         let count = count_of(rest, file);
-        add_file(rt, lines, root, file, &rest[..count])?;
+        add_file(rt, lines, folder, file, &rest[..count])?;
         at += count;
     }
     Ok(())
@@ -157,28 +252,40 @@ fn count_of(places: &[&[u8]], file: &[u8]) -> usize
         .unwrap_or(places.len())
 }
 
-/// Adds the lines at these places of a file, if it can be read.
+/// Adds the lines at these places of a file, if it was found or its name is an absolute path, and it can be read.
 fn add_file(
     rt: &HostRuntime,
     lines: &mut Vec<SourceLine>,
-    root: &[u8],
+    folder: &Folder,
     file: &[u8],
     places: &[&[u8]],
 ) -> Result<(), ReplayFault> {
     let mut path = Vec::new(rt.alloc());
-    append_path(&mut path, root, relative(root, file))?;
+    append_path(&mut path, folder, file)?;
     match std::str::from_utf8(path.as_slice()) {
         Ok(path) => add_read(rt, lines, path, places),
         Err(_) => Ok(()),
     }
 }
 
-/// Appends the path of a file. If it is not absolute, the folder comes before it.
-fn append_path(out: &mut Vec<u8>, root: &[u8], file: &[u8]) -> Result<(), OutOfMemory> {
-    if !file.starts_with(b"/") {
-        out.extend_from_slice(root)?;
+/// Appends the path of a file: in the folder if it was found there, else its name if that is an absolute path. A name
+/// of no file has no path.
+fn append_path(out: &mut Vec<u8>, folder: &Folder, file: &[u8]) -> Result<(), OutOfMemory> {
+    let path = path_in(folder, file);
+    if is_found(folder, file) && !path.starts_with(b"/") {
+        out.extend_from_slice(folder.path.as_slice())?;
+    } else if !path.starts_with(b"/") {
+        return Ok(());
     }
-    Ok(out.extend_from_slice(file)?)
+    Ok(out.extend_from_slice(path)?)
+}
+
+/// Whether exactly one file was found for this name.
+fn is_found(folder: &Folder, file: &[u8]) -> bool {
+    match folder.files.get(file) {
+        Some(paths) => paths.len() == 1,
+        None => false,
+    }
 }
 
 /// Adds the lines at these places of the file at this path, if it can be read.

@@ -1,15 +1,15 @@
 //! What `merge` and `triage --windows` leave out of a merged report.
 ghost use Rattle.std.specs.Prelude.{◌≡◌, false};
 
-use crate::coding::{lines_of_cells, root_of, tell_codeless};
+use crate::coding::{Code, code_for, tell_code};
 use crate::input::input_at;
 use crate::seen::Seen;
 use crate::telling::tell_files;
 use crate::telling_triage::{tell_blockless, tell_dateless, tell_marks, tell_triaged};
 use crate::today::today_of;
 use calls::triage::{
-    Choice, Filters, Hears, MergedAsked, MergedForm, Silent, SourceLine, Sources, TriageFault,
-    entries_of, has_block, hides, is_met, read_triaged, write_left,
+    Choice, Filters, Hears, MergedAsked, MergedForm, Silent, TriageFault, entries_of, has_block,
+    hides, is_met, read_triaged, write_left,
 };
 use calls::{BenchFault, Parts};
 use client_scripts::{Sink, read_input};
@@ -160,62 +160,13 @@ fn asked_of<'a>(choice: Choice<'a>, apart: bool, form: MergedForm<'a>) -> Merged
     }
 }
 
-/// The lines of code in this folder at the places of the parts.
-fn code_of(rt: &HostRuntime, parts: &Parts, root: &[u8]) -> Result<Vec<SourceLine>, TriageFault> {
-    let rows = rows_of(rt.alloc(), parts)?;
-    let cells = cells_of(rt.alloc(), &rows)?;
-    Ok(lines_of_cells(rt, &cells, root)?)
-}
-
-/// Writes the merged report as a SARIF log, with the code in this folder. Returns how many races it has.
-fn write_log_of<K: Sink>(
-    rt: &HostRuntime,
-    parts: &Parts,
-    choice: Choice<'_>,
-    apart: bool,
-    folder: &str,
-    writer: &mut K,
-) -> Result<u64, TriageFault>
-    requires { K.has_failed writer.old ≡ false }
-{
-    let root = root_of(rt.alloc(), folder)?;
-    match code_of(rt, parts, root.as_slice()) {
-        Ok(lines) => {
-            let sources = Sources {
-                root: root.as_slice(),
-                lines: lines.as_slice(),
-            };
-            let asked = asked_of(choice, apart, MergedForm::Sarif { sources });
-            let written = write_left(rt.alloc(), parts, asked, writer);
-            with_code(rt, written, folder, lines.is_empty())
-        }
-        Err(fault) => Err(fault),
-    }
-}
-
-/// Returns how many races were written. If the folder of code had none of the files, a note says so.
-fn with_code(
-    rt: &HostRuntime,
-    written: Result<u64, TriageFault>,
-    folder: &str,
-    lacks_code: bool,
-) -> Result<u64, TriageFault> {
-    if written.is_ok() && lacks_code {
-        tell_codeless(rt, folder)?;
-    }
-    written
-}
-
-/// The form of the report. A SARIF log has no code here.
-fn form_of<'a>(form: RacesForm) -> MergedForm<'a> {
+/// The form of the report. A SARIF log has this code.
+fn form_of<'a>(form: RacesForm, code: &'a Code<'_>) -> MergedForm<'a> {
     match form {
         RacesForm::Json => MergedForm::Json,
         RacesForm::Page => MergedForm::Page,
         RacesForm::Sarif => MergedForm::Sarif {
-            sources: Sources {
-                root: b"",
-                lines: &[],
-            },
+            sources: code.sources(),
         },
         _ => MergedForm::Text,
     }
@@ -229,7 +180,8 @@ fn code_folder<'a>(printed: Printed<'a>) -> Option<&'a str> {
     }
 }
 
-/// Writes the merged report without what the options leave out. Returns how many races it has.
+/// Writes the merged report without what the options leave out. Returns how many races it has. Notes say what is
+/// missing or not sure about the code.
 pub(crate) fn write_decided<K: Sink>(
     rt: &HostRuntime,
     parts: &Parts,
@@ -240,14 +192,15 @@ pub(crate) fn write_decided<K: Sink>(
 ) -> Result<u64, TriageFault>
     requires { K.has_failed writer.old ≡ false }
 {
+    let rows = rows_of(rt.alloc(), parts)?;
+    let cells = cells_of(rt.alloc(), &rows)?;
+    let folder = code_folder(printed);
+    let code = code_for(rt, folder, &cells)?;
     let choice = choice_of(decided, wanted);
-    match code_folder(printed) {
-        Some(folder) => write_log_of(rt, parts, choice, printed.apart, folder, writer),
-        None => {
-            let asked = asked_of(choice, printed.apart, form_of(printed.form));
-            write_left(rt.alloc(), parts, asked, writer)
-        }
-    }
+    let asked = asked_of(choice, printed.apart, form_of(printed.form, &code));
+    let races = write_left(rt.alloc(), parts, asked, writer)?;
+    tell_code(rt, folder, &code)?;
+    Ok(races)
 }
 
 /// Marks which of the entries are about a race of these cells.

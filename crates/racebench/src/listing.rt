@@ -1,15 +1,15 @@
 //! Lists the races of the trace in a file, with the calls of `calls::triage`.
 ghost use Rattle.std.specs.Prelude.{◌≡◌, IfSome, false};
 
-use crate::coding::{lines_of, root_of};
+use crate::coding::{Code, code_of, tell_found};
 use crate::input::{Input, input_at};
 use crate::kept::Kept;
 use crate::marked::tell_mark;
 use crate::missing::write_missing;
 use crate::seen::Seen;
 use calls::triage::{
-    About, Asked, Crew, Filters, Form, Judged, Sources, TriageFault, Watch, Wholeness,
-    read_recording, triage_on,
+    About, Asked, Crew, Filters, Form, Judged, TriageFault, Watch, Wholeness, read_recording,
+    triage_on,
 };
 use client_scripts::{ReplayFault, Sink};
 use event_index::Indexed;
@@ -28,7 +28,7 @@ pub(crate) struct Listing<'a> {
 }
 
 /// The options, in the type that the call takes.
-fn asked_of<'a>(listing: Listing<'a>, sources: Sources<'a>) -> Asked<'a> {
+fn asked_of<'a>(listing: Listing<'a>, code: &'a Code<'_>) -> Asked<'a> {
     let task = listing.task;
     Asked {
         filters: Filters {
@@ -41,12 +41,16 @@ fn asked_of<'a>(listing: Listing<'a>, sources: Sources<'a>) -> Asked<'a> {
         form: match task.form {
             RacesForm::Text => Form::Text,
             RacesForm::Json => Form::Json,
-            RacesForm::Lines => Form::Lines,
+            RacesForm::Lines => Form::Lines {
+                folder: &code.found.folder,
+            },
             RacesForm::Entries => Form::Entries,
             RacesForm::Page => Form::Page {
                 about: listing.about,
             },
-            RacesForm::Sarif => Form::Sarif { sources },
+            RacesForm::Sarif => Form::Sarif {
+                sources: code.sources(),
+            },
         },
         triage: listing.triage,
     }
@@ -157,7 +161,7 @@ fn list_recording<R: Threads + Sync, K: Sink, W: Watch + Sync>(
     Ok(races)
 }
 
-/// Writes the report on a trace that was read, with lines of code if the options name a folder.
+/// Writes the report on a trace that was read, with the code if the options name a folder.
 fn list_by<R: Threads + Sync, K: Sink, W: Watch + Sync>(
     rt: &HostRuntime,
     crew: &Crew<'_, R, Seen<'_, W>>,
@@ -168,53 +172,52 @@ fn list_by<R: Threads + Sync, K: Sink, W: Watch + Sync>(
     requires { K.has_failed writer.old ≡ false }
 {
     match listing.task.source {
-        Some(folder) => {
-            let root = root_of(rt.alloc(), folder)?;
-            list_lines(rt, crew, listing, indexed, root.as_slice(), writer)
-        }
+        Some(folder) => list_coded(rt, crew, listing, indexed, folder, writer),
         None => {
-            let none = Vec::new(rt.alloc());
-            let sources = Sources {
-                root: b"",
-                lines: none.as_slice(),
-            };
-            list_with(rt, crew, listing, indexed, sources, writer)
+            let code = Code::none(rt.alloc());
+            list_with(rt, crew, listing, indexed, &code, writer)
         }
     }
 }
 
-/// Reads the lines of code, and writes the report with them.
-fn list_lines<R: Threads + Sync, K: Sink, W: Watch + Sync>(
+/// Whether the report has lines of code.
+fn has_lines(form: RacesForm) -> bool {
+    match form {
+        RacesForm::Sarif => true,
+        _ => false,
+    }
+}
+
+/// Finds the code in this folder, and writes the report with it. Reports what is not sure about the files.
+fn list_coded<R: Threads + Sync, K: Sink, W: Watch + Sync>(
     rt: &HostRuntime,
     crew: &Crew<'_, R, Seen<'_, W>>,
     listing: Listing<'_>,
     indexed: &Indexed,
-    root: &[u8],
+    folder: &str,
     writer: &mut K,
 ) -> Result<u64, TriageFault>
     requires { K.has_failed writer.old ≡ false }
 {
-    let lines = lines_of(rt, indexed, root)?;
-    crew.watch.coded(!lines.is_empty());
-    let sources = Sources {
-        root,
-        lines: lines.as_slice(),
-    };
-    list_with(rt, crew, listing, indexed, sources, writer)
+    let code = code_of(rt, folder, indexed, has_lines(listing.task.form))?;
+    crew.watch.coded(!code.lacks_files());
+    let races = list_with(rt, crew, listing, indexed, &code, writer)?;
+    tell_found(rt, folder, &code.found)?;
+    Ok(races)
 }
 
-/// Writes the report with these lines of code.
+/// Writes the report with this code.
 fn list_with<R: Threads + Sync, K: Sink, W: Watch + Sync>(
     rt: &HostRuntime,
     crew: &Crew<'_, R, Seen<'_, W>>,
     listing: Listing<'_>,
     indexed: &Indexed,
-    sources: Sources<'_>,
+    code: &Code<'_>,
     writer: &mut K,
 ) -> Result<u64, TriageFault>
     requires { K.has_failed writer.old ≡ false }
 {
     let known = known_at(rt, listing.task.known);
-    let asked = asked_of(listing, sources);
+    let asked = asked_of(listing, code);
     triage_on(crew, rt.alloc(), indexed, known, asked, writer)
 }

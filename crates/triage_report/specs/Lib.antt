@@ -1,4 +1,5 @@
 pub mod Appending
+pub mod Folder
 pub mod json
 pub mod lines
 pub mod sarif

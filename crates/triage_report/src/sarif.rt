@@ -17,5 +17,5 @@ mod words;
 pub use flows::{MOST_ORDER, MOST_STEPS};
 pub use logs::{END, HEAD, MOST_FLOWS, PROPERTIES, TAIL, triage_sarif};
 pub use merged::merged_sarif;
-pub use places::{MOST_LINE, file_of, line_of, relative};
+pub use places::{MOST_LINE, file_of, line_of};
 pub use sources::{SourceLine, Sources};

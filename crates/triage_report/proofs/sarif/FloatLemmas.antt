@@ -14,11 +14,13 @@ use Rattle.explain_report.specs.declared.places.arrows.TheConstants.{MAX_CALLS}
 use Rattle.triage_report.specs.sarif.Accesses.{Told, told_at}
 use Rattle.triage_report.specs.sarif.Flows.{code_flow, flow_by, flow_if, flows_below, places_below, is_step, step, step_at, steps_at, thread_flow, thread_flows}
 use Rattle.triage_report.specs.sarif.Locations.{artifact, function_members, location, logical, message, physical, region, single}
+use Rattle.triage_report.specs.Folder.{path_in}
+use Rattle.triage_report.specs.declared.folder.Folder.{Folder}
 use Rattle.triage_report.specs.sarif.Logs.{about_object, base_object, count_members, left_object, root_object, uri_object}
 use Rattle.race_parts.specs.Facts.{data_in}
 use Rattle.race_parts.specs.Pairs.{Shown}
 use Rattle.triage_report.specs.sarif.Merged.{merged_object, merged_words, told_in}
-use Rattle.triage_report.specs.sarif.Places.{file_of, is_absolute, line_of, relative, uri_of}
+use Rattle.triage_report.specs.sarif.Places.{file_of, is_absolute, line_of, uri_of}
 use Rattle.triage_report.specs.sarif.Results.{found_members, flow_members, result_object}
 use Rattle.triage_report.specs.sarif.Stacks.{access_location, call_frame, caller_words, callers, frame, frames, own_function, stack, stacks, told_location}
 use Rattle.triage_report.specs.sarif.Words.{access_words, message_words, outcome_rank}
@@ -75,14 +77,14 @@ map-no_float f each [] = refl
 map-no_float f each (x ∷ xs) = neither (has_float (f x)) (items_have_float (items_of (map f xs))) (each x) (map-no_float f each xs)
 
 -- locations
-artifact-no_float : (root path : List ℕ) → has_float (artifact root path) ≡ false
+artifact-no_float : (root : Folder) (path : List ℕ) → has_float (artifact root path) ≡ false
 artifact-no_float root path =
     let ms = member (codes "uri") (text (uri_of path)) no_members in
-    either (length root == 0 || is_absolute path) ms (put (codes "uriBaseId") (string (codes "SRCROOT")) ms) refl refl
+    either (length root.path.items == 0 || is_absolute path) ms (put (codes "uriBaseId") (string (codes "SRCROOT")) ms) refl refl
 
-physical-no_float : (root place : List ℕ) → has_float (physical root place) ≡ false
+physical-no_float : (root : Folder) (place : List ℕ) → has_float (physical root place) ≡ false
 physical-no_float root place =
-    let path = relative root (file_of place) in
+    let path = path_in root (file_of place) in
     let ms = member (codes "artifactLocation") (artifact root path) no_members in
     let line = line_of place in
     let file = alone (artifact root path) (artifact-no_float root path) in
@@ -93,7 +95,7 @@ called-no_float function words =
     let ms = member (codes "message") (message words) no_members in
     either (length function == 0) ms (put (codes "logicalLocations") (single (logical function)) ms) refl refl
 
-location-no_float : (root place function words : List ℕ) → has_float (location root place function words) ≡ false
+location-no_float : (root : Folder) (place function words : List ℕ) → has_float (location root place function words) ≡ false
 location-no_float root place function words =
     let ms = function_members function (member (codes "message") (message words) no_members) in
     let called = called-no_float function words in
@@ -101,33 +103,33 @@ location-no_float root place function words =
     (put-no_float (codes "physicalLocation") (physical root place) ms (physical-no_float root place) called)
     called
 
-told-no_float : (root : List ℕ) (t : Told) → has_float (told_location root t) ≡ false
+told-no_float : (root : Folder) (t : Told) → has_float (told_location root t) ≡ false
 told-no_float root t = location-no_float root (before_arrow t.location) (own_function t.location) (access_words t)
 
-access-no_float : (r : Recording) (root : List ℕ) (e : ℕ) → has_float (access_location r root e) ≡ false
+access-no_float : (r : Recording) (root : Folder) (e : ℕ) → has_float (access_location r root e) ≡ false
 access-no_float r root e = told-no_float root (told_at r e)
 
 -- stacks
-call-no_float : (root call : List ℕ) → has_float (call_frame root call) ≡ false
+call-no_float : (root : Folder) (call : List ℕ) → has_float (call_frame root call) ≡ false
 call-no_float root call =
     let function = call_function call in
     alone (location root (call_place call) function (caller_words function)) (location-no_float root (call_place call) function (caller_words function))
 
-frames-no_float : (root : List ℕ) (t : Told) → has_float (frames root t) ≡ false
+frames-no_float : (root : Folder) (t : Told) → has_float (frames root t) ≡ false
 frames-no_float root t =
     neither (has_float (frame (told_location root t))) _ (alone (told_location root t) (told-no_float root t)) (map-no_float (call_frame root) (call-no_float root) (calls_in MAX_CALLS (callers t.location)))
 
-stack-no_float : (root : List ℕ) (t : Told) → has_float (stack root t) ≡ false
+stack-no_float : (root : Folder) (t : Told) → has_float (stack root t) ≡ false
 stack-no_float root t = alone (frames root t) (frames-no_float root t)
 
-stacks-no_float : (root : List ℕ) (t u : Told) → has_float (stacks root t u) ≡ false
+stacks-no_float : (root : Folder) (t u : Told) → has_float (stacks root t u) ≡ false
 stacks-no_float root t u = neither (has_float (stack root t)) _ (stack-no_float root t) (alone (stack root u) (stack-no_float root u))
 
 -- flows
-step-no_float : (r : Recording) (root steps : List ℕ) (at : ℕ) → has_float (step r root steps at) ≡ false
+step-no_float : (r : Recording) (root : Folder) (steps : List ℕ) (at : ℕ) → has_float (step r root steps at) ≡ false
 step-no_float r root steps at = alone (access_location r root (step_at steps at)) (access-no_float r root (step_at steps at))
 
-thread-no_float : (r : Recording) (root steps : List ℕ) (u : ℕ) (places : List ℕ) → has_float (thread_flow r root steps u places) ≡ false
+thread-no_float : (r : Recording) (root : Folder) (steps : List ℕ) (u : ℕ) (places : List ℕ) → has_float (thread_flow r root steps u places) ≡ false
 thread-no_float r root steps u places =
     let kept = drop (length places - MOST_STEPS) places in
     alone (steps_at r root steps kept) (map-no_float (step r root steps) (step-no_float r root steps) kept)
@@ -136,24 +138,24 @@ either_list : (b : Bool) (xs ys : List Data) → items_have_float (items_of xs) 
 either_list true xs ys one other = one
 either_list false xs ys one other = other
 
-flow-no_float : (r : Recording) (root steps : List ℕ) (u : ℕ) (places : List ℕ) → items_have_float (items_of (flow_by r root steps u places)) ≡ false
+flow-no_float : (r : Recording) (root : Folder) (steps : List ℕ) (u : ℕ) (places : List ℕ) → items_have_float (items_of (flow_by r root steps u places)) ≡ false
 flow-no_float r root steps u places =
     either_list (length places == 0) [] (thread_flow r root steps u places ∷ []) refl
     (alone (thread_flow r root steps u places) (thread-no_float r root steps u places))
 
-flows-no_float : (r : Recording) (root steps : List ℕ) (n : ℕ) → items_have_float (items_of (flows_below r root steps n)) ≡ false
+flows-no_float : (r : Recording) (root : Folder) (steps : List ℕ) (n : ℕ) → items_have_float (items_of (flows_below r root steps n)) ≡ false
 flows-no_float r root steps zero = refl
 flows-no_float r root steps (suc n) = append-no_float (flows_below r root steps n) (flow_if r root steps n) (flows-no_float r root steps n) (flow-no_float r root steps n (places_below (is_step r steps n) (length steps)))
 
-code-no_float : (r : Recording) (root steps : List ℕ) → has_float (code_flow r root steps) ≡ false
+code-no_float : (r : Recording) (root : Folder) (steps : List ℕ) → has_float (code_flow r root steps) ≡ false
 code-no_float r root steps = alone (thread_flows r root steps) (flows-no_float r root steps (length r.threads))
 
 -- results
-shown-no_float : (r : Recording) (root : List ℕ) (steps : Option (List ℕ)) (ms : Members) → members_have_float ms ≡ false → members_have_float (flow_members r root steps ms) ≡ false
+shown-no_float : (r : Recording) (root : Folder) (steps : Option (List ℕ)) (ms : Members) → members_have_float ms ≡ false → members_have_float (flow_members r root steps ms) ≡ false
 shown-no_float r root None ms none = none
 shown-no_float r root (Some steps) ms none = put-no_float (codes "codeFlows") (single (code_flow r root steps)) ms (alone (code_flow r root steps) (code-no_float r root steps)) none
 
-place-no_float : (root : List ℕ) (t : Told) → has_float (single (told_location root t)) ≡ false
+place-no_float : (root : Folder) (t : Told) → has_float (single (told_location root t)) ≡ false
 place-no_float root t = alone (told_location root t) (told-no_float root t)
 
 found-no_float : (s : Sources) (rank : ℕ) (words : List ℕ) (t u : Told) → members_have_float (found_members s rank words t u no_members) ≡ false
@@ -178,10 +180,10 @@ root-no_float : (b : Bool) (root : List ℕ) → has_float (cond b (uri_object r
 root-no_float true root = refl
 root-no_float false root = refl
 
-pub base-no_float : (root : List ℕ) → has_float (base_object root) ≡ false
+pub base-no_float : (root : Folder) → has_float (base_object root) ≡ false
 base-no_float root =
-    either (length root == 0) no_members (put (codes "SRCROOT") (root_object root) no_members) refl
-    (put-no_float (codes "SRCROOT") (root_object root) no_members (root-no_float (is_absolute root) root) refl)
+    either (length root.path.items == 0) no_members (put (codes "SRCROOT") (root_object root.path.items) no_members) refl
+    (put-no_float (codes "SRCROOT") (root_object root.path.items) no_members (root-no_float (is_absolute root.path.items) root.path.items) refl)
 
 counted-no_float : (name : List ℕ) (count : Option ℕ) (ms : Members) → members_have_float ms ≡ false → members_have_float (count_members name count ms) ≡ false
 counted-no_float name None ms none = none

@@ -4,8 +4,9 @@ use Rattle.serde_json.specs.Data.{Data}
 use Rattle.explain_report.specs.places.Places.{before_arrow, behind_arrow, calls_in}
 use Rattle.triage_report.proofs.lines.CallLemmas.{calls_in-none, calls_in-some}
 use Rattle.triage_report.specs.sarif.Stacks.{call_frame}
+use Rattle.triage_report.specs.declared.folder.Folder.{Folder}
 
-module _ (root : List ℕ) where
+module _ (root : Folder) where
   -- a call more
   pub frames-more : (n m : ℕ) (out new : List Data) (text call : List ℕ) (more : Option (List ℕ)) → 0 < n → m ≡ n - 1 → new ≡ out ++ call_frame root call ∷ [] → call ≡ before_arrow text → more ≡ behind_arrow text
       → new ++ map (call_frame root) (calls_in m more) ≡ out ++ map (call_frame root) (calls_in n (Some text))

@@ -20,11 +20,12 @@ use Rattle.explain_report.specs.declared.findings.finding.Finding.{Finding}
 use Rattle.explain_report.specs.declared.findings.finding.Finding.TheVariants.{Race as FoundRace, Forced, Guarded, Undecided as FoundUndecided}
 use Rattle.triage_report.specs.sarif.Locations.{message}
 use Rattle.triage_report.specs.sarif.Stacks.{access_location}
+use Rattle.triage_report.specs.declared.folder.Folder.{Folder}
 use Rattle.triage_report.specs.declared.sarif.flows.Flow.{Flow}
 use Rattle.triage_report.specs.declared.sarif.flows.TheConstants.{MOST_ORDER, MOST_STEPS}
 
 -- what `told` says of the trace, the folder of the code and the steps of a flow
-abbrev pub of_flow : {X : Type 0} → (Recording → List ℕ → List ℕ → X) → Flow → X
+abbrev pub of_flow : {X : Type 0} → (Recording → Folder → List ℕ → X) → Flow → X
 of_flow told f = told f.indexed.now f.root.now f.steps.now
 
 -- the event at this place of the schedule; 0 if there is none
@@ -49,7 +50,7 @@ abbrev pub order_of : ℕ → ℕ
 order_of at = min at MOST_ORDER + 1
 
 -- the step at this place
-abbrev pub step : Recording → List ℕ → List ℕ → ℕ → Data
+abbrev pub step : Recording → Folder → List ℕ → ℕ → Data
 step r root steps at =
     object
     (member (codes "executionOrder") (whole (order_of at))
@@ -58,7 +59,7 @@ step r root steps at =
     no_members)))
 
 -- the steps at these places
-abbrev pub steps_at : Recording → List ℕ → List ℕ → List ℕ → Data
+abbrev pub steps_at : Recording → Folder → List ℕ → List ℕ → Data
 steps_at r root steps places = array (items_of (map (step r root steps) places))
 
 -- how many steps there are, and whether all are told
@@ -75,7 +76,7 @@ abbrev pub thread_name : Recording → ℕ → List ℕ
 thread_name r u = name_at r.threads u
 
 -- the flow of thread u, with steps at these places: the last of them
-abbrev pub thread_flow : Recording → List ℕ → List ℕ → ℕ → List ℕ → Data
+abbrev pub thread_flow : Recording → Folder → List ℕ → ℕ → List ℕ → Data
 thread_flow r root steps u places =
     object
     (count_members (length places)
@@ -83,7 +84,7 @@ thread_flow r root steps u places =
     (member (codes "locations") (steps_at r root steps (drop (length places - MOST_STEPS) places))
     no_members)))
 
-abbrev pub flow_by : Recording → List ℕ → List ℕ → ℕ → List ℕ → List Data
+abbrev pub flow_by : Recording → Folder → List ℕ → ℕ → List ℕ → List Data
 flow_by r root steps u places = cond (length places == 0) [] (thread_flow r root steps u places ∷ [])
 
 -- the places of thread u's steps, rising
@@ -91,20 +92,20 @@ abbrev pub step_places : Recording → List ℕ → ℕ → List ℕ
 step_places r steps u = places_below (is_step r steps u) (length steps)
 
 -- the flow of thread u, if it has a step
-abbrev pub flow_if : Recording → List ℕ → List ℕ → ℕ → List Data
+abbrev pub flow_if : Recording → Folder → List ℕ → ℕ → List Data
 flow_if r root steps u = flow_by r root steps u (step_places r steps u)
 
 -- the flows of the threads below n
-abbrev pub flows_below : Recording → List ℕ → List ℕ → ℕ → List Data
+abbrev pub flows_below : Recording → Folder → List ℕ → ℕ → List Data
 flows_below r root steps zero = []
 flows_below r root steps (suc n) = flows_below r root steps n ++ flow_if r root steps n
 
 -- a flow for each thread that has a step
-abbrev pub thread_flows : Recording → List ℕ → List ℕ → Data
+abbrev pub thread_flows : Recording → Folder → List ℕ → Data
 thread_flows r root steps = array (items_of (flows_below r root steps (length r.threads)))
 
 -- the code flow of a schedule
-abbrev pub code_flow : Recording → List ℕ → List ℕ → Data
+abbrev pub code_flow : Recording → Folder → List ℕ → Data
 code_flow r root steps = object (member (codes "threadFlows") (thread_flows r root steps) no_members)
 
 -- the outcome is a race

@@ -14,6 +14,7 @@ use Rattle.triage_report.specs.sarif.Places.{is_absolute, uri_of}
 use Rattle.triage_report.specs.sarif.Results.{shown_result}
 use Rattle.triage_report.specs.declared.sarif.logs.TheConstants.{END, HEAD, MOST_FLOWS, PROPERTIES, TAIL}
 use Rattle.triage_report.specs.declared.sarif.sources.Sources.{Sources}
+use Rattle.triage_report.specs.declared.folder.Folder.{Folder}
 
 -- the folder of the code: its URI if the path is an absolute one, else what it is
 abbrev pub uri_object : List ℕ → Data
@@ -26,10 +27,10 @@ abbrev pub root_object : List ℕ → Data
 root_object root = cond (is_absolute root) (uri_object root) about_object
 
 -- the folder under its name, if one is named
-abbrev pub base_members : List ℕ → Members → Members
-base_members root ms = cond (length root == 0) ms (put (codes "SRCROOT") (root_object root) ms)
+abbrev pub base_members : Folder → Members → Members
+base_members root ms = cond (length root.path.items == 0) ms (put (codes "SRCROOT") (root_object root.path.items) ms)
 
-abbrev pub base_object : List ℕ → Data
+abbrev pub base_object : Folder → Data
 base_object root = object (base_members root no_members)
 
 -- the members, with a number if there is one
@@ -42,7 +43,7 @@ abbrev pub left_object : Option ℕ → Option ℕ → Data
 left_object known hidden = object (count_members (codes "hidden") hidden (count_members (codes "known") known no_members))
 
 -- what comes after the results
-abbrev pub rest_text : List ℕ → Option ℕ → Option ℕ → List ℕ
+abbrev pub rest_text : Folder → Option ℕ → Option ℕ → List ℕ
 rest_text root known hidden = TAIL.now ++ compact_text (base_object root) ++ PROPERTIES.now ++ compact_text (left_object known hidden) ++ END.now
 
 -- a value, after a comma if it is a later one

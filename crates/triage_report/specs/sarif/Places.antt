@@ -17,10 +17,6 @@ line_number digits = fold (λ number digit. min number MOST_LINE * 10 + (digit -
 abbrev pub line_of : List ℕ → ℕ
 line_of place = cond (is_line place) (line_number (after_last is_colon place)) 0
 
--- what comes after the folder in a path that begins with it; any other path as it is
-abbrev pub relative : List ℕ → List ℕ → List ℕ
-relative root path = cond (starts_with nat_eq path root) (drop (length root) path) path
-
 -- the path begins with a slash
 abbrev pub is_absolute : List ℕ → Bool
 is_absolute path = starts_with nat_eq path (codes "/")

@@ -8,8 +8,9 @@ use Rattle.serde_json.specs.Data.{Data, member, no_members, object}
 use Rattle.triage_report.specs.json.Objects.{text}
 use Rattle.explain_report.specs.places.Places.{before_arrow}
 use Rattle.variable_names.specs.Names.{parts_of}
+use Rattle.triage_report.specs.Folder.{path_in}
 use Rattle.triage_report.specs.sarif.Accesses.{Told, access_told}
-use Rattle.triage_report.specs.sarif.Places.{file_of, line_text, relative}
+use Rattle.triage_report.specs.sarif.Places.{file_of, line_text}
 use Rattle.triage_report.specs.sarif.Stacks.{own_function}
 use Rattle.triage_report.specs.declared.sarif.accesses.Access.{Access}
 use Rattle.triage_report.specs.declared.sarif.sources.Sources.{Sources}
@@ -17,7 +18,7 @@ use Rattle.triage_report.specs.declared.sarif.sources.Sources.{Sources}
 -- the file, the function, the variable without its number (the texts before and after it), and the line of an access
 abbrev pub side : Sources → Told → List ℕ
 side s t =
-    concat (relative s.root.now (file_of (before_arrow t.location)) ∷ codes "\n" ∷ own_function t.location ∷ codes "\n" ∷ (parts_of t.variable).0 ∷ (parts_of t.variable).1
+    concat (path_in s.root.now (file_of (before_arrow t.location)) ∷ codes "\n" ∷ own_function t.location ∷ codes "\n" ∷ (parts_of t.variable).0 ∷ (parts_of t.variable).1
     ∷ codes "\n" ∷ line_text s.lines.now (before_arrow t.location) ∷ [])
 
 abbrev pub both : List ℕ → List ℕ → List ℕ

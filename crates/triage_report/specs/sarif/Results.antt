@@ -13,6 +13,7 @@ use Rattle.triage_report.specs.sarif.Stacks.{stacks, told_location}
 use Rattle.triage_report.specs.sarif.Words.{kind_word, level_word, message_words, outcome_rank, rule_number, rule_word}
 use Rattle.triage_report.specs.declared.sarif.results.Found.{Found}
 use Rattle.triage_report.specs.declared.sarif.sources.Sources.{Sources}
+use Rattle.triage_report.specs.declared.folder.Folder.{Folder}
 
 -- the rule, and how bad it is
 abbrev pub word_members : ℕ → Members → Members
@@ -27,11 +28,11 @@ abbrev pub said_members : List ℕ → Members → Members
 said_members words ms = put (codes "message") (message words) ms
 
 -- the location of an access under this name
-abbrev pub place_members : List ℕ → List ℕ → Told → Members → Members
+abbrev pub place_members : Folder → List ℕ → Told → Members → Members
 place_members root name t ms = put name (single (told_location root t)) ms
 
 -- the two accesses, the later first, and their stacks
-abbrev pub access_members : List ℕ → Told → Told → Members → Members
+abbrev pub access_members : Folder → Told → Told → Members → Members
 access_members root t u ms =
     put (codes "stacks") (stacks root u t)
     (place_members root (codes "relatedLocations") t
@@ -50,11 +51,11 @@ abbrev pub found_told : Sources → Found → Members → Members
 found_told s f ms = found_members s f.rank f.words.now (access_told f.first) (access_told f.second) ms
 
 -- the code flow of these steps
-abbrev pub step_members : Recording → List ℕ → List ℕ → Members → Members
+abbrev pub step_members : Recording → Folder → List ℕ → Members → Members
 step_members r root steps ms = put (codes "codeFlows") (single (code_flow r root steps)) ms
 
 -- the same, if there are any
-abbrev pub flow_members : Recording → List ℕ → Option (List ℕ) → Members → Members
+abbrev pub flow_members : Recording → Folder → Option (List ℕ) → Members → Members
 flow_members r root None ms = ms
 flow_members r root (Some steps) ms = step_members r root steps ms
 

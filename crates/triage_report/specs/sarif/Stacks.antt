@@ -9,6 +9,7 @@ use Rattle.explain_report.specs.declared.places.arrows.TheConstants.{MAX_CALLS}
 use Rattle.triage_report.specs.sarif.Accesses.{Told, told_at}
 use Rattle.triage_report.specs.sarif.Locations.{location, message}
 use Rattle.triage_report.specs.sarif.Words.{access_words}
+use Rattle.triage_report.specs.declared.folder.Folder.{Folder}
 
 -- the function of the first call, if it has no place
 abbrev pub function_in : List ℕ → List ℕ
@@ -35,10 +36,10 @@ abbrev pub callers : List ℕ → Option (List ℕ)
 callers location = callers_by (behind_arrow location)
 
 -- the location of an access, and that of access e
-abbrev pub told_location : List ℕ → Told → Data
+abbrev pub told_location : Folder → Told → Data
 told_location root t = location root (before_arrow t.location) (own_function t.location) (access_words t)
 
-abbrev pub access_location : Recording → List ℕ → ℕ → Data
+abbrev pub access_location : Recording → Folder → ℕ → Data
 access_location r root e = told_location root (told_at r e)
 
 -- the frame of a location
@@ -46,7 +47,7 @@ abbrev pub frame : Data → Data
 frame d = object (member (codes "location") d no_members)
 
 -- the frame of an access itself
-abbrev pub own_frame : List ℕ → Told → Data
+abbrev pub own_frame : Folder → Told → Data
 own_frame root t = frame (told_location root t)
 
 -- what is said of a call of this function
@@ -54,11 +55,11 @@ abbrev pub caller_words : List ℕ → List ℕ
 caller_words function = cond (length function == 0) (codes "a call") function
 
 -- the frame of a call
-abbrev pub call_frame : List ℕ → List ℕ → Data
+abbrev pub call_frame : Folder → List ℕ → Data
 call_frame root call = frame (location root (call_place call) (call_function call) (caller_words (call_function call)))
 
 -- the frames of an access, the innermost first
-abbrev pub frames : List ℕ → Told → Data
+abbrev pub frames : Folder → Told → Data
 frames root t = array (items_of (own_frame root t ∷ map (call_frame root) (calls_in MAX_CALLS (callers t.location))))
 
 -- what is said of an access
@@ -66,9 +67,9 @@ abbrev pub said_members : Told → Members → Members
 said_members t ms = put (codes "message") (message (access_words t)) ms
 
 -- the stack of an access
-abbrev pub stack : List ℕ → Told → Data
+abbrev pub stack : Folder → Told → Data
 stack root t = object (said_members t (member (codes "frames") (frames root t) no_members))
 
 -- the stacks of two accesses
-abbrev pub stacks : List ℕ → Told → Told → Data
+abbrev pub stacks : Folder → Told → Told → Data
 stacks root t u = array (items_of (stack root t ∷ stack root u ∷ []))

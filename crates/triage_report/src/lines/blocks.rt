@@ -1,9 +1,10 @@
 //! The lines of one verdict.
-ghost use Rattle.std.specs.Prelude.{◌≡◌, ◌<◌, length};
+ghost use Rattle.std.specs.Prelude.{◌≡◌, ◌<◌, length, IfOk};
 ghost use Rattle.rapid_text.specs.Appended.{Appended};
 ghost use Rattle.rapid_text.specs.Canonical.{name_at};
-ghost use Rattle.triage_report.specs.lines.Lines.{about_line, access_lines, earlier_words, head_line, held_lines, how_words, later_words, lock_line, lock_lines, outcome_words, reason_line, reason_words, rule_words, verdict_lines};
+ghost use Rattle.triage_report.specs.lines.Lines.{about_line, access_lines, earlier_words, head_line, held_lines, how_words, later_words, lines_at, lock_line, lock_lines, outcome_words, reason_line, reason_words, rule_words, shown_at, verdict_lines};
 
+use crate::folder::{Folder, place_in};
 use crate::lines::accesses::{spot_of, thread_of, variable_of, verb_of};
 use crate::lines::calls::append_calls;
 use crate::lines::reasons::{append_apart, append_race, append_undecided};
@@ -18,15 +19,51 @@ use report::{Piece, append_pieces};
 pub(crate) fn append_verdict(
     out: &mut Vec<u8>,
     analysis: &Analysis<'_>,
+    folder: &Folder,
     verdict: &Verdict,
 ) -> Result<(), OutOfMemory>
-    ensures { Appended result out.old out.new (verdict_lines analysis.now verdict.now) }
+    ensures { Appended result out.old out.new (verdict_lines analysis.now folder.now verdict.now) }
+{
+    let first = place_at(out, analysis.indexed(), folder, verdict.first)?;
+    let second = place_at(out, analysis.indexed(), folder, verdict.second)?;
+    append_at(
+        out,
+        analysis,
+        folder,
+        first.as_slice(),
+        second.as_slice(),
+        verdict,
+    )
+}
+
+/// The place of an event, with the path of its file in the folder.
+fn place_at(
+    out: &Vec<u8>,
+    indexed: &Indexed,
+    folder: &Folder,
+    event: u32,
+) -> Result<Vec<u8>, OutOfMemory>
+    ensures { IfOk result (λ place. place.items ≡ shown_at indexed.now folder.now event) }
+{
+    place_in(*out.allocator(), folder, spot_of(indexed, event))
+}
+
+/// Appends the lines of a verdict whose two accesses are at these places.
+fn append_at(
+    out: &mut Vec<u8>,
+    analysis: &Analysis<'_>,
+    folder: &Folder,
+    first: &[u8],
+    second: &[u8],
+    verdict: &Verdict,
+) -> Result<(), OutOfMemory>
+    ensures { Appended result out.old out.new (lines_at analysis.now folder.now first.now second.now verdict.now) }
 {
     let indexed = analysis.indexed();
-    append_head(out, indexed, verdict)?;
-    append_access(out, analysis, verdict.second)?;
-    append_access(out, analysis, verdict.first)?;
-    append_reason(out, indexed, verdict)?;
+    append_head(out, indexed, first, second, verdict)?;
+    append_access(out, analysis, folder, second, verdict.second)?;
+    append_access(out, analysis, folder, first, verdict.first)?;
+    append_reason(out, second, verdict)?;
     Ok(())
 }
 
@@ -61,24 +98,35 @@ fn rule_words(outcome: Outcome) -> &'static [u8]
     }
 }
 
-/// Appends the first line of a verdict.
-fn append_head(out: &mut Vec<u8>, indexed: &Indexed, verdict: &Verdict) -> Result<(), OutOfMemory>
-    ensures { Appended result out.old out.new (head_line indexed.now verdict.now) }
+/// Appends the first line of a verdict whose two accesses are at these places.
+fn append_head(
+    out: &mut Vec<u8>,
+    indexed: &Indexed,
+    first: &[u8],
+    second: &[u8],
+    verdict: &Verdict,
+) -> Result<(), OutOfMemory>
+    ensures { Appended result out.old out.new (head_line indexed.now first.now second.now verdict.now) }
 {
-    append_later(out, indexed, verdict)?;
-    append_earlier(out, indexed, verdict)?;
+    append_later(out, indexed, second, verdict)?;
+    append_earlier(out, indexed, first, verdict)?;
     Ok(())
 }
 
-/// Appends the part of the first line on the later access.
-fn append_later(out: &mut Vec<u8>, indexed: &Indexed, verdict: &Verdict) -> Result<(), OutOfMemory>
-    ensures { Appended result out.old out.new (later_words indexed.now verdict.now) }
+/// Appends the part of the first line on the later access, which is at this place.
+fn append_later<'a>(
+    out: &mut Vec<u8>,
+    indexed: &'a Indexed,
+    place: &'a [u8],
+    verdict: &Verdict,
+) -> Result<(), OutOfMemory>
+    ensures { Appended result out.old out.new (later_words indexed.now place.now verdict.now) }
 {
     let second = verdict.second;
     append_pieces(
         out,
         &[
-            Piece::Words(spot_of(indexed, second)),
+            Piece::Words(place),
             Piece::Words(b": "),
             Piece::Words(outcome_words(verdict.outcome)),
             Piece::Words(b" on "),
@@ -91,13 +139,14 @@ fn append_later(out: &mut Vec<u8>, indexed: &Indexed, verdict: &Verdict) -> Resu
     )
 }
 
-/// Appends the part of the first line on the earlier access, and ends the line.
-fn append_earlier(
+/// Appends the part of the first line on the earlier access, which is at this place, and ends the line.
+fn append_earlier<'a>(
     out: &mut Vec<u8>,
-    indexed: &Indexed,
+    indexed: &'a Indexed,
+    place: &'a [u8],
     verdict: &Verdict,
 ) -> Result<(), OutOfMemory>
-    ensures { Appended result out.old out.new (earlier_words indexed.now verdict.now) }
+    ensures { Appended result out.old out.new (earlier_words indexed.now place.now verdict.now) }
 {
     let first = verdict.first;
     append_pieces(
@@ -108,7 +157,7 @@ fn append_earlier(
             Piece::Words(b" "),
             Piece::Words(verb_of(indexed, first)),
             Piece::Words(b" at "),
-            Piece::Words(spot_of(indexed, first)),
+            Piece::Words(place),
             Piece::Words(b" ["),
             Piece::Words(rule_words(verdict.outcome)),
             Piece::Words(b"]\n"),
@@ -116,29 +165,39 @@ fn append_earlier(
     )
 }
 
-/// Appends the lines of an access, if the trace has it.
-fn append_access(out: &mut Vec<u8>, analysis: &Analysis<'_>, event: u32) -> Result<(), OutOfMemory>
-    ensures { Appended result out.old out.new (access_lines analysis.now event) }
+/// Appends the lines of an access at this place, if the trace has it.
+fn append_access(
+    out: &mut Vec<u8>,
+    analysis: &Analysis<'_>,
+    folder: &Folder,
+    place: &[u8],
+    event: u32,
+) -> Result<(), OutOfMemory>
+    ensures { Appended result out.old out.new (access_lines analysis.now folder.now place.now event) }
 {
     let indexed = analysis.indexed();
     if event >= indexed.len() {
         return Ok(());
     }
-    let place = spot_of(indexed, event);
-    append_about(out, indexed, event)?;
+    append_about(out, indexed, place, event)?;
     append_held(out, analysis, place, event)?;
-    append_calls(out, place, location_of(indexed, event))?;
+    append_calls(out, folder, place, location_of(indexed, event))?;
     Ok(())
 }
 
-/// Appends the line `event` of an access.
-fn append_about(out: &mut Vec<u8>, indexed: &Indexed, event: u32) -> Result<(), OutOfMemory>
-    ensures { Appended result out.old out.new (about_line indexed.now event) }
+/// Appends the line `event` of an access at this place.
+fn append_about<'a>(
+    out: &mut Vec<u8>,
+    indexed: &'a Indexed,
+    place: &'a [u8],
+    event: u32,
+) -> Result<(), OutOfMemory>
+    ensures { Appended result out.old out.new (about_line indexed.now place.now event) }
 {
     append_pieces(
         out,
         &[
-            Piece::Words(spot_of(indexed, event)),
+            Piece::Words(place),
             Piece::Words(b": note: event "),
             Piece::Number(u64::from(event)),
             Piece::Words(b": "),
@@ -214,17 +273,11 @@ fn lock_name(indexed: &Indexed, lock: u32) -> &[u8]
     }
 }
 
-/// Appends the last line of a verdict, with the reason.
-fn append_reason(out: &mut Vec<u8>, indexed: &Indexed, verdict: &Verdict) -> Result<(), OutOfMemory>
-    ensures { Appended result out.old out.new (reason_line indexed.now verdict.now) }
+/// Appends the last line of a verdict, with the reason. The later access is at this place.
+fn append_reason(out: &mut Vec<u8>, place: &[u8], verdict: &Verdict) -> Result<(), OutOfMemory>
+    ensures { Appended result out.old out.new (reason_line place.now verdict.now) }
 {
-    append_pieces(
-        out,
-        &[
-            Piece::Words(spot_of(indexed, verdict.second)),
-            Piece::Words(b": note: "),
-        ],
-    )?;
+    append_pieces(out, &[Piece::Words(place), Piece::Words(b": note: ")])?;
     append_why(out, verdict.outcome)?;
     append_how(out, verdict)?;
     Ok(())

@@ -3,6 +3,7 @@ ghost use Rattle.std.specs.Prelude.{◌≡◌};
 ghost use Rattle.rapid_text.specs.Appended.{Appended};
 ghost use Rattle.triage_report.specs.lines.Lines.{call_line, location_lines, place_or, said_of};
 
+use crate::folder::{Folder, place_in};
 use explain_report::places::{MAX_CALLS, call_of, cut_at_arrow};
 use rapid_text::OutOfMemory;
 use report::{Piece, append_pieces};
@@ -10,17 +11,18 @@ use report::{Piece, append_pieces};
 /// Appends a line for each call of the location, 64 at most. `place` is that of the access.
 pub(crate) fn append_calls(
     out: &mut Vec<u8>,
+    folder: &Folder,
     place: &[u8],
     location: &[u8],
 ) -> Result<(), OutOfMemory>
-    ensures { Appended result out.old out.new (location_lines place.now location.now) }
+    ensures { Appended result out.old out.new (location_lines folder.now place.now location.now) }
 {
     let (_, mut rest) = cut_at_arrow(location);
     for done in 0..MAX_CALLS {
         match rest {
             Some(text) => {
                 let (call, more) = cut_at_arrow(text);
-                append_call(out, place, call)?;
+                append_call(out, folder, place, call)?;
                 rest = more;
             }
             None => return Ok(()),
@@ -30,11 +32,17 @@ pub(crate) fn append_calls(
 }
 
 /// Appends the line of a call. `place` is that of the access.
-fn append_call<'a>(out: &mut Vec<u8>, place: &'a [u8], call: &'a [u8]) -> Result<(), OutOfMemory>
-    ensures { Appended result out.old out.new (call_line place.now call.now) }
+fn append_call(
+    out: &mut Vec<u8>,
+    folder: &Folder,
+    place: &[u8],
+    call: &[u8],
+) -> Result<(), OutOfMemory>
+    ensures { Appended result out.old out.new (call_line folder.now place.now call.now) }
 {
     let call = call_of(call);
-    append_said(out, place_or(place, call.place), call.function)
+    let own = place_in(*out.allocator(), folder, call.place)?;
+    append_said(out, place_or(place, own.as_slice()), call.function)
 }
 
 /// Appends the line of a call of this function, at this place.

@@ -3,6 +3,7 @@ ghost use Rattle.std.specs.Prelude.{◌≡◌, []};
 ghost use Rattle.race_parts.specs.Made.{Changed, FilledAs, MadeAs};
 ghost use Rattle.triage_report.specs.sarif.Logs.{about_object, base_object, count_members, left_object, root_object, uri_object};
 
+use crate::folder::Folder;
 use crate::json::{put_number, put_text};
 use crate::sarif::locations::message_of;
 use crate::sarif::places::{append_uri, is_absolute};
@@ -11,7 +12,7 @@ use serde_json::{Map, Value, put};
 use std::alloc::Global;
 
 /// The object that gives the folder of the code a name; without members if no folder is named.
-pub(crate) fn base_of(alloc: Global, root: &[u8]) -> Result<Value, OutOfMemory>
+pub(crate) fn base_of(alloc: Global, root: &Folder) -> Result<Value, OutOfMemory>
     ensures { MadeAs result (base_object root.now) }
 {
     let mut members = Map::new(alloc);
@@ -20,14 +21,19 @@ pub(crate) fn base_of(alloc: Global, root: &[u8]) -> Result<Value, OutOfMemory>
 }
 
 /// Puts the folder of the code, if one is named.
-fn put_base(members: &mut Map<String, Value>, alloc: Global, root: &[u8]) -> Result<(), OutOfMemory>
+fn put_base(
+    members: &mut Map<String, Value>,
+    alloc: Global,
+    root: &Folder,
+) -> Result<(), OutOfMemory>
     requires { members.old.entries ≡ [] }
     ensures { FilledAs result members.new (base_object root.now) }
 {
-    if root.is_empty() {
+    let path = root.path.as_slice();
+    if path.is_empty() {
         return Ok(());
     }
-    let value = root_of(alloc, root)?;
+    let value = root_of(alloc, path)?;
     put(members, alloc, "SRCROOT", value)?;
     Ok(())
 }

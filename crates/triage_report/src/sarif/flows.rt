@@ -5,6 +5,7 @@ ghost use Rattle.race_parts.specs.Made.{Changed, FilledAs, MadeAs};
 ghost use Rattle.triage_report.specs.Appending.{AppendedView, AppendedViews};
 ghost use Rattle.triage_report.specs.sarif.Flows.{code_flow, count_members, count_words, flow_by, flow_if, importance, is_step, of_flow, order_of, step, step_at, step_places, steps_at, thread_flow, thread_flows, thread_name};
 
+use crate::folder::Folder;
 use crate::json::{put_number, put_text, put_word};
 use crate::sarif::locations::put_message;
 use crate::sarif::stacks::access_of;
@@ -25,7 +26,7 @@ pub const MOST_STEPS: usize = 200;
 #[derive(Clone, Copy)]
 pub(crate) struct Flow<'a> {
     pub(crate) indexed: &'a Indexed,
-    pub(crate) root: &'a [u8],
+    pub(crate) root: &'a Folder,
     pub(crate) steps: &'a [u32],
 }
 

@@ -5,8 +5,9 @@ ghost use Rattle.serde_json.specs.View.{view};
 ghost use Rattle.race_parts.specs.Made.{Changed, FilledAs, MadeAs};
 ghost use Rattle.triage_report.specs.sarif.Locations.{artifact, base_members, function_members, logical, message, physical, physical_members, region, region_members, single, spot_location};
 
+use crate::folder::{Folder, path_in};
 use crate::json::{put_number, put_text, put_word};
-use crate::sarif::places::{MOST_LINE, append_uri, file_of, is_absolute, line_of, relative};
+use crate::sarif::places::{MOST_LINE, append_uri, file_of, is_absolute, line_of};
 use explain_report::places::is_line;
 use rapid_text::OutOfMemory;
 use serde_json::{Map, Value, put};
@@ -47,7 +48,11 @@ pub(crate) fn put_single(
 }
 
 /// The object of a location.
-pub(crate) fn location_of(alloc: Global, root: &[u8], spot: Spot<'_>) -> Result<Value, OutOfMemory>
+pub(crate) fn location_of(
+    alloc: Global,
+    root: &Folder,
+    spot: Spot<'_>,
+) -> Result<Value, OutOfMemory>
     ensures { MadeAs result (spot_location root.now spot.entry) }
 {
     let mut members = Map::new(alloc);
@@ -59,7 +64,7 @@ pub(crate) fn location_of(alloc: Global, root: &[u8], spot: Spot<'_>) -> Result<
 fn put_location(
     members: &mut Map<String, Value>,
     alloc: Global,
-    root: &[u8],
+    root: &Folder,
     spot: Spot<'_>,
 ) -> Result<(), OutOfMemory>
     requires { members.old.entries ≡ [] }
@@ -138,7 +143,7 @@ fn put_logical(
 fn put_physical(
     members: &mut Map<String, Value>,
     alloc: Global,
-    root: &[u8],
+    root: &Folder,
     place: &[u8],
 ) -> Result<(), OutOfMemory>
     ensures { Changed result members.old members.new (physical_members root.now place.now) }
@@ -152,7 +157,7 @@ fn put_physical(
 }
 
 /// The file and the line of a place, as a physical location.
-fn physical_of(alloc: Global, root: &[u8], place: &[u8]) -> Result<Value, OutOfMemory>
+fn physical_of(alloc: Global, root: &Folder, place: &[u8]) -> Result<Value, OutOfMemory>
     ensures { MadeAs result (physical root.now place.now) }
 {
     let mut members = Map::new(alloc);
@@ -164,13 +169,13 @@ fn physical_of(alloc: Global, root: &[u8], place: &[u8]) -> Result<Value, OutOfM
 fn put_parts(
     members: &mut Map<String, Value>,
     alloc: Global,
-    root: &[u8],
+    root: &Folder,
     place: &[u8],
 ) -> Result<(), OutOfMemory>
     requires { members.old.entries ≡ [] }
     ensures { FilledAs result members.new (physical root.now place.now) }
 {
-    let value = artifact_of(alloc, root, relative(root, file_of(place)))?;
+    let value = artifact_of(alloc, root, path_in(root, file_of(place)))?;
     put(members, alloc, "artifactLocation", value)?;
     put_region(members, alloc, line_of(place))
 }
@@ -197,7 +202,7 @@ fn region_of(alloc: Global, line: u64) -> Result<Value, OutOfMemory>
 }
 
 /// The object of a file.
-fn artifact_of(alloc: Global, root: &[u8], path: &[u8]) -> Result<Value, OutOfMemory>
+fn artifact_of(alloc: Global, root: &Folder, path: &[u8]) -> Result<Value, OutOfMemory>
     ensures { MadeAs result (artifact root.now path.now) }
 {
     let mut members = Map::new(alloc);
@@ -209,7 +214,7 @@ fn artifact_of(alloc: Global, root: &[u8], path: &[u8]) -> Result<Value, OutOfMe
 fn put_artifact(
     members: &mut Map<String, Value>,
     alloc: Global,
-    root: &[u8],
+    root: &Folder,
     path: &[u8],
 ) -> Result<(), OutOfMemory>
     requires { members.old.entries ≡ [] }
@@ -225,12 +230,12 @@ fn put_artifact(
 fn put_base(
     members: &mut Map<String, Value>,
     alloc: Global,
-    root: &[u8],
+    root: &Folder,
     path: &[u8],
 ) -> Result<(), OutOfMemory>
     ensures { Changed result members.old members.new (base_members root.now path.now) }
 {
-    if root.is_empty() || is_absolute(path) {
+    if root.path.as_slice().is_empty() || is_absolute(path) {
         return Ok(());
     }
     put_word(members, alloc, "uriBaseId", "SRCROOT")?;

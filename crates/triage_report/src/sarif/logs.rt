@@ -8,6 +8,7 @@ ghost use Rattle.triage_report.specs.sarif.Logs.{base_object, item_text, joined,
 ghost use Rattle.triage_report.specs.sarif.Results.{shown_result};
 ghost use Rattle.triage_report.specs.sarif.Rules.{tail_text, AreFrames, AreLimits};
 
+use crate::folder::Folder;
 use crate::sarif::bases::{base_of, left_of};
 use crate::sarif::results::result_of;
 use crate::sarif::schedules::steps_of;
@@ -85,7 +86,7 @@ fn append_log(
 /// Appends what comes after the results.
 pub(crate) fn append_rest(
     out: &mut Vec<u8>,
-    root: &[u8],
+    root: &Folder,
     known: Option<u64>,
     hidden: Option<u64>,
 ) -> Result<(), OutOfMemory>
@@ -173,7 +174,7 @@ fn append_value(out: &mut Vec<u8>, object: &Value) -> Result<(), OutOfMemory>
 }
 
 /// Appends the folder of the code, if one is named.
-fn append_base(out: &mut Vec<u8>, root: &[u8]) -> Result<(), OutOfMemory>
+fn append_base(out: &mut Vec<u8>, root: &Folder) -> Result<(), OutOfMemory>
     ensures { Appended result out.old out.new (compact_text (base_object root.now)) }
 {
     let object = base_of(*out.allocator(), root)?;

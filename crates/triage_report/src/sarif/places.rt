@@ -1,7 +1,7 @@
 //! The file, the line and the URI of a place.
 ghost use Rattle.std.specs.Prelude.{◌≡◌, ◌<◌};
 ghost use Rattle.rapid_text.specs.Appended.{Appended};
-ghost use Rattle.triage_report.specs.sarif.Places.{encoded, encoded_byte, file_of, hex_digit, is_absolute, is_plain, line_number, line_of, relative, uri_of};
+ghost use Rattle.triage_report.specs.sarif.Places.{encoded, encoded_byte, file_of, hex_digit, is_absolute, is_plain, line_number, line_of, uri_of};
 
 use explain_report::places::{cut_at_last, is_line};
 use rapid_text::OutOfMemory;
@@ -37,16 +37,6 @@ fn line_number(digits: &[u8]) -> u64
     digits.iter().fold(0, |number, digit| {
         number.min(MOST_LINE) * 10 + u64::from(digit.saturating_sub(b'0'))
     })
-}
-
-/// The path without this folder at its beginning; unchanged if it does not begin with the folder.
-pub fn relative<'a>(root: &[u8], path: &'a [u8]) -> &'a [u8]
-    ensures { result.now ≡ relative root.now path.now }
-{
-    if !path.starts_with(root) {
-        return path;
-    }
-    &path[root.len()..]
 }
 
 /// Whether the path is absolute: it begins with a slash.

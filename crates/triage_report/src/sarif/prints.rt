@@ -4,9 +4,10 @@ ghost use Rattle.rapid_text.specs.Appended.{Appended};
 ghost use Rattle.race_parts.specs.Made.{FilledAs, MadeAs};
 ghost use Rattle.triage_report.specs.sarif.Prints.{both, ordered, print_told, side_told};
 
+use crate::folder::path_in;
 use crate::json::put_text;
 use crate::sarif::accesses::Access;
-use crate::sarif::places::{file_of, relative};
+use crate::sarif::places::file_of;
 use crate::sarif::sources::{Sources, line_text};
 use crate::sarif::stacks::own_function;
 use explain_report::places::cut_at_arrow;
@@ -110,7 +111,7 @@ fn append_side<'a>(
     append_pieces(
         out,
         &[
-            Piece::Words(relative(sources.root, file_of(place))),
+            Piece::Words(path_in(sources.root, file_of(place))),
             Piece::Words(b"\n"),
             Piece::Words(own_function(access.location)),
             Piece::Words(b"\n"),

@@ -4,6 +4,7 @@ ghost use Rattle.race_parts.specs.Made.{Changed, FilledAs, MadeAs};
 ghost use Rattle.triage_report.specs.sarif.Accesses.{access_told};
 ghost use Rattle.triage_report.specs.sarif.Results.{access_members, flow_members, found_told, place_members, print_members, shown_result, step_members, word_members};
 
+use crate::folder::Folder;
 use crate::json::{put_number, put_word};
 use crate::sarif::accesses::{Access, access_at};
 use crate::sarif::flows::{Flow, flow_of};
@@ -103,7 +104,7 @@ fn put_words(members: &mut Map<String, Value>, alloc: Global, rank: u8) -> Resul
 fn put_accesses(
     members: &mut Map<String, Value>,
     alloc: Global,
-    root: &[u8],
+    root: &Folder,
     first: Access<'_>,
     second: Access<'_>,
 ) -> Result<(), OutOfMemory>
@@ -124,7 +125,7 @@ fn put_accesses(
 fn put_place(
     members: &mut Map<String, Value>,
     alloc: Global,
-    root: &[u8],
+    root: &Folder,
     name: &str,
     access: Access<'_>,
 ) -> Result<(), OutOfMemory>
@@ -154,7 +155,7 @@ fn put_flow(
     members: &mut Map<String, Value>,
     alloc: Global,
     indexed: &Indexed,
-    root: &[u8],
+    root: &Folder,
     steps: &Option<Vec<u32>>,
 ) -> Result<(), OutOfMemory>
     ensures { Changed result members.old members.new (flow_members indexed.now root.now (option_map (λ s. s.items) steps.now)) }
@@ -170,7 +171,7 @@ fn put_steps(
     members: &mut Map<String, Value>,
     alloc: Global,
     indexed: &Indexed,
-    root: &[u8],
+    root: &Folder,
     steps: &[u32],
 ) -> Result<(), OutOfMemory>
     ensures { Changed result members.old members.new (step_members indexed.now root.now steps.now) }

@@ -1,6 +1,8 @@
-//! The folder of the code, and lines of the code.
+//! Lines of the code.
 ghost use Rattle.std.specs.Prelude.{◌≡◌};
 ghost use Rattle.triage_report.specs.sarif.Places.{is_at, line_at, line_text, text_at, text_if};
+
+use crate::folder::Folder;
 
 /// A line of the code.
 #[derive(Drop)]
@@ -14,8 +16,8 @@ pub struct SourceLine {
 /// The code that ran.
 #[derive(Clone, Copy)]
 pub struct Sources<'a> {
-    /// The folder of the code with a slash at the end; empty if no folder is named.
-    pub root: &'a [u8],
+    /// The folder of the code.
+    pub root: &'a Folder,
     /// Lines of the code that were read. Fingerprints have their texts.
     pub lines: &'a [SourceLine],
 }

@@ -8,6 +8,7 @@ ghost use Rattle.triage_report.specs.Appending.{AppendedView, AppendedViews};
 ghost use Rattle.triage_report.specs.sarif.Accesses.{access_told};
 ghost use Rattle.triage_report.specs.sarif.Stacks.{access_location, call_frame, caller_words, callers, callers_in, frame, frames, function_in, own_frame, own_function, said_members, stack, stacks, told_location};
 
+use crate::folder::Folder;
 use crate::sarif::accesses::{Access, access_at};
 use crate::sarif::locations::{Spot, location_of, put_message};
 use crate::sarif::words::append_access;
@@ -66,7 +67,7 @@ fn callers_in(text: &[u8]) -> Option<&[u8]>
 pub(crate) fn access_of(
     alloc: Global,
     indexed: &Indexed,
-    root: &[u8],
+    root: &Folder,
     event: u32,
 ) -> Result<Value, OutOfMemory>
     ensures { MadeAs result (access_location indexed.now root.now event) }
@@ -75,7 +76,11 @@ pub(crate) fn access_of(
 }
 
 /// The location of an access, with a message.
-pub(crate) fn told_of(alloc: Global, root: &[u8], access: Access<'_>) -> Result<Value, OutOfMemory>
+pub(crate) fn told_of(
+    alloc: Global,
+    root: &Folder,
+    access: Access<'_>,
+) -> Result<Value, OutOfMemory>
     ensures { MadeAs result (told_location root.now (access_told access.entry)) }
 {
     let mut words = Vec::new(alloc);
@@ -95,7 +100,7 @@ pub(crate) fn told_of(alloc: Global, root: &[u8], access: Access<'_>) -> Result<
 /// The list of the stacks of the two accesses.
 pub(crate) fn stacks_of(
     alloc: Global,
-    root: &[u8],
+    root: &Folder,
     one: Access<'_>,
     other: Access<'_>,
 ) -> Result<Value, OutOfMemory>
@@ -111,7 +116,7 @@ pub(crate) fn stacks_of(
 fn push_stack(
     stacks: &mut Vec<Value>,
     alloc: Global,
-    root: &[u8],
+    root: &Folder,
     access: Access<'_>,
 ) -> Result<(), OutOfMemory>
     ensures { AppendedView result stacks.old stacks.new (stack root.now (access_told access.entry)) }
@@ -122,7 +127,7 @@ fn push_stack(
 }
 
 /// The stack of an access.
-fn stack_of(alloc: Global, root: &[u8], access: Access<'_>) -> Result<Value, OutOfMemory>
+fn stack_of(alloc: Global, root: &Folder, access: Access<'_>) -> Result<Value, OutOfMemory>
     ensures { MadeAs result (stack root.now (access_told access.entry)) }
 {
     let mut members = Map::new(alloc);
@@ -134,7 +139,7 @@ fn stack_of(alloc: Global, root: &[u8], access: Access<'_>) -> Result<Value, Out
 fn put_stack(
     members: &mut Map<String, Value>,
     alloc: Global,
-    root: &[u8],
+    root: &Folder,
     access: Access<'_>,
 ) -> Result<(), OutOfMemory>
     requires { members.old.entries ≡ [] }
@@ -159,7 +164,7 @@ fn put_said(
 }
 
 /// The frames of an access, the innermost first.
-fn frames_of(alloc: Global, root: &[u8], access: Access<'_>) -> Result<Value, OutOfMemory>
+fn frames_of(alloc: Global, root: &Folder, access: Access<'_>) -> Result<Value, OutOfMemory>
     ensures { MadeAs result (frames root.now (access_told access.entry)) }
 {
     let mut list = Vec::new(alloc);
@@ -172,7 +177,7 @@ fn frames_of(alloc: Global, root: &[u8], access: Access<'_>) -> Result<Value, Ou
 fn push_own(
     list: &mut Vec<Value>,
     alloc: Global,
-    root: &[u8],
+    root: &Folder,
     access: Access<'_>,
 ) -> Result<(), OutOfMemory>
     ensures { AppendedView result list.old list.new (own_frame root.now (access_told access.entry)) }
@@ -185,7 +190,7 @@ fn push_own(
 fn push_calls(
     list: &mut Vec<Value>,
     alloc: Global,
-    root: &[u8],
+    root: &Folder,
     calls: Option<&[u8]>,
 ) -> Result<(), OutOfMemory>
     ensures { AppendedViews result list.old list.new (map (call_frame root.now) (calls_in MOST (option_map (λ t. t.now) calls.entry))) }
@@ -208,7 +213,7 @@ fn push_calls(
 fn push_call(
     list: &mut Vec<Value>,
     alloc: Global,
-    root: &[u8],
+    root: &Folder,
     call: &[u8],
 ) -> Result<(), OutOfMemory>
     ensures { AppendedView result list.old list.new (call_frame root.now call.now) }

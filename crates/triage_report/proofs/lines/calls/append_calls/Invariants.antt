@@ -8,5 +8,5 @@ use Rattle.triage_report.proofs.lines.calls.append_calls.Given as goal
 
 abbrev pub invariant-loop-done : goal.invariant-loop-done
 invariant-loop-done l =
-    l.out.items ++ call_lines l.place (calls_in (MAX_CALLS - l.done) (option_map (λ t. t.now) l.rest))
-    ≡ l.fn.out.items ++ call_lines l.place (calls_in MAX_CALLS (behind_arrow l.location))
+    l.out.items ++ call_lines l.folder l.place (calls_in (MAX_CALLS - l.done) (option_map (λ t. t.now) l.rest))
+    ≡ l.fn.out.items ++ call_lines l.folder l.place (calls_in MAX_CALLS (behind_arrow l.location))

@@ -6,4 +6,4 @@ use Rattle.triage_report.proofs.lines.lines.append_all.Goals as goal
 pub returns : goal.returns
 returns c =
     c.loop-verdict.invariant
-    ∙ ap (λ (listed : List Verdict). c.args.out.now.items ++ all_lines c.args.analysis.now listed) (take_all c.loop-verdict.verdict-index c.args.verdicts.now (omega arith))
+    ∙ ap (λ (listed : List Verdict). c.args.out.now.items ++ all_lines c.args.analysis.now c.args.folder.now listed) (take_all c.loop-verdict.verdict-index c.args.verdicts.now (omega arith))
