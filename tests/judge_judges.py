@@ -113,7 +113,7 @@ NOTHING = {
     "judge_record": ["no such case"],
     **{
         f"judge_{name}": ["0"]
-        for name in "cut left merge merged_sarif places questions sarif triage triage_file windows".split()
+        for name in "cut deadlocks left merge merged_sarif places questions sarif triage triage_file windows".split()
     },
 }
 

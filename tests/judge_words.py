@@ -57,8 +57,9 @@ TWICE = [
 EMPTY = "`--only` and `--hide` take a text that is not empty"
 # What goes with something else alone, or not with it, and why it is refused.
 ALONE = "`--windows` does not go with `--lines`, `--init-triage`, `--confirmed`"
+CODED = "`--source` goes with `--sarif` or `--lines`"
 GOES = [
-    *[(f"{arguments} --source .", "`--source` goes with `--sarif`") for arguments in ("triage t", "triage t --page")],
+    *[(f"{arguments} --source .", CODED) for arguments in ("triage t", "triage t --page", "triage t --json")],
     *[
         (f"{arguments} --source .", "`--source` goes with `--sarif`")
         for arguments in ("merge part", "merge part --json")

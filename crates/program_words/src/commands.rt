@@ -1,5 +1,6 @@
 //! The commands of the program, each with its arguments, as a table: it has the texts of help, and what `clap` accepts.
 
+use crate::deadlock_commands::DEADLOCKS;
 use crate::pair_commands::{EXPLAIN, WITNESS};
 use crate::words::{Kind, Most, TRACE, Word, Words};
 use crate::workspace_commands::{LOG, REPLAY, SESSION, THREADS};
@@ -13,6 +14,7 @@ pub(crate) enum CommandName {
     Log,
     Threads,
     Triage,
+    Deadlocks,
     Explain,
     Witness,
     Cut,
@@ -20,13 +22,14 @@ pub(crate) enum CommandName {
 }
 
 /// All commands, in the order of help.
-pub(crate) const COMMANDS: [CommandName; 10] = [
+pub(crate) const COMMANDS: [CommandName; 11] = [
     CommandName::Info,
     CommandName::Replay,
     CommandName::Session,
     CommandName::Log,
     CommandName::Threads,
     CommandName::Triage,
+    CommandName::Deadlocks,
     CommandName::Explain,
     CommandName::Witness,
     CommandName::Cut,
@@ -133,7 +136,7 @@ locations may race.",
             name: "source",
             kind: Kind::Text("DIR"),
             help: Some(
-                "With --sarif, the folder of the code: paths are relative to it, and fingerprints have its lines",
+                "With --sarif or --lines, the folder of the code: paths of files in it are written from there",
             ),
         },
         Word {
@@ -271,7 +274,7 @@ parts means nothing, and a part that comes twice counts once.",
             name: "source",
             kind: Kind::Text("DIR"),
             help: Some(
-                "With --sarif, the folder of the code: paths are relative to it, and fingerprints have its lines",
+                "With --sarif, the folder of the code: paths of files in it are written from there",
             ),
         },
         Word {
@@ -304,6 +307,7 @@ pub(crate) fn words_of(command: CommandName) -> Words {
         CommandName::Log => LOG,
         CommandName::Threads => THREADS,
         CommandName::Triage => TRIAGE,
+        CommandName::Deadlocks => DEADLOCKS,
         CommandName::Explain => EXPLAIN,
         CommandName::Witness => WITNESS,
         CommandName::Cut => CUT,

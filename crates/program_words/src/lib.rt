@@ -3,6 +3,7 @@
 
 mod building;
 mod commands;
+mod deadlock_commands;
 mod merge_reading;
 mod pair_commands;
 mod program;
@@ -17,7 +18,7 @@ mod workspace_reading;
 pub use program::{LISTED_BEHIND, overview};
 pub use reading::task_of;
 pub use task::{
-    CutTask, Limits, MergeTask, Named, PairTask, RacesForm, ScheduleForm, SessionTask, Task,
-    ThreadsTask, TriageTask,
+    CutTask, DeadlocksTask, Limits, MergeTask, Named, PairTask, RacesForm, ScheduleForm,
+    SessionTask, Task, ThreadsTask, TriageTask,
 };
 pub use told::{Told, no_text};

@@ -5,7 +5,9 @@ ghost use Rattle.program_words.specs.Tasks.{IsWithin};
 use crate::building::words_taken;
 use crate::commands::{CommandName, command_of};
 use crate::merge_reading::merge;
-use crate::task::{CutTask, Limits, PairTask, RacesForm, ScheduleForm, Task, TriageTask};
+use crate::task::{
+    CutTask, DeadlocksTask, Limits, PairTask, RacesForm, ScheduleForm, Task, TriageTask,
+};
 use crate::told::{Told, refused, told_of};
 use crate::values::{Unread, check_inputs, day, is_number, named, number};
 use crate::workspace_reading::{replay, session, threads};
@@ -103,7 +105,15 @@ fn check_triage(given: &ArgMatches<'_>) -> Result<(), Unread> {
         "page",
         "`--confirmed` goes with `--page`",
     )?;
-    check_source(given)
+    if given.get_flag("lines") {
+        return Ok(());
+    }
+    check_beside(
+        given,
+        "source",
+        "sarif",
+        "`--source` goes with `--sarif` or `--lines`",
+    )
 }
 
 /// The numbers that `triage` was given.
@@ -176,6 +186,22 @@ fn triage<'a>(alloc: Global, given: &ArgMatches<'a>, limits: Limits) -> Result<T
     }))
 }
 
+/// Why the number of tries of `deadlocks` is refused.
+const TRIES: &str = "`--tries` takes a number in decimal digits";
+
+/// The task that the arguments of `deadlocks` name.
+fn deadlocks<'a>(given: &ArgMatches<'a>, limits: Limits) -> Result<Task<'a>, Unread>
+    ensures { IfOk result (IsWithin limits) }
+{
+    let tries = number(word(given, "tries"), 0, limits.tries, TRIES)?;
+    Ok(Task::Deadlocks(DeadlocksTask {
+        trace: word(given, "TRACE"),
+        apart: given.get_flag("apart"),
+        tries,
+        fail: given.get_flag("fail"),
+    }))
+}
+
 /// The pair that the arguments name.
 fn pair<'a>(given: &ArgMatches<'a>) -> PairTask<'a> {
     PairTask {
@@ -241,6 +267,7 @@ fn command_task<'a>(
         CommandName::Log => Ok(Task::Log(word(given, "LOG"))),
         CommandName::Threads => threads(alloc, given, limits),
         CommandName::Triage => triage(alloc, given, limits),
+        CommandName::Deadlocks => deadlocks(given, limits),
         CommandName::Explain => Ok(Task::Explain(pair(given), given.get_flag("all"))),
         CommandName::Witness => Ok(Task::Witness(pair(given), schedule_form(given))),
         CommandName::Cut => window(given, limits),

@@ -135,6 +135,19 @@ pub struct TriageTask<'a> {
     pub progress: bool,
 }
 
+/// The deadlocks of a trace, by the locations of requests and holds.
+#[derive(Clone, Copy)]
+pub struct DeadlocksTask<'a> {
+    /// The path of the trace.
+    pub trace: &'a str,
+    /// Whether to print the blocks of patterns that are apart.
+    pub apart: bool,
+    /// How many pairs of requests are tried for a pattern.
+    pub tries: u32,
+    /// Whether the exit status is 3 if a deadlock is printed, and 4 if the trace has no events.
+    pub fail: bool,
+}
+
 /// Windows of the trace in a file.
 #[derive(Clone, Copy)]
 pub struct CutTask<'a> {
@@ -190,6 +203,8 @@ pub enum Task<'a> {
     Threads(ThreadsTask<'a>),
     /// The races of a trace, by pairs of locations.
     Triage(TriageTask<'a>),
+    /// The deadlocks of a trace.
+    Deadlocks(DeadlocksTask<'a>),
     /// The finding on a pair. The flag says whether to print all runs of its schedule, or only the last ten.
     Explain(PairTask<'a>, bool),
     /// The schedule that shows a pair, in this form.

@@ -4,12 +4,15 @@
 
 ghost use Rattle.program_words.specs.Tasks.{IsWithin};
 
+mod code_names;
 mod coding;
 mod cutting;
+mod deadlocking;
 mod doing;
 mod ends;
 mod failing;
 mod file_notes;
+mod finding_files;
 mod folders;
 mod front;
 mod input;
@@ -49,6 +52,7 @@ mod windows;
 mod write_notes;
 
 use crate::cutting::cut_of_file;
+use crate::deadlocking::deadlocks_in_file;
 use crate::doing::{
     explain_in_file, info_of_file, replay_files, replay_input, threads_on_files, witness_in_file,
 };
@@ -107,6 +111,7 @@ fn work<R: Threads + Wait + Sync + Clone + Send + Drop + 'static>(
             Some(most) => triage_windows(rt, starts, task, most),
             None => triage_file(rt, starts, task),
         },
+        Task::Deadlocks(task) => deadlocks_in_file(rt, task),
         Task::Explain(pair, all) => explain_in_file(rt, pair, *all),
         Task::Witness(pair, form) => witness_in_file(rt, pair, *form),
         Task::Cut(task) => cut_of_file(rt, task),

@@ -36,6 +36,8 @@ pub(crate) enum Fault {
     Triage(TriageFault),
     Confirmed(ConfirmedFault),
     Triaged(TriagedFault),
+    /// 115: there are more than 1,048,576 patterns of deadlocks.
+    TooManyPatterns,
 }
 
 /// Appends the text of a fault.
@@ -47,6 +49,7 @@ fn append_text(out: &mut Vec<u8>, fault: &Fault) -> Result<(), OutOfMemory> {
         Fault::Triage(fault) => triage_fault_text(fault, out),
         Fault::Confirmed(fault) => confirmed_fault_text(fault, out),
         Fault::Triaged(fault) => triaged_fault_text(fault, out),
+        Fault::TooManyPatterns => Ok(out.extend_from_slice(b"too many patterns")?),
     }
 }
 

@@ -1,0 +1,50 @@
+-- Since when a thread holds a lock, as a number.
+use Rattle.std.proofs.Common.{◌≡◌, ℕ, zero, suc, ◌<◌, nat_lt, Bool, true, false, [], take, Some, Option, None, le_refl, refl, ap, ◌∙◌, arith, inl, inr}
+use Rattle.std.proofs.lemmas.Bool.{cases_Bool, cond-true, cond-false, eq-eqb, lt-ltb, ltb-true, ne_eqb}
+use Rattle.std.proofs.lemmas.Bool.Decides.{eqb_tells}
+use Rattle.rapid_text.specs.Recording.{Recording}
+use Rattle.trace_rules.specs.Rules.{hold_count}
+use Rattle.event_index.specs.Events.{thread_at}
+use Rattle.must_order.specs.Held.{IsHeldFrom}
+use Rattle.must_order.specs.MustBefore.{IsHeldBefore}
+use Rattle.deadlock_report.specs.Texts.{held_since, hold_by, hold_text, is_free, last_below, since_line}
+
+-- the last number that passes the test
+last_is : (test : ℕ → Bool) (n p : ℕ) → p < n → test p ≡ true → ((k : ℕ) → p < k → k < n → test k ≡ false) → last_below test n ≡ p
+unfolding last_below
+last_is test zero p lt at later = absurd (omega (arith, lt))
+last_is test (suc n) p lt at later =
+    elim (eqb_tells n p) [
+      | inl same ↦ cond-true (test n) n (last_below test n) (ap test same.1 ∙ at) ∙ same.1
+      | inr other ↦
+          let more : p < n = omega (arith, lt, other.1) in
+          cond-false (test n) n (last_below test n) (later n more (omega arith))
+          ∙ last_is test n p more at (λ k low high. later k low (omega (arith, high)))
+    ]
+
+module _ (r : Recording) (e l : ℕ) where
+  since_is : (p : ℕ) (h : IsHeldFrom r.events e l p) → held_since r h.thread l e ≡ p
+  since_is p h =
+      last_is (is_free r h.thread l) e p h.earlier (eq-eqb (hold_count (take p r.events) h.thread l) 0 h.free)
+      (λ k low high. ne_eqb (hold_count (take k r.events) h.thread l) 0 (λ is. absurd (omega (arith, is, h.held k low (omega (arith, high))))))
+
+  -- the lock is held since that acquire
+  pub hold_text-held : (p : ℕ) → IsHeldFrom r.events e l p → hold_text r e (Some l) ≡ since_line r l p
+  hold_text-held p h =
+      let count = hold_count (take e r.events) h.thread l in
+      ap (hold_by r e l) h.of
+      ∙ cond-true _ (since_line r l (held_since r h.thread l e)) [] (lt-ltb 0 count (h.held e h.earlier (le_refl e)))
+      ∙ ap (since_line r l) (since_is p h)
+
+  hold_by-free : ¬ IsHeldBefore r.events e l → (o : Option ℕ) → thread_at r.events e ≡ o → hold_by r e l o ≡ []
+  hold_by-free not_held None of = refl
+  hold_by-free not_held (Some t) of =
+      let count = hold_count (take e r.events) t l in
+      elim (cases_Bool (nat_lt 0 count)) [
+        | inl some ↦ absurd (not_held (t, of, ltb-true 0 count some))
+        | inr no_hold ↦ cond-false (nat_lt 0 count) (since_line r l (held_since r t l e)) [] no_hold
+      ]
+
+  -- the lock is not held
+  pub hold_text-free : ¬ IsHeldBefore r.events e l → hold_text r e (Some l) ≡ []
+  hold_text-free not_held = hold_by-free not_held (thread_at r.events e) refl

@@ -1,0 +1,17 @@
+-- The request of an event that is there.
+use Rattle.std.proofs.Common.{◌≡◌, ℕ, ◌<◌, List, [], ◌∷◌, ◌++◌, length, get_or, Some, ap, arith}
+use Rattle.std.specs.List.{slice_get}
+use Rattle.rapid_text.specs.Recording.{Recording}
+use Rattle.rapid_text.specs.declared.event.Event.{Event}
+use Rattle.std.proofs.lemmas.Option.{slice_get-get_or}
+use Rattle.explain_report.specs.Causes.{lock_taken}
+use Rattle.deadlock_report.specs.Texts.{held_text, request_by, request_line, request_text}
+
+there : (es : List Event) (e : ℕ) → e < length es → (v : Event) × (slice_get es e ≡ Some v)
+there [] e lt = absurd (omega (arith, lt))
+there (x ∷ xs) e lt = (get_or (x ∷ xs) e x, slice_get-get_or (x ∷ xs) e x lt)
+
+-- the line of an event that is there, and what stands below it
+pub request_text-there : (r : Recording) (e d : ℕ) → e < length r.events
+    → request_text r e d ≡ request_line r e ++ held_text r e (lock_taken r.events d)
+request_text-there r e d lt = let found = there r.events e lt in ap (request_by r e d) found.1

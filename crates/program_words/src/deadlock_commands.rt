@@ -1,0 +1,41 @@
+//! The command `deadlocks` with its arguments.
+
+use crate::words::{Kind, Most, TRACE, Word, Words};
+
+pub(crate) const DEADLOCKS: Words = Words {
+    name: "deadlocks",
+    about: "List the deadlocks of two threads that other orders of a trace reach",
+    example: "For example
+
+  racebench deadlocks trace.std
+  racebench deadlocks trace.std --apart --fail
+
+Each of two threads holds a lock and waits for the lock that the other holds. Such pairs are listed
+by source locations. They are a deadlock if a schedule leads there, apart if no correct reordering
+of this trace does, and undecided if neither was found. Apart is about this trace only: in another
+run, the same locations may deadlock.",
+    words: &[
+        TRACE,
+        Word {
+            name: "apart",
+            kind: Kind::Flag(&[]),
+            help: Some("Also print the patterns that are apart"),
+        },
+        Word {
+            name: "tries",
+            kind: Kind::Number {
+                least: 0,
+                most: Most::Tries,
+                default: Some("16"),
+            },
+            help: Some("Pairs of requests to try for each pattern, 0 to 4096"),
+        },
+        Word {
+            name: "fail",
+            kind: Kind::Flag(&[]),
+            help: Some(
+                "End with status 3 if a deadlock is printed, or 4 if the trace has no events",
+            ),
+        },
+    ],
+};
