@@ -9,3 +9,4 @@ pub mod RaceLemmas
 pub mod SeenLemmas
 pub mod SharedLemmas
 pub mod TableLemmas
+pub mod TotalLemmas

@@ -1,9 +1,10 @@
 -- The table of the accesses of chosen variables. `r` is the recording of a trace.
-use Rattle.std.specs.Prelude.{◌≡◌, ℕ, ◌<◌, ◌&&◌, nat_lt, Bool, false, cond, List, [], ◌∷◌, flat_map, length, Some, slice_get, slice_index, slice_index_or, Vec}
-use Rattle.std.specs.List.{list_any}
+use Rattle.std.specs.Prelude.{◌≡◌, ℕ, ◌<◌, ◌==◌, ◌&&◌, nat_lt, Bool, false, cond, List, [], ◌∷◌, count_by, flat_map, length, Option, None, Some, take, slice_get, slice_index, slice_index_or, Vec}
+use Rattle.std.specs.List.{list_any, sum_by}
 use Rattle.std.specs.declared.alloc.Global.{Global}
 use Rattle.rapid_text.specs.Recording.{Recording}
 use Rattle.rapid_text.specs.declared.event.Event.{Event}
+use Rattle.trace_rules.specs.Rules.{hold_count}
 use Rattle.event_index.specs.Lookups.{before}
 use Rattle.variable_uses.specs.Order.{IsSide}
 use Rattle.variable_uses.specs.Rows.{count_in, firsts_of, has_key, is_held_at, keys_of, threads_in}
@@ -31,6 +32,26 @@ lock_entry lock count = cond (nat_lt 0 count) ((record { lock = lock; count = co
 -- the locks that are held at events that pass the test, with at how many of them
 abbrev pub locks_held : Recording → (ℕ → Bool) → List LockCount
 locks_held r test = flat_map (λ l. lock_entry l (held_count r.events (length r.events) test l)) (before (length r.locks))
+
+-- how many locks the thread holds after the events es; a lock that is held twice counts twice
+abbrev pub hold_total : Recording → List Event → ℕ → ℕ
+hold_total r es t = sum_by (λ l. hold_count es t l) (before (length r.locks))
+
+abbrev pub holds_by : Recording → List Event → Option Event → ℕ
+holds_by r es None = 0
+holds_by r es (Some v) = hold_total r es v.thread
+
+-- how many locks the thread of event e holds before it, if the event passes the test
+abbrev pub holds_at : Recording → (ℕ → Bool) → ℕ → ℕ
+holds_at r test e = cond (test e) (holds_by r (take e r.events) (slice_get r.events e)) 0
+
+-- how many locks are held at those of the first n events that pass the test
+abbrev pub holds_in : Recording → (ℕ → Bool) → ℕ → ℕ
+holds_in r test n = sum_by (holds_at r test) (before n)
+
+-- how many locks are held at the accesses of the chosen variables, over all of them
+abbrev pub holds_asked : Recording → Asked → ℕ
+holds_asked r asked = holds_in r (λ e. nat_lt 0 (slice_index (keys_of r.events asked.places.now asked.chosen.now) e)) (length r.events)
 
 -- The columns are right for the rows with these keys. Row k has the events with the key of its first access.
 pub record AreColumns (r : Recording) (keys : List ℕ) (named : List Bool) (uses : Uses) : Type 0 where

@@ -37,7 +37,10 @@ pub fn shared_variables(
     ones: &[bool],
     others: &[bool],
 ) -> Result<Vec<bool>, OutOfMemory>
+    // Each variable of the trace has one flag.
     ensures len { IfOk result (λ chosen. length chosen.items ≡ length indexed.now.variables) }
+    // A variable is chosen exactly if two events of different threads access it, one of each set, and one or both write
+    // it (`IsShared`).
     ensures chosen { IfOk result (λ chosen. (x : ℕ) → x < length indexed.now.variables
         → (slice_index_or chosen.items x false ≡ true) ↔ IsShared indexed.now.events ones.now others.now x) }
 {

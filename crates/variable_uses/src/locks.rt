@@ -1,7 +1,8 @@
 //! The accesses at which each lock is held.
-ghost use Rattle.std.specs.Prelude.{◌≡◌, ◌<◌, ◌≤◌, ◌+◌, ℕ, List, length, IfOk, IsTrue, OnOk};
+ghost use Rattle.std.specs.Prelude.{◌≡◌, ◌<◌, ◌≤◌, ◌+◌, ℕ, List, None, false, length, nat_lt, slice_index, IfOk, IsTrue, OnOk};
 ghost use Rattle.rapid_text.specs.Appended.{IfFound};
 ghost use Rattle.variable_uses.specs.Held.{AreHeld, AreUsesBefore, IsPut, once};
+ghost use Rattle.variable_uses.specs.Table.{holds_at, holds_in};
 
 use crate::holding::{Held, begin, note};
 use event_index::Indexed;
@@ -21,6 +22,8 @@ pub(crate) fn uses_by_lock(
     requires len { length numbers.now ≡ length indexed.now.events }
     ensures len { IfFound result (λ lists. length lists.items ≡ length indexed.now.locks) }
     ensures uses { IfFound result (λ lists. AreUsesBefore indexed.now.events numbers.now (length indexed.now.events) lists.items) }
+    ensures few { IfFound result (λ _. holds_in indexed.now (λ e. nat_lt 0 (slice_index numbers.now e)) (length indexed.now.events) ≤ 16777216) }
+    ensures many { IfOk result (λ found. found ≡ None → 16777216 < holds_in indexed.now (λ e. nat_lt 0 (slice_index numbers.now e)) (length indexed.now.events)) }
 {
     let mut lists = empty_lists(alloc, indexed)?;
     let mut held = begin(alloc, indexed)?;
@@ -55,6 +58,8 @@ fn add_all(
     requires threads { length held.old.items ≡ length indexed.now.threads }
     ensures len { length lists.new.items ≡ length lists.old.items }
     ensures uses { IfOk result (λ done. IsTrue done → AreUsesBefore indexed.now.events numbers.now (length indexed.now.events) lists.new.items) }
+    ensures few { IfOk result (λ done. IsTrue done → holds_in indexed.now (λ e. nat_lt 0 (slice_index numbers.now e)) (length indexed.now.events) ≤ 16777216) }
+    ensures many { IfOk result (λ done. done ≡ false → 16777216 < holds_in indexed.now (λ e. nat_lt 0 (slice_index numbers.now e)) (length indexed.now.events)) }
 {
     let mut holds = 0u64;
     for event in 0..indexed.len() {
@@ -84,6 +89,7 @@ fn add_use(
     requires threads { length held.now.items ≡ length indexed.now.threads }
     ensures len { length lists.new.items ≡ length lists.old.items }
     ensures uses { OnOk result (AreUsesBefore indexed.now.events numbers.now (event + 1) lists.new.items) }
+    ensures count { IfOk result (λ count. count ≡ holds_at indexed.now (λ e. nat_lt 0 (slice_index numbers.now e)) event) }
 {
     if numbers[event as usize] == 0 {
         return Ok(0);

@@ -1,10 +1,11 @@
 //! The accesses of chosen variables, as a table.
-ghost use Rattle.std.specs.Prelude.{◌≡◌, ◌<◌, ◌≤◌, length, All, IfOk};
+ghost use Rattle.std.specs.Prelude.{◌≡◌, ◌<◌, ◌≤◌, length, nat_lt, slice_index, All, Err, IfOk, None};
 ghost use Rattle.rapid_text.specs.Appended.{IfFound};
 ghost use Rattle.variable_uses.specs.Numbers.{AreNumbers};
 ghost use Rattle.variable_uses.specs.Parts.{AreHolds, IsRace};
 ghost use Rattle.variable_uses.specs.Rows.{keys_of};
-ghost use Rattle.variable_uses.specs.Table.{AreUses};
+ghost use Rattle.variable_uses.specs.Table.{AreUses, holds_asked, holds_in};
+ghost use Rattle.variable_uses.specs.declared.uses.UsesRefusal.TheVariants.{TooMany};
 
 use crate::columns::{LockCount, locks_of_rows, totals_of};
 use crate::counting::counts_of;
@@ -78,7 +79,16 @@ pub fn uses_of(
 ) -> Result<Uses, UsesRefusal>
     requires places { length asked.places.now ≡ length analysis.now.events }
     requires few { All (λ p. p < 1048576) asked.places.now }
+    // Each access of a chosen variable is in exactly one row, that of its place and operation (`AreUses`). A row has the
+    // number of its accesses, of their threads, and of its accesses at which each lock is held. It comes before the race
+    // exactly if each of its accesses is must-before each access of the race; after it likewise. `totals` has the locks
+    // of all accesses.
     ensures uses { IfOk result (AreUses analysis.now asked.entry) }
+    // A table comes only if at most 16,777,216 locks are held at the accesses, counted over all accesses. A lock that a
+    // thread took twice counts twice.
+    ensures few { IfOk result (λ _. holds_asked analysis.now asked.entry ≤ 16777216) }
+    // `TooMany` comes only if there are more.
+    ensures many { result ≡ Err TooMany → 16777216 < holds_asked analysis.now asked.entry }
 {
     table_of(alloc, analysis.indexed(), analysis.must(), asked)
 }
@@ -94,6 +104,8 @@ fn table_of(
     requires places { length asked.places.now ≡ length indexed.now.events }
     requires few { All (λ p. p < 1048576) asked.places.now }
     ensures uses { IfOk result (AreUses indexed.now asked.entry) }
+    ensures few { IfOk result (λ _. holds_asked indexed.now asked.entry ≤ 16777216) }
+    ensures many { result ≡ Err TooMany → 16777216 < holds_asked indexed.now asked.entry }
 {
     let _len = indexed.len();
     let numbering = rows_of(alloc, indexed, asked)?;
@@ -138,6 +150,8 @@ fn holds_of(
     requires len { length numbers.now ≡ length indexed.now.events }
     requires numbers { All (λ m. m ≤ rows) numbers.now }
     ensures holds { IfFound result (AreHolds indexed.now numbers.now rows) }
+    ensures few { IfFound result (λ _. holds_in indexed.now (λ e. nat_lt 0 (slice_index numbers.now e)) (length indexed.now.events) ≤ 16777216) }
+    ensures many { IfOk result (λ found. found ≡ None → 16777216 < holds_in indexed.now (λ e. nat_lt 0 (slice_index numbers.now e)) (length indexed.now.events)) }
 {
     let _len = indexed.len();
     let lists = match uses_by_lock(alloc, indexed, numbers)? {

@@ -1,6 +1,7 @@
-use Rattle.std.proofs.Common.{◌≡◌, ◌∙◌, length, sym, ap, subst}
+use Rattle.std.proofs.Common.{◌≡◌, ◌≤◌, ◌∙◌, length, nat_lt, slice_index, sym, ap, subst}
 use Rattle.std.proofs.lemmas.Option.{slice_get-get_or}
 use Rattle.variable_uses.specs.Held.{AreUsesBefore}
+use Rattle.variable_uses.specs.Table.{holds_in}
 use Rattle.variable_uses.proofs.TableLemmas.{column_held, few_uses, found_is, totals_held}
 use Rattle.variable_uses.proofs.uses.holds_of.Goals as goal
 
@@ -33,4 +34,6 @@ returns c =
             locks = λ k v at. c.in_ok-locks.ensures.columns k v at ∙ column_held r c.args.numbers.now c.as_slice.result.now uses (ap length c.as_slice.ensures.value ∙ len) k;
             totals = c.in_ok-totals.ensures ∙ totals_held r c.args.numbers.now c.as_slice-2.result.now uses_2 (ap length c.as_slice-2.ensures.value ∙ len);
           };
+      few = found_is c.in_ok-lists.field-0 c.in-Some.lists (λ lists. holds_in r (λ e. nat_lt 0 (slice_index c.args.numbers.now e)) (length r.events) ≤ 16777216) c.in-Some.is c.in_ok-lists.ensures.few;
+      many = λ none. absurd (cc none);
     }
