@@ -37,6 +37,17 @@ def tool(name: str) -> str:
     return found
 
 
+def is_java(program: str) -> bool:
+    """Whether a word of the command line is the program java, whose programs record/java records."""
+    return os.path.basename(program) == "java"
+
+
+def choose(program: str) -> None:
+    """From here on java is this one, if the word names it by its path."""
+    if "/" in program:
+        os.environ["JAVA_HOME"] = os.path.dirname(os.path.dirname(os.path.abspath(program)))
+
+
 def packaged() -> str | None:
     """The jar that a package has beside the sources."""
     jar = os.path.join(SOURCES, "planecarmine.jar")

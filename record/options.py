@@ -19,6 +19,17 @@ def at_least(least: int) -> Callable[[str], int]:
     return number
 
 
+def between(least: int, most: int) -> Callable[[str], int]:
+    """A number of an option within bounds."""
+
+    def number(text: str) -> int:
+        if not text.isascii() or not text.isdigit() or not least <= int(text) <= most:
+            raise argparse.ArgumentTypeError(f"{text!r} is no number from {least} to {most}")
+        return int(text)
+
+    return number
+
+
 def add_seed(parser: argparse.ArgumentParser) -> None:
     parser.add_argument("--seed", type=at_least(0), default=1, metavar="N", help="scheduler seed after the race (1)")
 

@@ -6,10 +6,13 @@ from typing import Iterator
 
 import clocks
 import following
+import deadlock_plans
 import places
+import plans
 import raw as raw_file
 from golang import following as following_go
-from following import DEPARTED, HANGS, MISSED, OTHER_CODE, OTHER_OUTCOME, OTHER_WORLD, THREAD_ENDED, WOULD_WAIT
+from following import DEPARTED, HANGS, MISSED, NO_WAIT, NOT_HELD, OTHER_CODE, OTHER_OUTCOME, OTHER_WORLD
+from following import THREAD_ENDED, WOULD_WAIT
 
 # Kinds that have other names than in the header.
 KIND_WORDS = {
@@ -59,8 +62,22 @@ class RunMessages:
         return self.line(standing.pc, *(address for frame in standing.frames for address in frame))
 
     def title(self, result: following.Result) -> str:
+        if isinstance(result.plan, deadlock_plans.DeadlockPlan):
+            waits = [self.wait(one, result.plan, holder) for one, holder in zip(result.waiting, result.holders)]
+            return f"the deadlock stands: {'; '.join(waits)}"
         places_now = [f"T{one.thread} at {self.place_of(one)}" for one in result.standing]
         return f"the race stands: {', '.join(places_now)}"
+
+    def wait(self, one: following.Standing, plan: deadlock_plans.DeadlockPlan, holder: int) -> str:
+        """Where a thread of a deadlock waits, and for what."""
+        place = plan.places.get(one.thread) or self.place_of(one)
+        return f"T{one.thread} at {place} waits for {plan.lock_of(one.thread)}, which T{holder} holds"
+
+    def waiting(self, result: following.Result, plan: deadlock_plans.DeadlockPlan) -> Iterator[str]:
+        """The lines of the threads of a deadlock."""
+        for one in result.waiting:
+            yield f"  T{one.thread}, {self.kind(one.kind)} of {plan.lock_of(one.thread)} at {one.at:x}"
+            yield from (f"    #{number} {frame}" for number, frame in enumerate(self.frames(one)))
 
     def frames(self, standing: following.Standing) -> list[str]:
         """The stack of a thread at its access, the innermost frame first."""
@@ -71,8 +88,11 @@ class RunMessages:
         return [f"{function} {place}" for function, place in found]
 
     def stands(self, result: following.Result) -> Iterator[str]:
-        """The lines of both threads at their accesses."""
+        """The lines of both threads at their accesses, or of the threads of a deadlock."""
         yield self.title(result)
+        if isinstance(result.plan, deadlock_plans.DeadlockPlan):
+            yield from self.waiting(result, result.plan)
+            return
         for letter, one in zip("AB", result.standing):
             yield f"  {letter}: T{one.thread}, {self.kind(one.kind)} of {accessed_by(one)}"
             yield from (f"    #{number} {frame}" for number, frame in enumerate(self.frames(one)))
@@ -81,6 +101,8 @@ class RunMessages:
 
     def reason(self, result: following.Result) -> str:
         where, thread = result.place or self.line(result.pc), f"T{result.thread}"
+        if result.why in (NO_WAIT, NOT_HELD) and isinstance(result.plan, deadlock_plans.DeadlockPlan):
+            where = result.plan.places.get(result.thread, where)
         if result.timed_out:
             return "the program did not come so far in time (--timeout)"
         expected = result.expected
@@ -91,6 +113,8 @@ class RunMessages:
             WOULD_WAIT: f"{thread} has to wait at {self.line(result.pc, result.last_pc)}",
             HANGS: f"nothing happened for {result.plan.patience} ms, and {thread} did not come",
             THREAD_ENDED: f"{thread} ended",
+            NO_WAIT: f"{thread} did not have to wait at {where}",
+            NOT_HELD: f"{thread} waits at {where} for a lock that no other thread of the deadlock holds",
             OTHER_OUTCOME: f"{thread}: a compare-and-swap at {where} came out otherwise",
             OTHER_WORLD: f"{thread}: a call at {where} that waits for the world was not answered as in the recording",
         }.get(result.why, "the program ended")
@@ -104,12 +128,20 @@ class RunMessages:
                 yield f"  T{thread} stands before {self.a_kind(mine[at])} at {self.line(mine[at] >> 16)}"
 
     def departure(self, result: following.Result) -> str:
-        event, pair = result.event, result.plan.pair
+        event, plan = result.event, result.plan
         if event is None:
             return f"departed at the end of the schedule: {self.reason(result)}"
-        line = result.plan.lines.get(event) or ("the access A" if event == pair[0] else "the access B")
+        line = plan.lines.get(event) or self.end_of(plan, event)
         step = f"(step {result.step} of {len(result.rows)})"
         return f"departed at event {event}  {line} {step}: {self.reason(result)}"
+
+    @staticmethod
+    def end_of(plan: plans.Plan, event: int) -> str:
+        """What a run has to come to by an event at the end of a schedule."""
+        if isinstance(plan, deadlock_plans.DeadlockPlan):
+            thread = plan.clock.record(event).thread
+            return f"T{thread} waits for {plan.lock_of(thread)}"
+        return "the access A" if event == plan.ends[0] else "the access B"
 
     @staticmethod
     def liberties(result: following.Result) -> Iterator[str]:

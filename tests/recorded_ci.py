@@ -197,6 +197,34 @@ def judge_check(racebench):
         raise Wrong(f"known races: {lines}")
 
 
+def judge_command(racebench, command, source, followed):
+    """A check of a program in any language, which has one race: its seeds are whole, its race is followed and reported,
+    and is known at the next time."""
+    lines, errors = check(racebench, "--jobs", "1", "--seeds", "1-3", "--out", "kept", *command)
+    wanted = [
+        r"seeds 3: 3 whole, 0 not whole, 0 failed",
+        r"races 1: 1 new, 0 known",
+        rf"followed 1: .*\b{followed}\b.*, 0 departed; not followed 0",
+        rf"worst: .*: {source}:\d+ and {source}:\d+, a race in [1-3] of the seeds",
+        r"it leads to: .+",
+        r"not judged: nothing",
+        r"page: kept/races\.html, code scanning: kept/races\.sarif",
+        r"to accept races: choose entries of kept/races\.toml for your file of known races",
+        r"next: racebench explain kept/seed-\d\.std \d+ \d+",
+    ]
+    if len(lines) != len(wanted) or not all(map(re.fullmatch, wanted, lines)):
+        raise Wrong(f"a check of {command}: {lines}{errors}")
+    with open("kept/races.sarif", encoding="utf-8") as file:
+        sarif_rules.check(json.load(file))
+    with open("kept/races.html", encoding="utf-8") as file:
+        if f"{source}:" not in file.read():
+            raise Wrong(f"the page of {command} does not name {source}")
+    ran([racebench, *lines[8].split()[2:]])
+    lines, _ = check(racebench, "--seeds", "1", "--known", "kept/races.toml", *command, wanted=0)
+    if lines[1] != "races 1: 0 new, 1 known" or not lines[2].startswith("followed 0: "):
+        raise Wrong(f"known races of {command}: {lines}")
+
+
 def judge_stopped(racebench):
     """A signal ends a check: what was recorded so far is reported, and no file is half written."""
     lay_out(racebench)

@@ -18,6 +18,7 @@ import tempfile
 import time
 from collections.abc import Callable, Iterator
 
+import recorded_ci
 import recorded_go_planted
 from judging import Wrong
 
@@ -30,6 +31,8 @@ SOURCES = os.path.join(TOP, "tests", "recorded", "go")
 PATIENCE = 900
 # A recording is made again so often if its seed gave another trace.
 AGAIN = 5
+# Where Debian puts each version of Go.
+OTHERS = "/usr/lib/go-*/bin/go"
 SEEDS = range(1, 11)
 BEGIN, WHOLE = "recording|begin(RECORDED)|", "recording|end(WHOLE)|"
 # Each program, the options, and the label of the lines that race; no label is a program without a race.
@@ -55,13 +58,22 @@ SAME = "counter mutex waitgroup once pipeline cond pool trylock spins".split()
 Case = tuple[str, Callable[..., None], tuple[object, ...]]
 
 
-@functools.lru_cache(maxsize=None)
+def the_go() -> str:
+    """The Go that builds: the one of PATH, or another one that is judged."""
+    return os.environ.get("RECORD_GO") or "go"
+
+
 def scenarios() -> str:
-    """The program of tests/recorded/go, which is built once."""
+    """The program of tests/recorded/go, which is built once by each Go."""
+    return scenarios_by(the_go())
+
+
+@functools.lru_cache(maxsize=None)
+def scenarios_by(go: str) -> str:
     folder = tempfile.mkdtemp(prefix="recorded_go")
     atexit.register(shutil.rmtree, folder, True)
     program = os.path.join(folder, "scenarios")
-    ran([os.path.join(RECORD, "go"), "build", "-o", program, "."], cwd=SOURCES)
+    ran([os.path.join(RECORD, "go"), "build", "-o", program, "."], cwd=SOURCES, go=go)
     return program
 
 
@@ -191,6 +203,20 @@ def judge_thousands(racebench: str) -> None:
         raise Wrong(f"2,000 goroutines with a clock: {with_clock}")
 
 
+def judge_lent() -> None:
+    """Goroutines whose end nothing comes after: with --max they lend their numbers, which the mark and a line say; else
+    each has a number of its own."""
+    trace, notes = recorded("unjoined", "--max", "1000000", wanted=4)
+    count = re.findall(r"(\d+) goroutines have the number of one that ended, without an order", notes)
+    judge_marks(trace, f"recording|end(LEFT OUT {' '.join(count)} FROM 0: THREADS)|")
+    if len({line.split("|")[0] for line in trace.splitlines()[1:-1]}) > 256:
+        raise Wrong(f"--max: the trace has more than 256 threads: {notes}")
+    trace, notes = recorded("unjoined")
+    judge_marks(trace)
+    if "have the number of one that ended" in notes or "has more than 256 threads" not in notes:
+        raise Wrong(f"without --max: {notes}")
+
+
 def left_out(notes: str) -> int:
     """How many records had no room, as record/run says it."""
     return int(re.findall(r"(\d+) records left out \(--room\)", notes)[0])
@@ -311,7 +337,7 @@ def judge_unknown() -> None:
     _, notes = ran(command, 2, SOURCES, "no-such-go")
     if notes != "record/go: there is no no-such-go: install Debian's golang-go, or name a Go by RECORD_GO\n":
         raise Wrong(f"no Go: {notes}")
-    root = ran(["go", "env", "GOROOT"])[0].strip()
+    root = ran([the_go(), "env", "GOROOT"])[0].strip()
     copy = os.path.abspath("root")
     names = "runtime sync syscall internal/race internal/poll".split()
     for name in names:
@@ -399,11 +425,11 @@ REPORTED = ("counter", "mapwrite", "publish")
 RULE = "=" * 18
 
 
-@functools.lru_cache(maxsize=None)
 def watched() -> str:
-    """The program of tests/recorded/go with Go's own race detector, which is built once."""
+    """The program of tests/recorded/go with Go's own race detector, which is built once by each Go."""
     program = os.path.join(os.path.dirname(scenarios()), "watched")
-    ran(["go", "build", "-race", "-o", program, "."], cwd=SOURCES)
+    if not os.path.exists(program):
+        ran([the_go(), "build", "-race", "-o", program, "."], cwd=SOURCES)
     return program
 
 
@@ -443,6 +469,11 @@ def judge_reported(racebench: str) -> None:
             raise Wrong(f"a report on other lines is answered by {out}{notes}")
 
 
+def judge_check(racebench: str) -> None:
+    """record/check records, follows and reports a Go program as one of C."""
+    recorded_ci.judge_command(racebench, [scenarios(), "hidden"], "races.go", "1 matter")
+
+
 FULL_DISK = """mount -t tmpfs -o size=%s none small 2>/dev/null || exit 99
 TMPDIR=$PWD/small exec %s %s works"""
 
@@ -471,6 +502,7 @@ def all_cases(racebench: str) -> Iterator[Case]:
     yield "Go: ends", judge_ends, ()
     yield "Go: a deadlock", judge_deadlock, ()
     yield "Go: 2,000 goroutines", judge_thousands, (racebench,)
+    yield "Go: numbers that are lent", judge_lent, ()
     yield "Go: options", judge_options, ()
     yield "Go: more options", judge_choices, ()
     yield "Go: --for", judge_stop, ()
@@ -481,13 +513,42 @@ def all_cases(racebench: str) -> Iterator[Case]:
     yield "Go: record/go", judge_command, (racebench,)
     yield "Go: a full disk", judge_full_disk, ()
     yield "Go: reports of its race detector", judge_reported, (racebench,)
+    yield "Go: record/check", judge_check, (racebench,)
     yield from recorded_go_planted.cases(racebench)
 
 
+def judge_by(go: str, judge: Callable[..., None], *about: object) -> None:
+    """Judges with another Go than that of PATH."""
+    before = os.environ.get("RECORD_GO")
+    os.environ["RECORD_GO"] = go
+    try:
+        judge(*about)
+    finally:
+        if before is None:
+            del os.environ["RECORD_GO"]
+        else:
+            os.environ["RECORD_GO"] = before
+
+
+def other_versions() -> dict[str, str]:
+    """The other versions of Go that are installed, as by Debian's backports: the command of each."""
+    usual = os.path.realpath(shutil.which(the_go()) or "")
+    found = {re.sub(r".*/go-|/bin/go$", "", path): path for path in glob.glob(OTHERS)}
+    return {version: path for version, path in sorted(found.items()) if os.path.realpath(path) != usual}
+
+
 def cases(racebench: str) -> list[Case]:
-    """The cases; none if Go is not here, and then a line says how many are left out."""
+    """The cases, for each Go that is installed; none if Go is not here. A line says what is left out."""
     found = list(all_cases(racebench))
-    if shutil.which("go"):
-        return found
-    print(f"record/: {len(found)} cases of Go are left out, since there is no go")
-    return []
+    if not shutil.which(the_go()):
+        print(f"record/: {len(found)} cases of Go are left out, since there is no {the_go()}")
+        return []
+    others = other_versions()
+    if not others:
+        print(f"record/: {len(found)} cases of another version of Go are left out, since there is no {OTHERS}")
+    for version, path in others.items():
+        found += [
+            (name.replace("Go:", f"Go {version}:"), judge_by, (path, judge, *about))
+            for name, judge, about in all_cases(racebench)
+        ]
+    return found

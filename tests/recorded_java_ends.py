@@ -1,7 +1,7 @@
 """Judges how record/java ends: by an exception, an exit, a kill, a full disk, a deadlock, with many threads; and what
 its options and the agent alone do.
 
-What no other judge sees: a trace that is cut and seems whole, a lost status, a limit of which nothing is said.
+What no other judge sees: a trace that is cut and seems whole, a lost status, a limit without a line about it.
 """
 from __future__ import annotations
 
@@ -13,6 +13,7 @@ import subprocess
 import tempfile
 from typing import Any
 
+import recorded_ci
 import recorded_java
 from judging import Wrong
 
@@ -179,6 +180,21 @@ def judge_agent() -> None:
         raise Wrong(f"a wrong option of the agent: status {status}: {text[-600:]}")
 
 
+def judge_check(racebench: str) -> None:
+    """record/check records, follows and reports a Java program as one of C, and so does record/run record it."""
+    recorded_java.compiled(os.path.join(recorded_java.SOURCES, "Hidden.java"))
+    command = ["java", "-cp", ".", "Hidden"]
+    recorded_ci.judge_command(racebench, command, "Hidden.java", "1 (matter|are the same)")
+    run = os.path.join(os.path.dirname(recorded_java.RECORD), "run")
+    lines, _ = recorded_java.recorded("--seed", "2", *command[1:])
+    status, trace, text = recorded_java.ran(run, "--seed", "2", *command)
+    if status or trace.splitlines() != lines:
+        raise Wrong(f"record/run java: status {status}: {text[-600:]}")
+    status, trace, text = recorded_java.ran(run, "--no-free", *command)
+    if status != 2 or trace or "--no-free is not there for Java: a Java program frees nothing" not in text:
+        raise Wrong(f"record/run --no-free java: status {status}: {text[-600:]}")
+
+
 def cases(racebench: str) -> list[recorded_java.Case]:
     found: list[recorded_java.Case] = [
         (f"java: a program that {way}", judge_end, (racebench, way, status, cause)) for way, status, cause in ENDS
@@ -189,4 +205,5 @@ def cases(racebench: str) -> list[recorded_java.Case]:
     found.append(("java: options", judge_options, ()))
     found.append(("java: what is refused", judge_refused, ()))
     found.append(("java: the agent alone", judge_agent, ()))
+    found.append(("java: record/check", judge_check, (racebench,)))
     return found

@@ -1,4 +1,4 @@
-"""Judges record/ on Rust programs: those of tests/recorded/rust with three seeds each, those that end badly, following,
+"""Judges record/ on Rust programs: those of tests/recorded/rust with ten seeds each, those that end badly, following,
 a Rust that is unknown, and programs made by chance whose races are known (recorded_rust_planted.py).
 
 What no other judge sees: a race of a Rust program that is not listed or a false one, a lock of Rust's library that is
@@ -21,6 +21,7 @@ import tempfile
 import time
 from collections.abc import Callable, Iterator
 
+import recorded_ci
 import recorded_rust_planted
 from judging import Wrong
 
@@ -31,7 +32,7 @@ from rustlang import building, library
 
 SOURCES = os.path.join(TOP, "tests", "recorded", "rust")
 PATIENCE = 900
-SEEDS = 3
+SEEDS = 10
 BEGIN, WHOLE = "recording|begin(RECORDED)|", "recording|end(WHOLE)|"
 # The programs; each race has the name of its program as its label.
 RACES = "counter cell reader relaxed element dropped scoped".split()
@@ -93,7 +94,7 @@ def shown(racebench: str) -> set[tuple[str, ...]]:
 
 
 def judge_races(racebench: str, about: str, label: str) -> None:
-    """The races of `trace.std` are at the lines with a label; there is none without one."""
+    """The races of `trace.std` are at the lines with a label; without a label there is no race."""
     wanted, found = labels()[label] if label else set(), shown(racebench)
     if any(set(pair) - wanted for pair in found) or bool(found) != bool(wanted):
         raise Wrong(f"{about}: the races are {sorted(found)}, and the lines that race are {sorted(wanted)}")
@@ -353,6 +354,11 @@ def judge_rustc(racebench: str) -> None:
         raise Wrong(f"record/rustc: the races are {shown(racebench)}, not at {sorted(wanted)}")
 
 
+def judge_check(racebench: str) -> None:
+    """record/check records, follows and reports a Rust program as one of C."""
+    recorded_ci.judge_command(racebench, [scenarios(), "cell"], "races.rs", "1 (matter|are the same)")
+
+
 def all_cases(racebench: str, seeds: int) -> Iterator[Case]:
     for name in RACES + CLEAN:
         yield f"Rust: {name}", judge_program, (racebench, name, name if name in RACES else "", seeds)
@@ -369,6 +375,7 @@ def all_cases(racebench: str, seeds: int) -> Iterator[Case]:
     yield "Rust: an unknown Rust", judge_unknown, ()
     yield "Rust: record/cargo", judge_command, (racebench,)
     yield "Rust: record/rustc", judge_rustc, (racebench,)
+    yield "Rust: record/check", judge_check, (racebench,)
     yield from recorded_rust_planted.cases(racebench)
 
 

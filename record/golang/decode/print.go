@@ -182,7 +182,9 @@ func (p *printer) losses() (found []loss) {
 	sort.Slice(found, func(i, j int) bool { return found[i].cause < found[j].cause })
 	log := p.log
 	add(p.facts["left_out"] > 0, "MAX", uint64(p.facts["left_out"]))
-	add(p.facts["lent"] > 0, "THREADS", 0)
+	if lent := p.facts["lent"]; lent > 0 {
+		found = append(found, loss{"THREADS", lent, 0})
+	}
 	add(log.lost > 0 && log.cause == causeDisk, "DISK", log.lost)
 	add(log.lost > 0 && log.cause != causeDisk, p.cause, log.lost)
 	add(p.facts["cut_short"] > 0, "PARTS", uint64(p.facts["cut_short"]))

@@ -3,6 +3,7 @@ package main
 import (
 	"fmt"
 	"os"
+	"runtime"
 	"sort"
 	"strings"
 	"sync"
@@ -60,7 +61,28 @@ func thousands() {
 	fmt.Println(n)
 }
 
-// Four workers sort, format and count: bench/go measures this one.
+// Goroutines whose end nobody waits for.
+func unjoined() {
+	var mu sync.Mutex
+	n := 0
+	for k := 0; k < 400; k++ {
+		go func() {
+			mu.Lock()
+			n++
+			mu.Unlock()
+		}()
+		runtime.Gosched()
+	}
+	for all := 0; all < 400; {
+		runtime.Gosched()
+		mu.Lock()
+		all = n
+		mu.Unlock()
+	}
+	fmt.Println(n)
+}
+
+// Four workers sort, format and count.
 func works() {
 	var wg sync.WaitGroup
 	var mu sync.Mutex

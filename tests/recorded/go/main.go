@@ -13,6 +13,7 @@ var programs = map[string]func(){
 	"pipeline": pipeline, "selected": selected, "files": files, "spins": spins, "signals": signals, "ranges": ranges,
 	"polled": polled, "syncmap": syncmap, "ticker": ticker,
 	"exits": exits, "panicked": panicked, "killed": killed, "deadlock": deadlock, "alone": alone, "thousands": thousands,
+	"unjoined": unjoined,
 	"works": works,
 }
 
