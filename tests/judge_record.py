@@ -24,6 +24,7 @@ import recorded_chance
 import recorded_ci
 import recorded_counts
 import recorded_deadlocks
+import recorded_deadlocks_followed
 import recorded_drawn
 import recorded_follow
 import recorded_go
@@ -229,6 +230,7 @@ def cases_of(racebench, pairs):
         cases += recorded_names.cases(c, cxx) + recorded_pass.cases(racebench, c)
         cases += recorded_places.cases(c, cxx) + recorded_reports.cases(racebench, c)
         cases += recorded_planted.cases(racebench, c, cxx) + recorded_tries.cases(c, cxx)
+        cases += recorded_deadlocks_followed.cases(racebench, c, cxx)
         if place == 0:
             cases += recorded_options.cases(racebench, c) + recorded_runs.cases(c) + recorded_follow.cases(racebench)
             cases += recorded_chance.cases(racebench) + recorded_ci.cases(racebench) + recorded_counts.cases(c)
