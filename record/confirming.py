@@ -62,7 +62,10 @@ class Confirmer:
     def __init__(
         self, chosen: argparse.Namespace, clock: clocks.Clock, runner: following.Runner, settings: following.Settings
     ) -> None:
-        self.chosen, self.clock, self.runner, self.settings = chosen, clock, runner, settings
+        # Only programs with malloc have a heap that is filled.
+        has_malloc = not clock.fields.get("go") and not clock.fields.get("java")
+        self.settings = settings if has_malloc else settings._replace(filled_heap=False)
+        self.chosen, self.clock, self.runner = chosen, clock, runner
         self.messages = run_messages.RunMessages(clock)
 
     def attempts(self, race: Race) -> List[Tuple[plans.Witness, following.Settings]]:

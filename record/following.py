@@ -13,6 +13,7 @@ from types import FrameType
 from typing import Dict, IO, Iterator, List, NamedTuple, Optional, Sequence, TextIO, Tuple
 
 import clocks
+import java_agent
 import java_following
 import plans
 import raw as raw_file
@@ -20,7 +21,9 @@ import running
 from golang import following as following_go
 
 NOT_FOLLOWING, FOLLOWING, STANDS, DEPARTED, DONE = range(5)
-OTHER_CODE, MISSED, WOULD_WAIT, HANGS, ENDED, OTHER_OUTCOME, OTHER_WORLD, THREAD_ENDED = range(1, 9)
+OTHER_CODE, MISSED, WOULD_WAIT, HANGS, ENDED, OTHER_OUTCOME, OTHER_WORLD, THREAD_ENDED, NO_WAIT, NOT_HELD = range(
+    1, 11
+)
 
 # Freed memory is filled, and given out again late, so that its use after a free shows. Allocated memory is filled too.
 FILLED_HEAP = "glibc.malloc.perturb=85:glibc.malloc.tcache_count=0"
@@ -68,7 +71,7 @@ class Interrupted(Exception):
 
     def __init__(self, number: int) -> None:
         super().__init__(f"ended by {signal.Signals(number).name}")
-        self.number = number
+        self.number, self.left = number, ""
 
 
 def end_by(number: int) -> int:
@@ -105,15 +108,16 @@ class Result:
         self.pos, self.kind, self.pc, self.expected = numbers[4:8]
         self.spurious, self.passed, self.last_pc, self.early, self.refused_tries, self.use_count = numbers[8:]
         self.plan, self.rows, self.status, self.timed_out = plan, rows, status, timed_out
-        self.standing = [self.stand(data, k) for k in range(2)]
-        ticks_at = plans.HEAD.size + 2 * plans.STANDING.size
-        self.at_tick = struct.unpack_from(f"<{plans.TOLD}Q", data, ticks_at)
-        self.uses = self.read_uses(data, ticks_at + 8 * plans.TOLD)
+        self.standing = [self.stand(data, plans.HEAD.size, k) for k in range(2)]
+        self.waiting = [self.stand(data, plans.WAITING_AT, k) for k in range(len(plan.requests))]
+        self.holders = plans.HOLDERS.unpack_from(data, plans.HOLDERS_AT)[: len(self.waiting)]
+        self.at_tick = struct.unpack_from(f"<{plans.TOLD}Q", data, plans.TICKS_AT)
+        self.uses = self.read_uses(data, plans.USES_AT)
         self.stands = self.state in (STANDS, DONE) or (self.state == DEPARTED and all(one.pc for one in self.standing))
 
     @staticmethod
-    def stand(data: bytes, k: int) -> Standing:
-        numbers = plans.STANDING.unpack_from(data, plans.HEAD.size + k * plans.STANDING.size)
+    def stand(data: bytes, start: int, k: int) -> Standing:
+        numbers = plans.STANDING.unpack_from(data, start + k * plans.STANDING.size)
         thread, _, at, size, kind, pc, _, low, high, there, after_low, after_high, after_there, count = numbers[:14]
         frames = [(numbers[14 + 2 * i], numbers[15 + 2 * i]) for i in range(min(count, plans.FRAMES))]
         value, after = (low, high) if there else None, (after_low, after_high) if after_there else None
@@ -133,6 +137,16 @@ class Result:
     def event(self) -> Optional[int]:
         """The event of the first step that was not done."""
         return self.rows[self.step][3] if self.step < len(self.rows) else None
+
+
+def arguments_for(clock: clocks.Clock, command: List[str]) -> List[str]:
+    """The command of a run: that of the recording if none is given. Of a Java program it is what java gets."""
+    if not command:
+        return list(clock.fields["argv"])
+    if clock.fields.get("java") and java_agent.is_java(command[0]):
+        java_agent.choose(command[0])
+        return command[1:]
+    return command
 
 
 def check_program(clock: clocks.Clock, command: Sequence[str]) -> None:
@@ -237,20 +251,21 @@ def beside(command: Optional[str], program: int) -> Iterator[None]:
         client.wait()
 
 
-GDB = ["set breakpoint pending on", "set debuginfod enabled off", "break racebench_race_stands", "run", "info threads"]
+# What gdb does: it stops when both threads of a race stand, or all of a deadlock.
+GDB = ["set breakpoint pending on", "set debuginfod enabled off", "break {}", "run", "info threads"]
 # Words that gdb gives to a program as they are. It quotes others, and only a shell takes the quotes away.
 PLAIN = re.compile(r"[\w./=,:@%+-]+", re.ASCII)
 
 
-def gdb_of(command: List[str], surroundings: Dict[str, str]) -> Tuple[List[str], Dict[str, str]]:
-    """The command that runs a program under gdb, and the environment for it."""
+def gdb_of(command: List[str], surroundings: Dict[str, str], stop: str) -> Tuple[List[str], Dict[str, str]]:
+    """The command that runs a program under gdb up to a function, and the environment for it."""
     if all(map(PLAIN.fullmatch, command)):
         first = "set startup-with-shell off"
     else:
         shell = surroundings.get("SHELL")
         first = f"set environment SHELL {shell}" if shell else "unset environment SHELL"
         surroundings = dict(surroundings, SHELL="/bin/sh")
-    commands = [word for one in [first, *GDB] for word in ("-ex", one)]
+    commands = [word for one in [first, *GDB] for word in ("-ex", one.replace("{}", stop))]
     return ["gdb", "-q", *commands, "--args", *command], surroundings
 
 
@@ -340,6 +355,7 @@ def in_gdb(plan: plans.Plan, order: plans.Order, seed: int, settings: Settings, 
         rows = plan.write(planned, order)
         surroundings = surroundings_of(plan, seed, file, planned, settings.filled_heap)
         command = [running.path_of(settings.command[0]), *settings.command[1:]]
-        status, timed_out = running.run(*gdb_of(command, surroundings), None, None, source)
+        stop = "racebench_deadlock_stands" if plan.requests else "racebench_race_stands"
+        status, timed_out = running.run(*gdb_of(command, surroundings, stop), None, None, source)
         planned.seek(0)
         return Result(planned.read(), plan, rows, status, timed_out)

@@ -2,21 +2,29 @@
 the run is compared with. runtime/plan.c has the same structures."""
 import struct
 from array import array
-from typing import IO, Dict, Iterable, List, NamedTuple, Set, Tuple
+from typing import IO, Dict, Iterable, List, NamedTuple, Sequence, Set, Tuple
 
 import clocks
 import raw as raw_file
 
-EVENT, STAND, LAST = range(3)
+EVENT, STAND, LAST, WAIT = range(4)
 WORDS_IN, WORDS_OUT = 17, 14
 HEAD = struct.Struct(f"<{WORDS_IN + WORDS_OUT}Q")
-FRAMES, TOLD, USES = 64, 64, 16
+FRAMES, TOLD, USES, MOST_REQUESTS = 64, 64, 16, 8
 STANDING = struct.Struct(f"<{14 + 2 * FRAMES}Q")
 USE = struct.Struct("<6Q")
+REQUESTS, HOLDERS = struct.Struct("<2Q"), struct.Struct(f"<{MOST_REQUESTS}Q")
 STEP = struct.Struct("<IIQQQQQQQ")
 NUMBER = struct.Struct("<Q")
 # Where the number of the thread's next step is in a step.
 NEXT_AT = 24
+# Where the parts of known sizes are, after the head.
+TICKS_AT = HEAD.size + 2 * STANDING.size
+USES_AT = TICKS_AT + 8 * TOLD
+REQUESTS_AT = USES_AT + USES * USE.size
+WAITING_AT = REQUESTS_AT + REQUESTS.size
+HOLDERS_AT = WAITING_AT + MOST_REQUESTS * STANDING.size
+TABLES_AT = HOLDERS_AT + HOLDERS.size
 MAGIC = 0x3357464252524352
 # For this many accesses a thread goes on alone, if nothing else is wanted.
 ALONE = 1000
@@ -30,6 +38,7 @@ class Order(NamedTuple):
     held_back: int
     goes_alone: bool
     name: str
+    hangs: bool = False
 
 
 ORDERS = {
@@ -47,6 +56,8 @@ ORDERS = {
     "far-second": Order("b", 1, False, "B first (A waits)"),
     "stop": Order("", 0, False, "no access"),
 }
+# What may follow when a deadlock stands.
+ENDS = {"stop": ORDERS["stop"], "hang": Order("", 0, False, "hangs", True)}
 Witness = Tuple[List[int], Dict[int, str]]
 Pair = Tuple[int, int]
 # A step as a row: its thread, type, clock and event.
@@ -70,17 +81,17 @@ def read_witness(file: Iterable[str], clock: clocks.Clock) -> Witness:
     return events, lines
 
 
-def check_pair(clock: clocks.Clock, events: List[int], pair: Pair) -> None:
-    """Both events must be next in their threads after the schedule."""
+def check_next(clock: clocks.Clock, events: List[int], ends: Sequence[int], finding: str = "race") -> None:
+    """The events at the end of a schedule must be next in their threads after it."""
     there = set(events)
-    threads = {clock.record(event).thread: event for event in pair}
+    threads = {clock.record(event).thread: event for event in ends}
     next_ones: Dict[int, int] = {}
-    for event in range(max(pair) + 1):
+    for event in range(max(ends) + 1):
         thread = clock.record(event).thread
         if thread in threads and event not in there:
             next_ones.setdefault(thread, event)
-    if len(threads) < 2 or any(next_ones.get(thread) != event for thread, event in threads.items()):
-        raise BadWitness(f"this is a witness of another race than {pair[0]} {pair[1]}")
+    if len(threads) < len(ends) or any(next_ones.get(thread) != event for thread, event in threads.items()):
+        raise BadWitness(f"this is a witness of another {finding} than {' '.join(map(str, ends))}")
 
 
 def places_of(clock: clocks.Clock, events: List[int], lines: Dict[int, str]) -> Dict[int, int]:
@@ -94,19 +105,21 @@ def places_of(clock: clocks.Clock, events: List[int], lines: Dict[int, str]) -> 
     return last
 
 
-def steps_of(clock: clocks.Clock, witness: Witness, pair: Pair) -> Tuple[List[int], int]:
-    """Events of one record are one step; the records of the pair are none. Also how many records have events of others
-    in between: of a record of the pair also before its access that is in the pair."""
+def steps_of(clock: clocks.Clock, witness: Witness, ends: Sequence[int]) -> Tuple[List[int], int]:
+    """Events of one record are one step; the records of the ends are none. Also how many records have events of others
+    in between: of a record of the ends also before its access that is an end."""
     events, lines = witness
-    ends = {clock.record_of[event] for event in pair}
+    records = {clock.record_of[event] for event in ends}
     last = places_of(clock, events, lines)
     steps: List[int] = []
     split = 0
     for place, event in enumerate(events):
         record, is_last = clock.record_of[event], last[clock.record_of[event]] == place
-        is_part = last[record] > place or (record in ends and lines[event].split("|", 2)[1].startswith(("r(", "w(")))
+        is_part = last[record] > place or (
+            record in records and lines[event].split("|", 2)[1].startswith(("r(", "w("))
+        )
         split += is_part and place + 1 < len(events) and clock.record_of[events[place + 1]] != record
-        if is_last and record not in ends:
+        if is_last and record not in records:
             steps.append(event)
     return steps, split
 
@@ -191,12 +204,16 @@ class Steps:
 
 
 class Plan:
-    """A schedule of a recording, up to a pair of accesses. `alone` is how long a thread goes on alone after them."""
+    """A schedule of a recording, up to the `ends`: a pair of accesses, or the requests of a deadlock. `alone` is how
+    long a thread goes on alone after a pair."""
 
-    def __init__(self, clock: clocks.Clock, witness: Witness, pair: Pair, patience: int, alone: int = ALONE) -> None:
-        self.clock, self.pair, self.patience, self.alone = clock, pair, patience, alone
+    def __init__(
+        self, clock: clocks.Clock, witness: Witness, ends: Sequence[int], patience: int, alone: int = ALONE
+    ) -> None:
+        self.clock, self.ends, self.patience, self.alone = clock, ends, patience, alone
         self.events, self.lines = witness
-        self.steps, self.split = steps_of(clock, witness, pair)
+        self.requests: Sequence[int] = ()
+        self.steps, self.split = steps_of(clock, witness, ends)
         self.needs = Needs(clock, witness, self.steps).of
         self.threads = max([*clock.ticks, *(child for _, _, child in clock.forks), 0]) + 1
         records = ((clock.record(event), event) for event in self.steps)
@@ -204,8 +221,8 @@ class Plan:
 
     def tail(self, accesses: str) -> List[Row]:
         """After the steps both threads come to the race, and then their accesses are done in that order."""
-        last = [self.pair["ab".index(letter)] for letter in accesses]
-        kinds = [(STAND, event) for event in self.pair] + [(EVENT, event) for event in last]
+        last = [self.ends["ab".index(letter)] for letter in accesses]
+        kinds = [(STAND, event) for event in self.ends] + [(EVENT, event) for event in last]
         records = [(self.clock.record(event), kind, event) for kind, event in kinds]
         rows = [(record.thread, kind, record.pos, event) for record, kind, event in records]
         return rows + ([(self.clock.record(last[-1]).thread, LAST, 0, last[-1])] if last else [])
@@ -235,7 +252,7 @@ class Plan:
         """Writes the plan for an order; its rows."""
         tail = self.tail(order.accesses)
         rows = self.packed.rows + tail
-        parts, places, end = self.tables(tail), [], HEAD.size + 2 * STANDING.size + 8 * TOLD + USES * USE.size
+        parts, places, end = self.tables(tail), [], TABLES_AT
         for part in parts:
             places.append(end)
             end += len(part)
@@ -246,7 +263,8 @@ class Plan:
         how = [order.held_back, alone, self.patience]
         where = [threads_at, forks_at, steps_at, ticks_at, needs_at, first_at, modules_at, modules]
         head = HEAD.pack(MAGIC, *counts, *how, *where, *[0] * WORDS_OUT)
-        file.write(head.ljust(places[0], b"\0"))
+        requests = REQUESTS.pack(len(self.requests), order.hangs)
+        file.write((head.ljust(REQUESTS_AT, b"\0") + requests).ljust(places[0], b"\0"))
         for part in parts:
             file.write(part)
         file.flush()

@@ -1,8 +1,8 @@
-"""Reads reports of data races: ThreadSanitizer's text as gcc, clang and rustc print it, that of Go's race detector,
-and Helgrind's and DRD's text and XML.
+"""Reads reports of data races and of lock orders: ThreadSanitizer's text as gcc, clang and rustc print it, that of Go's
+race detector, and Helgrind's and DRD's text and XML.
 
 Of each report the accesses are kept, and of each access whether it reads or writes and its calls: function, path,
-line.
+line. Of a lock order these are the locks that were taken last, each with the one that its thread took before.
 """
 from __future__ import annotations
 
@@ -24,6 +24,8 @@ TSAN_HEAD = re.compile(r"WARNING: ThreadSanitizer: (.+?) \(pid=\d+\)")
 TSAN_ACCESS = re.compile(
     r"  (?:Previous )?(?:atomic )?(read|write) of size \d+ at 0x[0-9a-f]+ by (.+?)(?: \(.*\))?:$", re.IGNORECASE
 )
+TSAN_LOCK = re.compile(r"  Mutex .+ acquired here while holding mutex .+? in (.+?)(?: \(.*\))?:$")
+TSAN_BEFORE = re.compile(r"  Mutex .+ previously acquired by the same thread here:$")
 TSAN_FRAME = re.compile(r"    #\d+ (.+)$")
 TSAN_MODULE = re.compile(r"( \([^()]*\+0x[0-9a-f]+\)| \(BuildId: [^()]*\))+$")
 TSAN_PLACE = re.compile(r"^(.+?):(\d+)(?::\d+)?$")
@@ -40,6 +42,11 @@ VALGRIND_ACCESS = re.compile(
     r"(Possible data race during|This conflicts with a previous|Conflicting) (read|write|load|store)\b"
     r"(?:.*? by (thread #?\d+))?"
 )
+VALGRIND_ORDER = re.compile(r"(Thread #\d+): lock order \"")
+# The first lock of a thread, and its second one.
+VALGRIND_LOCK = re.compile(
+    r" ?(Observed \(incorrect\) order is: |Required order was established by |followed by a later )acquisition of lock"
+)
 VALGRIND_FRAME = re.compile(r" +(?:at|by) 0x[0-9A-Fa-f]+: (.*)$")
 VALGRIND_PLACE = re.compile(r"^(.*) \((.+):(\d+)\)$")
 VARIABLE = re.compile(
@@ -47,6 +54,7 @@ VARIABLE = re.compile(
     r"inside ([\w.\[\]>-]+),? a |Location 0x\w+ is \d+ bytes inside ([\w.\[\]]+)[, ])"
 )
 RACES_OF_TSAN = ("data race", "heap-use-after-free", "race on")
+LOCK_ORDER = "lock-order-inversion"
 
 
 class Unreadable(Exception):
@@ -58,6 +66,8 @@ class Access:
         self.word = {"load": "read", "store": "write"}.get(word.lower(), word.lower())
         self.thread = thread or ""
         self.calls: list[Call] = []
+        # Of a lock, the one that its thread took before, if the report has it.
+        self.before: Access | None = None
 
     def places(self) -> list[Call]:
         """The calls in the program's own code, the innermost first."""
@@ -65,11 +75,32 @@ class Access:
 
 
 class Report:
-    """A data race that a tool told of, and the line where its report begins."""
+    """A data race or a lock order that a tool told of, and the line where its report begins."""
 
     def __init__(self, kind: str, line: int) -> None:
         self.kind, self.line, self.variable, self.ended = kind, line, "", False
         self.accesses: list[Access] = []
+        self.first_lock: Access | None = None
+
+    @property
+    def is_lock_order(self) -> bool:
+        return self.kind.startswith("lock")
+
+    def add(self, access: Access) -> Access:
+        self.accesses.append(access)
+        return access
+
+    def lock(self, text: str) -> Access | None:
+        """What a line of Helgrind about a lock order begins: the first lock of a thread, or its second one."""
+        began = VALGRIND_LOCK.match(text)
+        if not began:
+            return None
+        access = Access("lock", None)
+        if began[1].startswith("followed"):
+            access.before = self.first_lock
+            return self.add(access)
+        self.first_lock = access
+        return access
 
     def name_variable(self, text: str) -> None:
         found = VARIABLE.search(text)
@@ -111,6 +142,18 @@ def tsan_call(text: str) -> Call:
     return found[1][:end], found[1][end + 1 :], int(found[2])
 
 
+def tsan_access(report: Report, line: str) -> Access | None:
+    """The access or lock that a line of ThreadSanitizer begins."""
+    if began := TSAN_ACCESS.match(line):
+        return report.add(Access(began[1], began[2]))
+    if began := TSAN_LOCK.match(line):
+        return report.add(Access("lock", began[1]))
+    if TSAN_BEFORE.match(line) and report.accesses:
+        report.accesses[-1].before = Access("lock", None)
+        return report.accesses[-1].before
+    return None
+
+
 def read_tsan(lines: list[str]) -> Reports:
     """ThreadSanitizer's text: a report begins with its warning and ends with its summary."""
     found = Reports()
@@ -120,14 +163,14 @@ def read_tsan(lines: list[str]) -> Reports:
         head = TSAN_HEAD.search(line)
         if head:
             report, access = Report(head[1], number), None
-            (found.all.append(report) if head[1].startswith(RACES_OF_TSAN) else found.others.update([head[1]]))
+            is_known = head[1].startswith((*RACES_OF_TSAN, LOCK_ORDER))
+            (found.all.append(report) if is_known else found.others.update([head[1]]))
         elif report and line.startswith("SUMMARY: ThreadSanitizer:"):
             report.ended, report = True, None
         elif report:
-            began, call = TSAN_ACCESS.match(line), TSAN_FRAME.match(line)
+            began, call = tsan_access(report, line), TSAN_FRAME.match(line)
             if began:
-                access = Access(began[1], began[2])
-                report.accesses.append(access)
+                access = began
             elif call and access:
                 access.calls.append(tsan_call(call[1]))
             elif not line.strip():
@@ -174,12 +217,14 @@ def read_valgrind(lines: list[str]) -> Reports:
         if not part:
             continue
         began, call = VALGRIND_ACCESS.match(part[1]), VALGRIND_FRAME.match(part[1])
-        if began and began[1] != "This conflicts with a previous":
-            report = Report("data race", number)
+        order = VALGRIND_ORDER.match(part[1])
+        if order or (began and began[1] != "This conflicts with a previous"):
+            report = Report("lock order" if order else "data race", number)
             found.all.append(report)
-        if began and report:
-            access, report.ended = Access(began[2], began[3]), False
-            report.accesses.append(access)
+        lock = report.lock(part[1]) if report and report.is_lock_order else None
+        if report and (began or lock):
+            access = report.add(Access(began[2], began[3])) if began else lock
+            report.ended = False
         elif call and access:
             place = VALGRIND_PLACE.match(call[1])
             access.calls.append((place[1], place[2], int(place[3])) if place else (call[1].split(" (")[0], "", 0))
@@ -197,16 +242,17 @@ def xml_calls(stack: trees.Element) -> Iterator[Call]:
 
 
 def xml_report(error: trees.Element, line: int) -> Report:
-    """The report of an `error`: each text that names an access, with the stack after it."""
-    report = Report("data race", line)
+    """The report of an `error`: each text that names an access or a lock, with the stack after it."""
+    report = Report("lock order" if error.findtext("kind") == "LockOrder" else "data race", line)
     access: Access | None = None
     report.ended = True
     for part in error:
         text = part.findtext("text", "") if part.tag in ("xwhat", "xauxwhat") else part.text or ""
         began = VALGRIND_ACCESS.match(text.strip())
         if part.tag in ("what", "xwhat", "auxwhat", "xauxwhat"):
-            access = Access(began[2], began[3]) if began else None
-            report.accesses += [access] if access else []
+            order = VALGRIND_ORDER.match(text.strip())
+            access = report.add(Access(began[2], began[3])) if began else report.lock(text.strip())
+            access = report.add(Access("lock", order[1])) if order else access
             report.name_variable(text)
         elif part.tag == "stack" and access:
             access.calls += xml_calls(part)
@@ -242,7 +288,7 @@ def take_error(found: Reports, element: trees.Element) -> None:
     if element.tag != "error":
         return
     kind = element.findtext("kind", "?")
-    if kind in ("Race", "ConflictingAccess"):
+    if kind in ("Race", "ConflictingAccess", "LockOrder"):
         found.all.append(xml_report(element, len(found.all) + 1))
     else:
         found.others[kind] += 1

@@ -233,7 +233,7 @@ def follow(clock, command, racebench, pair):
     # Accesses between whose parts others come are done whole, and that is told.
     if plan.split:
         return "", 0
-    before, reads, ends = writers(clock.raw), 0, {clock.record_of[event] for event in plan.pair}
+    before, reads, ends = writers(clock.raw), 0, {clock.record_of[event] for event in plan.ends}
     for event in plan.events:
         if clock.record_of[event] in ends:
             continue

@@ -10,6 +10,7 @@
 #include "frames.c"
 #include "follow.c"
 #include "deadlocks.c"
+#include "requests.c"
 #include "watcher.c"
 #include "accesses.c"
 #include "atomics.c"

@@ -5,6 +5,7 @@
 #include "deadlocks.h"
 #include "events.h"
 #include "follow.h"
+#include "requests.h"
 #include "turns.h"
 #include "words.h"
 
@@ -33,9 +34,10 @@ static u64 bit_of(u64 at) { return at * 0x9e3779b97f4a7c15ull >> 48; }
 
 /* Waits for a lock, as `park`. */
 static int park_for_lock(int reads, const volatile void *at, const struct timespec *until, clockid_t clock, u64 pc) {
-    if (following || me >= MOST_THREADS) return park(at, until, clock);
+    if (me >= MOST_THREADS) return park(at, until, clock);
     wanted[me] = (struct record){.kind = REQUEST, .at = (u64)at, .pc = pc, .size = (u32)reads, .thread = (u16)me};
     wanted[me].stack = stack_now(), wanted[me].pos = CLOCK(tick + 1, 0), wanted[me].done = 1;
+    if (following) wait_in_plan(&wanted[me]);
     int late = park(at, until, clock);
     wanted[me].kind = VOID;
     return late;
@@ -65,12 +67,12 @@ static void note_let_go(const struct record *r) {
     if (h && !--h->times) *h = holds[--hold_count];
 }
 
-/* Goes over all records: who holds the locks that parked threads wait for. */
-static void find_holds(void) {
+/* Goes over all records: who holds the locks that these threads wait for. */
+static void find_holds(const u32 *threads, u32 count) {
     hold_count = 0;
     memset(wanted_bits, 0, sizeof wanted_bits);
-    for (u32 k = 0; k < parked_count; k++)
-        if (wanted[parked[k]].kind) wanted_bits[bit_of(wanted[parked[k]].at)] = 1;
+    for (u32 k = 0; k < count; k++)
+        if (wanted[threads[k]].kind) wanted_bits[bit_of(wanted[threads[k]].at)] = 1;
     static struct reader all;
     memset(&all, 0, sizeof all);
     all.words = words, all.end = head->used;
@@ -87,6 +89,14 @@ static u32 next_of(u32 thread) {
     for (u32 k = 0; k < hold_count; k++)
         if (holds[k].at == w->at && is_stuck[holds[k].thread] && !(w->size && holds[k].reads)) return holds[k].thread;
     return NOBODY;
+}
+
+/* For each thread that waits for a lock, a waiting thread that holds the lock, or NOBODY. The turns' lock is held. */
+static void find_holders(const u32 *threads, u32 count, u64 *holders) {
+    find_holds(threads, count);
+    for (u32 k = 0; k < count; k++) is_stuck[threads[k]] = 1;
+    for (u32 k = 0; k < count; k++) holders[k] = next_of(threads[k]);
+    for (u32 k = 0; k < count; k++) is_stuck[threads[k]] = 0;
 }
 
 /* The least stuck thread, after those are left out that wait for none of the others; NOBODY if all are. */
@@ -146,7 +156,7 @@ static void look_for_deadlock(void) {
     used_before = head->used;
     if (!is_still || searched == head->used || !all_wait_for_ever()) return;
     searched = head->used;
-    find_holds();
+    find_holds(parked, parked_count);
     u32 thread = first_stuck();
     if (thread != NOBODY) end_in_deadlock(thread);
 }

@@ -5,6 +5,7 @@
 #include "follow.h"
 #include "events.h"
 #include "plan.h"
+#include "requests.h"
 #include "threads.h"
 #include "turns.h"
 
@@ -18,11 +19,7 @@ static volatile u64 record_count;
 /* While the thread whose turn it is waits for the world, others may run through hooks that are no events of the trace:
  * what it waits for may be a message of theirs. */
 static volatile int open_to_others;
-/* What the thread is about to do at its hook, for a debugger there. */
-static __thread struct {
-    int kind;
-    u64 at, size, pc;
-} about;
+static __thread struct about about;
 static u32 futile;
 
 static void about_to(int kind, u64 at, u64 size, u64 pc) {
@@ -120,15 +117,20 @@ static int is_at_access(u64 pos) {
     return about.kind != FREED && fits(expected_at(pos >> 16), about.kind, about.pc);
 }
 
+/* Where this thread is, with its stack. */
+static void note_standing(struct standing *s, u64 pos, u64 at, int kind, u64 pc) {
+    s->thread = me, s->pos = pos, s->at = at, s->kind = (u64)kind, s->pc = as_recorded(pc);
+    s->kernel_id = (u64)kernel_ids[me], s->frames = 0;
+    for (u32 d = depth < CALLS ? depth : CALLS; d > 0 && s->frames < MOST_FRAMES; d--)
+        s->frame[s->frames++] = (struct frame){as_recorded(calls[d - 1].body), as_recorded(calls[d - 1].site)};
+}
+
 /* The thread is right before its access. The turns' lock is held. */
 static void stands(u64 pos) {
     if (!is_at_access(pos)) depart(OTHER_CODE, pos, (u64)about.kind, about.pc, expected_at(pos >> 16));
     struct standing *s = &plan->standing[stood++];
-    s->thread = me, s->pos = pos, s->at = about.at, s->size = about.size, s->kind = (u64)about.kind;
-    s->pc = as_recorded(about.pc), s->kernel_id = (u64)kernel_ids[me];
-    s->frames = 0;
-    for (u32 d = depth < CALLS ? depth : CALLS; d > 0 && s->frames < MOST_FRAMES; d--)
-        s->frame[s->frames++] = (struct frame){as_recorded(calls[d - 1].body), as_recorded(calls[d - 1].site)};
+    note_standing(s, pos, about.at, about.kind, about.pc);
+    s->size = about.size;
     step_done(at_step);
     progress++;
     if (stood == 2) both_stand();
@@ -159,6 +161,7 @@ static int may_pass(u64 pos) {
         if (pos > s->pos) depart(MISSED, pos, 0, about.pc, 0);
         /* Before the hook says what it is, it may pass: it comes here once more. */
         if (s->type == EVENT || !about.pc) return 1;
+        if (s->type == WAIT) did_not_wait(pos);
         stands(pos);
         return 0;
     }

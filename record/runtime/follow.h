@@ -10,7 +10,17 @@
 
 SHARED volatile int following;
 SHARED volatile u32 held_back;
+/* What the thread is about to do at its hook, for a debugger there. */
+struct about {
+    int kind;
+    u64 at, size, pc;
+};
+SHARED __thread struct about about;
+struct standing;
 
+SHARED void step_done(u64 k);
+SHARED void name_thread(u64 kernel_id, const char *text);
+SHARED void note_standing(struct standing *s, u64 pos, u64 at, int kind, u64 pc);
 SHARED void about_to(int kind, u64 at, u64 size, u64 pc);
 SHARED void count_record(void);
 SHARED int is_due(u32 thread);

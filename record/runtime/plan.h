@@ -10,9 +10,9 @@
 #define SHARED OTHERS
 #endif
 
-enum { EVENT, STAND, LAST }; /* types of steps */
+enum { EVENT, STAND, LAST, WAIT }; /* types of steps */
 enum { NOT_FOLLOWING, FOLLOWING, STANDS, DEPARTED, DONE };
-enum { OTHER_CODE = 1, MISSED, WOULD_WAIT, HANGS, ENDED, OTHER_OUTCOME, OTHER_WORLD };
+enum { OTHER_CODE = 1, MISSED, WOULD_WAIT, HANGS, ENDED, OTHER_OUTCOME, OTHER_WORLD, NO_WAIT = 9, NOT_HELD };
 /* A step of the plan: the thread and its clock, the event, the thread's next step, and which steps of others have to
  * be done before. */
 struct step {
@@ -37,8 +37,9 @@ struct frame {
     u64 body, site;
 };
 #define MOST_FRAMES 64
+#define MOST_REQUESTS 8
 #define MOST_TOLD 64
-/* A thread right before its access. */
+/* A thread right before its access, or where it waits for a lock. */
 struct standing {
     u64 thread, pos, at, size, kind, pc, kernel_id, value[2], value_there, after[2], after_there, frames;
     struct frame frame[MOST_FRAMES];
@@ -58,6 +59,11 @@ struct plan {
     struct standing standing[2];
     u64 at_tick[MOST_TOLD];
     struct use use[MOST_USES];
+    /* record/follow says how many requests a deadlock has, and whether the program hangs in it. Back come the threads
+     * that wait, each with one of them that holds its lock. */
+    u64 requests, hangs;
+    struct standing request[MOST_REQUESTS];
+    u64 holder[MOST_REQUESTS];
 };
 
 SHARED struct plan *plan;
