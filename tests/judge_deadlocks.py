@@ -2,7 +2,8 @@
 """Judges `deadlocks` on small traces drawn by chance, by going over every state that a correct reordering reaches.
 
 Each two requests that wait for each other have a block on their pattern. A reordering of the printed size shows each
-deadlock, and none shows what is apart. The rest of the text follows from the trace and is compared with it. Takes the
+deadlock, and none shows what is apart. The rest of the text follows from the trace and is compared with it. `witness`
+prints a correct reordering of the printed size that shows the deadlock, and `explain` tells the same. Takes the
 program's path, how many traces are drawn, and the first seed.
 """
 
@@ -21,7 +22,7 @@ from judging import Run, Wrong
 TRACES = 1_000
 # States of a trace beyond which it is left out.
 MOST_STATES = 20_000
-REACHED = ["deadlock", "apart", "ordered", "turned", "real"]
+REACHED = ["deadlock", "apart", "ordered", "turned", "real", "held by both", "forced", "no requests"]
 KINDS = ["deadlock", "undecided", "apart"]
 
 Shown = dict[deadlocked.Pair, set[deadlocked.Size]]
@@ -86,6 +87,114 @@ def check_verdicts(run: Run, trace: deadlocked.Trace, blocks: list[Block], shown
     run.tally["real"] += len(real)
 
 
+def walked(trace: deadlocked.Trace, events: list[int]) -> deadlocked.State:
+    """The state after these events. Raises Wrong if one of them may not come."""
+    state = trace.first_state()
+    for event in events:
+        thread = trace.events[event][0]
+        is_next = trace.place[event] == state[0][thread]
+        if not is_next or not trace.may_come(event, state, trace.owners(state[0])):
+            raise Wrong(f"event {event} may not come: {events}")
+        state = trace.after(event, state)
+    return state
+
+
+def run_count(trace: deadlocked.Trace, events: list[int]) -> int:
+    """How many runs the schedule has."""
+    threads = [trace.events[event][0] for event in events]
+    return sum(at == 0 or threads[at - 1] != thread for at, thread in enumerate(threads))
+
+
+def many(count: int, noun: str) -> str:
+    """The number and the noun."""
+    return f"{count} {noun}" + "s" * (count != 1)
+
+
+def requests_text(trace: deadlocked.Trace, pair: deadlocked.Pair) -> list[str]:
+    """The lines of both requests, each after its number."""
+    one, other = trace.request_lines(*pair), trace.request_lines(*reversed(pair))
+    return [f"{pair[0]}{one[0]}", *one[1:], f"{pair[1]}{other[0]}", *other[1:]]
+
+
+def wait_line(trace: deadlocked.Trace, request: int, other: int) -> str:
+    """For which lock a request waits."""
+    lock = trace.events[request][2]
+    since = trace.held_at(other)[lock]
+    return f"T{trace.events[request][0]} waits for {lock}, which T{trace.events[other][0]} holds since {since}"
+
+
+def check_schedule(run: Run, trace: deadlocked.Trace, block: Block) -> None:
+    """Whether `witness` prints a schedule of the printed size that shows the deadlock, and `explain` the same one."""
+    first, second = (str(event) for event in block.pair)
+    lines = running.printed(run.program, ["witness", "trace", first, second]).decode("ascii").splitlines()
+    events = [int(line.split("  ")[0]) for line in lines]
+    if lines != [f"{event}  {trace.line(event)}" for event in events]:
+        raise Wrong("witness prints other lines")
+    counts = walked(trace, events)[0]
+    if block.pair not in trace.pairs(counts, trace.owners(counts)):
+        raise Wrong(f"this schedule does not show {block.pair}: {events}")
+    threads = {trace.events[event][0] for event in events}
+    how = "ordered" if events == sorted(events) else "turned"
+    if block.found != [how, "events", str(len(events)), "threads", str(len(threads))]:
+        raise Wrong(f"the schedule has another size than {block.line}: {events}")
+    text = running.printed(run.program, ["explain", "trace", first, second, "--all"]).decode("ascii").splitlines()
+    size = f"{many(len(events), 'event')} in {many(run_count(trace, events), 'run')}"
+    head = [f"deadlock {how}: after {size} each of 2 threads waits for the next", *requests_text(trace, block.pair)]
+    waits = [wait_line(trace, *block.pair), wait_line(trace, *reversed(block.pair))]
+    if text[: len(head)] != head or text[-2:] != waits:
+        raise Wrong("explain tells something else:\n" + "\n".join(text))
+
+
+def check_forms(run: Run, trace: deadlocked.Trace, block: Block) -> None:
+    """Whether the forms of `witness` have the same schedule: a trace, and a script that ends with two refusals."""
+    first, second = (str(event) for event in block.pair)
+    lines = running.printed(run.program, ["witness", "trace", first, second]).decode("ascii").splitlines()
+    trace_form = running.printed(run.program, ["witness", "trace", first, second, "--std"]).decode("ascii")
+    if trace_form.splitlines() != [line.split("  ", 1)[1] for line in lines]:
+        raise Wrong("witness --std has other lines")
+    script = running.printed(run.program, ["witness", "trace", first, second, "--script"])
+    running.write("script", script.decode("ascii"))
+    answers = running.printed(run.program, ["replay", "trace", "script"]).decode("ascii").splitlines()
+    refusals = [
+        f"refused 46 25 lock held by T{trace.events[other][0]}" for other in (block.pair[1], block.pair[0])
+    ]
+    if answers[-2:] != refusals or any("refused" in line for line in answers[:-2]):
+        raise Wrong("the script is answered otherwise:\n" + "\n".join(answers))
+
+
+def check_reason(run: Run, trace: deadlocked.Trace, block: Block) -> None:
+    """Whether `witness` and `explain` say that no schedule shows the two requests, and why."""
+    words = ["trace", *(str(event) for event in block.pair)]
+    found = running.ended(run.program, ["witness", *words], {"RACEBENCH_NOTES": "0"})
+    if found != (1, b"", f"racebench: not shown: {block.verdict}\n".encode()):
+        raise Wrong(f"witness answers {found}")
+    head, *rest = running.printed(run.program, ["explain", *words]).decode("ascii").splitlines()
+    held = set(trace.held_at(block.pair[0])) & set(trace.held_at(block.pair[1]))
+    begins = f"{block.verdict}: "
+    if held:
+        run.tally["held by both"] += 1
+        is_right = head.split("apart: both threads hold ")[-1] in held
+    else:
+        forced = f"apart: {block.pair[0]} comes before {block.pair[1]} in every correct reordering"
+        run.tally["forced"] += head == forced
+        is_right = head.startswith(begins) and (head == forced or "comes before" not in head)
+    if not is_right or rest != requests_text(trace, block.pair):
+        raise Wrong(f"explain tells something else of {block.line}: {head}")
+
+
+def check_others(run: Run, trace: deadlocked.Trace) -> None:
+    """Whether two acquires that do not wait for each other are refused."""
+    acquires = [event for event, (_, op, _) in enumerate(trace.events) if op == "acq"]
+    cycles = set(trace.cycles())
+    others = [(one, other) for one in acquires for other in acquires if one < other and (one, other) not in cycles]
+    for one, other in others[:2]:
+        for command in ("explain", "witness"):
+            found = running.ended(run.program, [command, "trace", str(other), str(one)], {"RACEBENCH_NOTES": "0"})
+            if found != (1, b"", b"racebench: no such pair\n"):
+                raise Wrong(f"{command} {one} {other} answers {found}")
+        run.tally["no requests"] += 1
+
+
 def judge_trace(run: Run, trace: deadlocked.Trace, shown: Shown) -> None:
     """Compares what is printed of one trace with what reorderings show."""
     running.write("trace", trace.text())
@@ -99,6 +208,13 @@ def judge_trace(run: Run, trace: deadlocked.Trace, shown: Shown) -> None:
         raise Wrong("without --apart, it prints another text")
     if status != (3 if any(block.verdict == "deadlock" for block in blocks) else 0):
         raise Wrong(f"--fail ends with status {status}")
+    for block in blocks:
+        if block.verdict == "deadlock":
+            check_schedule(run, trace, block)
+            check_forms(run, trace, block)
+        else:
+            check_reason(run, trace, block)
+    check_others(run, trace)
 
 
 def judged(run: Run) -> str:

@@ -2,3 +2,4 @@ pub mod Answers
 pub mod Forms
 pub mod Named
 pub mod PairFaults
+pub mod Requests

@@ -5,6 +5,7 @@ mod explaining;
 mod fault;
 mod form;
 mod naming;
+mod requests;
 mod witnessing;
 mod writing;
 

@@ -1,3 +1,4 @@
 mod CountLemmas
 mod HoldLemmas
 mod PieceLemmas
+pub mod WaitLemmas

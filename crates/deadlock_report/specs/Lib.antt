@@ -1,2 +1,4 @@
 pub mod Counts
+pub mod Explained
+pub mod Schedules
 pub mod Texts

@@ -75,7 +75,8 @@ fn append_word(out: &mut Vec<u8>, word: &[u8], verdict: &Verdict) -> Result<(), 
     Ok(())
 }
 
-fn how_text(how: How) -> &'static [u8]
+/// The word for the order of a schedule.
+pub(crate) fn how_text(how: How) -> &'static [u8]
     ensures { result.now ≡ how_words how }
 {
     match how {

@@ -56,8 +56,8 @@ fn append_held(
     Ok(())
 }
 
-// The lock that the event acquires, or None.
-fn lock_of(indexed: &Indexed, event: u32) -> Option<u32>
+/// The lock that the event acquires, or None.
+pub(crate) fn lock_of(indexed: &Indexed, event: u32) -> Option<u32>
     ensures lock { result ≡ lock_taken indexed.now.events event }
     ensures named { IfSome result (λ l. l < length indexed.now.locks) }
 {

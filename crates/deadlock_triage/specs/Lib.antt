@@ -1,3 +1,4 @@
+pub mod Findings
 pub mod Nesting
 pub mod Patterns
 pub mod Requests

@@ -1,6 +1,6 @@
 -- What a verdict says about a pattern. `r` is the recording of a trace, `T` is its events, and `place` gives the number
 -- of each event's location.
-use Rattle.std.specs.Prelude.{◌≡◌, ◌≢◌, ℕ, ◌<◌, List, [], ◌∷◌, All, AllPairs, Contains, length, ⊤}
+use Rattle.std.specs.Prelude.{◌≡◌, ◌≢◌, ◌↔◌, ℕ, ◌<◌, List, [], ◌∷◌, All, AllPairs, Contains, length, ⊤}
 use Rattle.rapid_text.specs.Recording.{Recording}
 use Rattle.rapid_text.specs.declared.event.Event.{Event}
 use Rattle.schedule.specs.Reordering.{IsCorrectReordering}
@@ -24,14 +24,14 @@ IsNeverShown T e d = (P : List ℕ) → IsCorrectReordering T P → ¬ ShowsDead
 abbrev pub IsThreadCount : List Event → List ℕ → ℕ → Type 0
 IsThreadCount T P n = (ts : List ℕ) × AreThreadsOf T P ts × (length ts ≡ n)
 
--- A schedule with these numbers of events and threads shows the two requests. If it is ordered, it is in the order of the trace.
+-- A schedule with these numbers of events and threads shows the two requests. It is ordered if and only if it is in the order of the trace.
 pub record IsShown (T : List Event) (e d : ℕ) (how : How) (events threads : ℕ) : Type 0 where
   pub schedule : List ℕ
   pub reordering : IsCorrectReordering T schedule
   pub shows : ShowsDeadlock T schedule (e ∷ d ∷ [])
   pub len : length schedule ≡ events
   pub across : IsThreadCount T schedule threads
-  pub ordered : how ≡ Ordered → AllPairs ◌<◌ schedule
+  pub ordered : (how ≡ Ordered) ↔ AllPairs ◌<◌ schedule
 
 -- what is known of two requests
 abbrev pub IsJudged : List Event → ℕ → ℕ → Judgement → Type 0

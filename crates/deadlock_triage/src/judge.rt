@@ -142,8 +142,17 @@ impl Judge<'_> {
         if is_over(row, *left) {
             return Ok(given_up(row, first, second, indexed));
         }
-        *left = left.saturating_sub(1);
-        let answer = judged(self.alloc, self.analysis, first, second, self.tries > 0)?;
+        let mut work = 1;
+        let may_search = self.tries > 0;
+        let answer = judged(
+            self.alloc,
+            self.analysis,
+            first,
+            second,
+            may_search,
+            &mut work,
+        )?;
+        *left = left.saturating_sub(work);
         Ok(after(row, first, second, answer, self.tries, indexed))
     }
 }

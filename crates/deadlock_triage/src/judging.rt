@@ -5,13 +5,11 @@ ghost use Rattle.witness_search.specs.trace_order.Sizes.{HasThread};
 ghost use Rattle.deadlock_triage.specs.Threads.{IsCountBelow};
 ghost use Rattle.deadlock_triage.specs.Verdicts.{IsJudged, IsThreadCount};
 ghost use Rattle.deadlock_triage.specs.declared.outcomes.How.TheVariants.{Ordered};
-ghost use Rattle.lock_waits.specs.Required.{AreRefuted};
 ghost use Rattle.lock_waits.specs.Waits.{ShowsDeadlock};
 
+use crate::finding::{Finding, found};
 use crate::outcomes::How;
-use crate::searching::schedule_of;
 use event_index::Indexed;
-use lock_waits::{are_refuted, refuted_is_never_shown};
 use must_order::Analysis;
 use rapid_text::OutOfMemory;
 use schedule::Schedule;
@@ -35,39 +33,24 @@ pub(crate) enum Judgement {
     Missed,
 }
 
-/// Judges two requests. It searches for a schedule only if `may_search` is true.
+/// Judges two requests. It searches for a schedule only if `may_search` is true, and adds the work that it did to `work`.
 pub(crate) fn judged(
     alloc: Global,
     analysis: &Analysis<'_>,
     first: u32,
     second: u32,
     may_search: bool,
+    work: &mut u64,
 ) -> Result<Judgement, OutOfMemory>
     requires first { first < length analysis.now.events }
     requires second { second < length analysis.now.events }
     ensures judged { IfOk result (IsJudged analysis.now.events first second) }
 {
-    if are_refuted(alloc, analysis, &[first, second])? {
-        return Ok(never(analysis, first, second));
+    match found(alloc, analysis, first, second, may_search, work)? {
+        Finding::Shown(schedule) => Ok(shown(analysis, &schedule, first, second)),
+        Finding::Apart => Ok(Judgement::Never),
+        Finding::Undecided => Ok(Judgement::Missed),
     }
-    if !may_search {
-        return Ok(Judgement::Missed);
-    }
-    match schedule_of(alloc, analysis, first, second)? {
-        Some(schedule) => Ok(shown(analysis, &schedule, first, second)),
-        None => Ok(Judgement::Missed),
-    }
-}
-
-// The answer if the two requests are refuted.
-fn never(analysis: &Analysis<'_>, _first: u32, _second: u32) -> Judgement
-    requires { AreRefuted analysis.now.events (_first ∷ _second ∷ []) }
-    ensures { IsJudged analysis.now.events _first _second result }
-{
-    refuted_is_never_shown();
-    let indexed = analysis.indexed();
-    let _len = indexed.len();
-    Judgement::Never
 }
 
 // The answer if this schedule shows the two requests.
@@ -86,9 +69,9 @@ fn shown(analysis: &Analysis<'_>, schedule: &Schedule, _first: u32, _second: u32
     }
 }
 
-// Whether the events are in the order of the trace.
-fn how_of(events: &[u32]) -> How
-    ensures { result ≡ Ordered → AllPairs ◌<◌ events.now }
+/// The order of a schedule: whether its events are in the order of the trace.
+pub fn how_of(events: &[u32]) -> How
+    ensures { (result ≡ Ordered) ↔ AllPairs ◌<◌ events.now }
 {
     if is_rising(events) {
         How::Ordered
@@ -99,7 +82,7 @@ fn how_of(events: &[u32]) -> How
 
 // Whether each event is greater than the one before it.
 fn is_rising(events: &[u32]) -> bool
-    ensures { IsTrue result → AllPairs ◌<◌ events.now }
+    ensures { IsTrue result ↔ AllPairs ◌<◌ events.now }
 {
     for at in 1..events.len() {
         if events[at - 1] >= events[at] {

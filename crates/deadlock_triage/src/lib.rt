@@ -2,6 +2,7 @@
 //! every correct reordering, or undecided.
 #![tactic(auto)]
 
+mod finding;
 mod judge;
 mod judging;
 mod needing;
@@ -15,7 +16,9 @@ mod stepping;
 mod tries;
 mod verdicts;
 
+pub use finding::{Finding, are_requests, find};
 pub use judge::MAX_PATTERNS;
+pub use judging::how_of;
 pub use outcomes::{How, Outcome, Verdict};
 pub use patterns::{Part, Pattern};
 pub use refusal::Refusal;

@@ -1,5 +1,5 @@
 //! Finds the acquires that may wait for ever, and those of them whose thread holds another lock.
-ghost use Rattle.std.specs.Prelude.{◌≡◌, ◌≢◌, ◌<◌, ◌≤◌, ◌⊎◌, ◌+◌, ◌↔◌, ℕ, IfOk, IfSome, IsTrue, None, OnOk, Some, length, replicate};
+ghost use Rattle.std.specs.Prelude.{◌≡◌, ◌≢◌, ◌<◌, ◌≤◌, ◌⊎◌, ◌+◌, ◌↔◌, ℕ, IfOk, IfSome, IsTrue, None, OnOk, Some, length, replicate, true};
 ghost use Rattle.rapid_text.specs.declared.event.Op.TheVariants.{Acquire};
 ghost use Rattle.event_index.specs.Events.{op_at};
 ghost use Rattle.event_index.specs.Lookups.{section_end};
@@ -16,6 +16,7 @@ use std::alloc::Global;
 /// lock yet. False also if the trace lacks the event.
 pub fn is_request(analysis: &Analysis<'_>, event: u32) -> bool
     ensures request { IsTrue result ↔ IsRequest analysis.now event }
+    ensures within { result ≡ true → event < length analysis.now.events }
 {
     let indexed = analysis.indexed();
     if event >= indexed.len() {

@@ -14,22 +14,24 @@ use std::alloc::Global;
 
 /// A schedule after which the two requests are next and wait for each other, if the search finds one. It tries the
 /// order of the trace first. Then it begins a section that stays open only after other threads' sections of its lock.
+/// For each step it adds the number of threads to `work`.
 pub(crate) fn schedule_of(
     alloc: Global,
     analysis: &Analysis<'_>,
     first: u32,
     second: u32,
+    work: &mut u64,
 ) -> Result<Option<Schedule>, OutOfMemory>
     requires first { first < length analysis.now.events }
     requires second { second < length analysis.now.events }
     ensures shows { IfFound result (λ s. ShowsDeadlock analysis.now.events s.events (first ∷ second ∷ [])) }
     ensures trace { IfFound result (λ s. s.trace ≡ analysis.now) }
 {
-    let ordered = searched(alloc, analysis, first, second, true)?;
+    let ordered = searched(alloc, analysis, first, second, true, work)?;
     if ordered.is_some() {
         return Ok(ordered);
     }
-    searched(alloc, analysis, first, second, false)
+    searched(alloc, analysis, first, second, false, work)
 }
 
 // The same with one order.
@@ -39,6 +41,7 @@ fn searched(
     first: u32,
     second: u32,
     in_order: bool,
+    work: &mut u64,
 ) -> Result<Option<Schedule>, OutOfMemory>
     requires first { first < length analysis.now.events }
     requires second { second < length analysis.now.events }
@@ -50,7 +53,7 @@ fn searched(
     match needs_of(alloc, indexed, analysis.must(), &requests, in_order)? {
         None => Ok(None),
         Some(row) => {
-            let schedule = walked(alloc, indexed, row.as_slice(), in_order)?;
+            let schedule = walked(alloc, indexed, row.as_slice(), in_order, work)?;
             Ok(if_shown(analysis, schedule, first, second))
         }
     }
@@ -80,6 +83,7 @@ fn walked(
     indexed: &Indexed,
     row: &[u32],
     in_order: bool,
+    work: &mut u64,
 ) -> Result<Schedule, OutOfMemory>
     requires row { length row.now ≡ length indexed.now.threads }
     ensures { IfOk result (λ s. s.trace ≡ indexed.now) }
@@ -88,6 +92,7 @@ fn walked(
     let mut counts = vec![in alloc; 0u32; row.len()]?;
     let mut releases = releases_in(alloc, indexed, row)?;
     for _step in 0..indexed.len() {
+        *work = work.saturating_add(u64::from(indexed.threads()));
         let Some(event) = next_event(
             indexed,
             &schedule,

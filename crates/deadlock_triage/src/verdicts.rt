@@ -20,8 +20,8 @@ pub const MAX_TRIES: u32 = 4_096;
 // The most nested requests whose pairs are looked at: 67,108,864 pairs.
 const MAX_NESTED: usize = 11_585;
 
-// The most steps of work. A judged pair takes as many as the trace has events.
-const STEPS: u64 = 4_294_967_296;
+// The most work on all pairs together: visited events, and threads that the steps of a search look at.
+const MOST_WORK: u64 = 268_435_456;
 
 /// All verdicts on a trace.
 #[derive(Drop)]
@@ -116,7 +116,7 @@ fn verdicts_of(judge: &Judge<'_>, count: usize) -> Result<Vec<Verdict>, Refusal>
         patterns: IndexSet::with_hasher(judge.alloc, indexed.trace().raw().keyed()),
         verdicts: Vec::new(judge.alloc),
     };
-    let mut left = STEPS / u64::from(indexed.len().max(1));
+    let mut left = MOST_WORK;
     for later in 0..count {
         judge.visit_all(&mut rows, &mut left, later)?;
     }

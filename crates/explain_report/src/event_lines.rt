@@ -89,7 +89,7 @@ pub(crate) fn append_numbered(
 }
 
 /// Appends the canonical lines of the events.
-pub(crate) fn append_events(
+pub fn append_events(
     out: &mut Vec<u8>,
     indexed: &Indexed,
     events: &[u32],
@@ -104,7 +104,7 @@ pub(crate) fn append_events(
 }
 
 /// Appends the numbered lines of the events.
-pub(crate) fn append_all_numbered(
+pub fn append_all_numbered(
     out: &mut Vec<u8>,
     indexed: &Indexed,
     events: &[u32],
@@ -147,11 +147,7 @@ pub(crate) fn append_thread(
 }
 
 /// Appends the name of the event's thread, if the trace has the event.
-pub(crate) fn append_thread_of(
-    out: &mut Vec<u8>,
-    indexed: &Indexed,
-    event: u32,
-) -> Result<(), OutOfMemory>
+pub fn append_thread_of(out: &mut Vec<u8>, indexed: &Indexed, event: u32) -> Result<(), OutOfMemory>
     ensures { Appended result out.old out.new (thread_name indexed.now event) }
 {
     match thread_of(indexed, event) {
@@ -161,11 +157,7 @@ pub(crate) fn append_thread_of(
 }
 
 /// Appends the name of the lock, if the trace has it.
-pub(crate) fn append_lock(
-    out: &mut Vec<u8>,
-    indexed: &Indexed,
-    lock: u32,
-) -> Result<(), OutOfMemory>
+pub fn append_lock(out: &mut Vec<u8>, indexed: &Indexed, lock: u32) -> Result<(), OutOfMemory>
     ensures { Appended result out.old out.new (name_at indexed.now.locks lock) }
 {
     if lock >= indexed.locks() {

@@ -20,9 +20,12 @@ mod verdict;
 mod waiting;
 mod witness;
 
+pub use event_lines::{append_all_numbered, append_events, append_lock, append_thread_of};
+pub use pieces::{append_count, append_number};
 pub use raced::{candidates_are_told, first_raced};
-pub use runs::{Run, runs_of};
+pub use run_lines::append_runs;
+pub use runs::{Run, run_count, runs_of};
 pub use shb_order::shb_chain;
 pub use verdict::{How, Verdict, append_head, explain_text};
 pub use waiting::{waiters_of, words_between};
-pub use witness::{Form, witness_text};
+pub use witness::{Form, append_add, append_adds, witness_text};

@@ -16,7 +16,7 @@ pub(crate) fn append_words(out: &mut Vec<u8>, words: &[u8]) -> Result<(), OutOfM
 }
 
 /// Appends the number in decimal digits.
-pub(crate) fn append_number(out: &mut Vec<u8>, number: u64) -> Result<(), OutOfMemory>
+pub fn append_number(out: &mut Vec<u8>, number: u64) -> Result<(), OutOfMemory>
     ensures { Appended result out.old out.new (decimal number) }
 {
     let mut digits = Buffer::new();
@@ -25,7 +25,7 @@ pub(crate) fn append_number(out: &mut Vec<u8>, number: u64) -> Result<(), OutOfM
 }
 
 /// Appends the number and the words, in the plural unless the number is 1.
-pub(crate) fn append_count(out: &mut Vec<u8>, number: u64, words: &[u8]) -> Result<(), OutOfMemory>
+pub fn append_count(out: &mut Vec<u8>, number: u64, words: &[u8]) -> Result<(), OutOfMemory>
     ensures { Appended result out.old out.new (count_text number words.now) }
 {
     append_number(out, number)?;

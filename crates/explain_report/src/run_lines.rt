@@ -21,7 +21,7 @@ const LAST_RUNS: usize = 10;
 
 /// Appends the runs of the list. If there are more than eleven, and `all` is false, all except the last ten become
 /// one block.
-pub(crate) fn append_runs(
+pub fn append_runs(
     out: &mut Vec<u8>,
     indexed: &Indexed,
     list: &[u32],

@@ -98,7 +98,7 @@ fn add_last(runs: &mut Vec<Run>, last: Option<Run>) -> Result<(), OutOfMemory>
 }
 
 /// The number of runs in the list.
-pub(crate) fn run_count(alloc: Global, indexed: &Indexed, list: &[u32]) -> Result<u64, OutOfMemory>
+pub fn run_count(alloc: Global, indexed: &Indexed, list: &[u32]) -> Result<u64, OutOfMemory>
     ensures { IfOk result (λ count. count ≡ run_total indexed.now list.now) }
 {
     match runs_of(alloc, indexed, list) {

@@ -71,7 +71,7 @@ fn append_script(out: &mut Vec<u8>, events: &[u32]) -> Result<(), OutOfMemory>
 }
 
 /// Appends the lines that append the events to the schedule.
-fn append_adds(out: &mut Vec<u8>, events: &[u32]) -> Result<(), OutOfMemory>
+pub fn append_adds(out: &mut Vec<u8>, events: &[u32]) -> Result<(), OutOfMemory>
     ensures { Appended result out.old out.new (add_lines events.now) }
 {
     for event in events {
@@ -81,7 +81,7 @@ fn append_adds(out: &mut Vec<u8>, events: &[u32]) -> Result<(), OutOfMemory>
 }
 
 /// Appends the line that appends the event.
-fn append_add(out: &mut Vec<u8>, event: u32) -> Result<(), OutOfMemory>
+pub fn append_add(out: &mut Vec<u8>, event: u32) -> Result<(), OutOfMemory>
     ensures { Appended result out.old out.new (add_line event) }
 {
     append_words(out, b"1 add S ")?;

@@ -18,16 +18,17 @@ use rapid_text::OutOfMemory;
 use std::alloc::Global;
 
 /// Whether the requests require one of themselves, or the end of a section that never ends. Then no correct reordering
-/// shows their deadlock. It visits each required event once.
+/// shows their deadlock. It visits each required event once, and adds the number of visited events to `work`.
 pub fn are_refuted(
     alloc: Global,
     analysis: &Analysis,
     requests: &[u32],
+    work: &mut u64,
 ) -> Result<bool, OutOfMemory>
     requires requests { All (λ e. e < length analysis.now.events) requests.now }
     ensures refuted { IfOk result (λ refuted. IsTrue refuted ↔ AreRefuted analysis.now.events requests.now) }
 {
-    match required_row(alloc, analysis.indexed(), analysis.must(), requests) {
+    match required_row(alloc, analysis.indexed(), analysis.must(), requests, work) {
         Ok(None) => Ok(true),
         Ok(Some(_)) => Ok(false),
         Err(refused) => Err(refused),
@@ -40,6 +41,7 @@ pub(crate) fn required_row(
     indexed: &Indexed,
     must: &Must,
     requests: &[u32],
+    work: &mut u64,
 ) -> Result<Option<Vec<u32>>, OutOfMemory>
     requires must { must.now ≡ indexed.now }
     requires requests { All (λ e. e < length indexed.now.events) requests.now }
@@ -48,7 +50,7 @@ pub(crate) fn required_row(
     let threads = indexed.threads() as usize;
     let mut row = zeros(alloc, threads)?;
     let mut visited = zeros(alloc, threads)?;
-    if is_refuted_by(&mut row, &mut visited, indexed, must, requests) {
+    if is_refuted_by(&mut row, &mut visited, indexed, must, requests, work) {
         return Ok(None);
     }
     Ok(Some(row))
@@ -68,6 +70,7 @@ fn is_refuted_by(
     indexed: &Indexed,
     must: &Must,
     requests: &[u32],
+    work: &mut u64,
 ) -> bool
     requires row { row.old.items ≡ replicate (length indexed.now.threads) 0 }
     requires row_len { length row.old.items ≡ length indexed.now.threads }
@@ -78,7 +81,7 @@ fn is_refuted_by(
     ensures { IsTrue result ↔ AreRefuted indexed.now.events requests.now }
 {
     add_bases(row, indexed, must, requests);
-    if !gather(row, visited, indexed, must, requests) {
+    if !gather(row, visited, indexed, must, requests, work) {
         return true;
     }
     counts_one_of(row.as_slice(), indexed, requests)
@@ -119,6 +122,7 @@ fn gather(
     indexed: &Indexed,
     must: &Must,
     requests: &[u32],
+    work: &mut u64,
 ) -> bool
     requires row_len { length row.old.items ≡ length indexed.now.threads }
     requires visited { visited.old.items ≡ replicate (length indexed.now.threads) 0 }
@@ -133,6 +137,7 @@ fn gather(
     let threads = indexed.threads();
     let mut next = behind(row.as_slice(), visited.as_slice(), threads, 0);
     while let Some(thread) = next {
+        *work = work.saturating_add(1);
         let event = event_in(indexed, thread, visited[thread as usize]);
         if !end_section(row, indexed, must, requests, event) {
             return false;

@@ -27,7 +27,8 @@ that only one line has. Of two locations, `explain` takes the pair of events tha
 The first line is the verdict: `race`, with a schedule after which both are next in their threads;
 `apart`, with what keeps the two apart in every correct reordering of this trace; or `undecided`.
 Apart is about this trace only: each read keeps the write that it saw, and in another run it may see
-another one.",
+another one. Two acquires that `deadlocks` lists are explained too: how their threads come to wait
+for each other, or why they do not.",
     words: &[
         TRACE,
         FIRST,
@@ -49,7 +50,9 @@ pub(crate) const WITNESS: Words = Words {
   racebench witness trace.std count.c:7 count.c:13
 
 Each line has the number of an event and its line of the trace. After these events, in this order,
-both events of the pair are next in their threads.",
+both events of the pair are next in their threads. If they are two acquires that `deadlocks` lists,
+each of the two threads then waits for the other. The script ends with both acquires, and `replay`
+refuses them.",
     words: &[
         TRACE,
         FIRST,

@@ -11,7 +11,7 @@ use calls::pair::Name;
 use client_scripts::read_trace;
 use event_index::Indexed;
 use program_words::PairTask;
-use rapid_text::OutOfMemory;
+use rapid_text::{Op, OutOfMemory};
 
 /// Appends the note on why the names mean no pair of the trace in a file. The file is read again, so there is no note
 /// if it is not plain, or if the trace came on standard input.
@@ -96,10 +96,23 @@ fn append_reason(
         out.extend_from_slice(b"\n")?;
         return Ok(());
     }
-    out.extend_from_slice(
-        b"note: the two events do not conflict: a pair accesses one variable, and one of them writes\n",
-    )?;
+    out.extend_from_slice(no_pair_note(first.op, indexed.event(other).op))?;
     Ok(())
+}
+
+/// The note on two events of two threads that mean no pair.
+fn no_pair_note(one: Op, other: Op) -> &'static [u8] {
+    if is_acquire(one) && is_acquire(other) {
+        return b"note: the two acquires do not wait for each other: each thread has to hold what the other one acquires\n";
+    }
+    b"note: the two events do not conflict: a pair accesses one variable, and one of them writes\n"
+}
+
+fn is_acquire(op: Op) -> bool {
+    match op {
+        Op::Acquire(_) => true,
+        _ => false,
+    }
 }
 
 /// Appends the note on one event that is named twice.

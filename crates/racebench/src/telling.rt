@@ -205,7 +205,7 @@ fn append_in_pair(
     }
     match fault {
         PairFault::NoSuchPair => append_pair_note(rt, out, pair)?,
-        PairFault::NotShown(_) => {
+        PairFault::NotShown(_) | PairFault::NoDeadlock { is_apart: _ } => {
             out.extend_from_slice(b"note: `racebench explain` of the same two says why\n")?
         }
         PairFault::Replay(_) => {}

@@ -1,6 +1,6 @@
 -- What a call on a pair answers of the bytes that it reads, and what its writer has taken. `one` and `other` name the pair, `a` is its earlier
 -- event, `b` the later. All notions here are this project's own.
-use Rattle.std.specs.Prelude.{◌≡◌, ℕ, Bool, List, ◌++◌, None, Option, Result, Ok, Err, ⊤}
+use Rattle.std.specs.Prelude.{◌≡◌, ◌⊎◌, ℕ, Bool, List, ◌++◌, None, Option, Result, Ok, Err, ⊤}
 use Rattle.std.specs.Io.KnownBytes.{Appends}
 use Rattle.rapid_text.specs.Recording.{Recording}
 use Rattle.event_index.specs.Relations.{IsConflicting}
@@ -20,9 +20,10 @@ use Rattle.client_scripts.specs.declared.fault.ReplayFault.TheVariants.{Write, O
 use Rattle.explain_report.specs.declared.places.name.Name.{Name}
 use Rattle.calls.specs.pair.Forms.{IsPrinted}
 use Rattle.calls.specs.pair.Named.{IsNamedPair, IsNoPair}
+use Rattle.calls.specs.pair.Requests.{AreNoRequests, IsDeadlockExplained, IsDeadlockWitness, IsNoDeadlock}
 use Rattle.calls.specs.declared.pair.fault.PairFault.{PairFault}
 use Rattle.calls.specs.declared.pair.form.Form.{Form}
-use Rattle.calls.specs.declared.pair.fault.PairFault.TheVariants.{Replay, NoSuchPair, NotShown}
+use Rattle.calls.specs.declared.pair.fault.PairFault.TheVariants.{Replay, NoSuchPair, NotShown, NoDeadlock}
 
 -- the text tells a finding on the pair: its words, both accesses with the locks that are held, and the reason; of a race, all runs of its
 -- schedule, or the first ones of many as one block
@@ -40,15 +41,19 @@ pub record IsPairTold (r : Recording) (all : Bool) (a b : ℕ) (text : List ℕ)
   pub printed : IsFindingTold r finding all a b text
 
 -- the two that the names mean conflict, and the text tells a right finding on the pair
-pub record IsExplanation (r : Recording) (one other : Name) (all : Bool) (text : List ℕ) : Type 0 where
+pub record IsPairExplained (r : Recording) (one other : Name) (all : Bool) (text : List ℕ) : Type 0 where
   pub a : ℕ
   pub b : ℕ
   pub pair : IsNamedPair r one other a b
   pub conflict : IsConflicting r.events a b
   pub told : IsPairTold r all a b text
 
+-- the text explains the pair or the requests that the names mean
+abbrev pub IsExplanation : Recording → Name → Name → Bool → List ℕ → Type 0
+IsExplanation r one other all text = IsPairExplained r one other all text ⊎ IsDeadlockExplained r one other all text
+
 -- the text prints, in this form, a correct reordering that shows the pair
-pub record IsWitness (r : Recording) (one other : Name) (form : Form) (text : List ℕ) : Type 0 where
+pub record IsPairWitness (r : Recording) (one other : Name) (form : Form) (text : List ℕ) : Type 0 where
   pub a : ℕ
   pub b : ℕ
   pub pair : IsNamedPair r one other a b
@@ -56,6 +61,10 @@ pub record IsWitness (r : Recording) (one other : Name) (form : Form) (text : Li
   pub events : List ℕ
   pub found : IsFinding r a b (Race how events)
   pub printed : IsPrinted r events a b form text
+
+-- the text prints, in this form, a schedule of the pair or of the requests that the names mean
+abbrev pub IsWitness : Recording → Name → Name → Form → List ℕ → Type 0
+IsWitness r one other form text = IsPairWitness r one other form text ⊎ IsDeadlockWitness r one other form text
 
 -- no schedule is printed of a conflicting pair of this kind: there is none, or none in the order of the trace, and none was found
 abbrev pub IsNotShown : Recording → ℕ → ℕ → Kind → Type 0
@@ -75,20 +84,23 @@ IsUnlisted r a b (Replay OutOfMemory) = ⊤
 IsUnlisted r a b (Replay fault) = ⊥
 IsUnlisted r a b NoSuchPair = ⊥
 IsUnlisted r a b (NotShown kind) = IsNotShown r a b kind
+IsUnlisted r a b (NoDeadlock is_apart) = ⊥
 
 -- why a pair of this trace is not explained
 abbrev pub IsUnexplained : Recording → Name → Name → PairFault → Type 0
 IsUnexplained r one other (Replay OutOfMemory) = ⊤
 IsUnexplained r one other (Replay fault) = ⊥
-IsUnexplained r one other NoSuchPair = IsNoPair r one other
+IsUnexplained r one other NoSuchPair = IsNoPair r one other × AreNoRequests r one other
 IsUnexplained r one other (NotShown kind) = ⊥
+IsUnexplained r one other (NoDeadlock is_apart) = ⊥
 
 -- why no schedule of it is printed
 abbrev pub IsUnwitnessed : Recording → Name → Name → PairFault → Type 0
 IsUnwitnessed r one other (Replay OutOfMemory) = ⊤
 IsUnwitnessed r one other (Replay fault) = ⊥
-IsUnwitnessed r one other NoSuchPair = IsNoPair r one other
+IsUnwitnessed r one other NoSuchPair = IsNoPair r one other × AreNoRequests r one other
 IsUnwitnessed r one other (NotShown kind) = (a b : ℕ) × IsNamedPair r one other a b × IsNotShown r a b kind
+IsUnwitnessed r one other (NoDeadlock is_apart) = IsNoPair r one other × IsNoDeadlock r one other is_apart
 
 -- What was written of a trace where `Prints` says which texts are right, and `Refuses` which faults: the whole text; or the writer
 -- failed, and it is a beginning of the text; or, at another fault, nothing.
@@ -108,6 +120,8 @@ IsAnswered Prints Refuses bytes old new (Err NoSuchPair) =
     (r : Recording) × IsTraceOf bytes r × IsWritten Prints Refuses r old new (Err NoSuchPair)
 IsAnswered Prints Refuses bytes old new (Err (NotShown kind)) =
     (r : Recording) × IsTraceOf bytes r × IsWritten Prints Refuses r old new (Err (NotShown kind))
+IsAnswered Prints Refuses bytes old new (Err (NoDeadlock is_apart)) =
+    (r : Recording) × IsTraceOf bytes r × IsWritten Prints Refuses r old new (Err (NoDeadlock is_apart))
 
 -- what `explain` answers of the pair, if all runs of a schedule are wanted or not
 abbrev pub IsExplained : List ℕ → Name → Name → Bool → Option (List ℕ) → Option (List ℕ) → Result Unit PairFault → Type 0

@@ -10,6 +10,7 @@ ghost use Rattle.rapid_text.specs.Appended.{AppendedOne};
 
 use crate::pair::fault::PairFault;
 use crate::pair::naming::named_pair;
+use crate::pair::requests::explanation_of_requests;
 use crate::pair::writing::write_text;
 use client_scripts::{Sink, Source, read_trace};
 use event_index::Indexed;
@@ -105,7 +106,7 @@ fn append_explanation(
     }
 }
 
-/// The text that explains the pair that the two names mean.
+/// The text that explains the pair or the requests that the two names mean.
 fn explanation_of(
     alloc: Global,
     indexed: &Indexed,
@@ -118,7 +119,7 @@ fn explanation_of(
 {
     let pair = match named_pair(alloc, indexed, one, other)? {
         Some(pair) => pair,
-        None => return Err(PairFault::NoSuchPair),
+        None => return explanation_of_requests(alloc, indexed, one, other, all),
     };
     let mut text = Vec::new(alloc);
     append_explanation(&mut text, indexed, pair, all)?;
@@ -150,8 +151,8 @@ fn write_explanation<K: Sink>(
 
 /// Reads a whole trace text and explains the pair that two names mean, in either order. The text has a schedule that
 /// shows the pair, run by run; or what keeps the two apart in every correct reordering; or that neither was found
-/// (docs/FORMATS.md, "A pair of events"). If the schedule has more than eleven runs, all but the last ten become one
-/// block, unless `all` is true.
+/// (docs/FORMATS.md, "A pair of events"). The numbers of two requests mean these, if they wait for each other. If the
+/// schedule has more than eleven runs, all but the last ten become one block, unless `all` is true.
 ///
 /// At the faults 91, 92, 94, 96 and 98 nothing is written. At 95 the writer has taken a beginning of the text.
 pub fn explain<S: Source, K: Sink>(

@@ -1,6 +1,6 @@
 //! Why a call on a pair stopped, and the text of that fault.
 ghost use Rattle.std.specs.Prelude.{◌≡◌, OnErr};
-ghost use Rattle.calls.specs.pair.PairFaults.{kind_text, pair_fault_words};
+ghost use Rattle.calls.specs.pair.PairFaults.{apart_text, kind_text, pair_fault_words};
 ghost use Rattle.rapid_text.specs.Appended.{Appended};
 
 use client_scripts::{ReplayFault, fault_text};
@@ -18,6 +18,11 @@ pub enum PairFault {
     /// 99: no schedule shows the pair. The kind says why: it is forced or guarded, or it is open and the search found
     /// none.
     NotShown(Kind),
+    /// 99: no schedule shows the two requests that wait for each other.
+    NoDeadlock {
+        /// Whether no correct reordering shows them. If not, the search found none.
+        is_apart: bool,
+    },
 }
 
 impl From<ReplayFault> for PairFault {
@@ -55,6 +60,13 @@ fn kind_words(kind: Kind) -> &'static [u8]
     }
 }
 
+/// The word for requests that no schedule shows.
+fn apart_words(is_apart: bool) -> &'static [u8]
+    ensures { result.now ≡ apart_text is_apart }
+{
+    if is_apart { b"apart" } else { b"undecided" }
+}
+
 /// Appends the text of a fault, without a line end. If memory runs out, `out` stays as it was.
 pub fn pair_fault_text(fault: &PairFault, out: &mut Vec<u8>) -> Result<(), OutOfMemory>
     ensures ok { Appended result out.old out.new (pair_fault_words fault.now) }
@@ -68,6 +80,13 @@ pub fn pair_fault_text(fault: &PairFault, out: &mut Vec<u8>) -> Result<(), OutOf
             &[
                 Piece::Words(b"not shown: "),
                 Piece::Words(kind_words(*kind)),
+            ],
+        ),
+        PairFault::NoDeadlock { is_apart } => append_pieces(
+            out,
+            &[
+                Piece::Words(b"not shown: "),
+                Piece::Words(apart_words(*is_apart)),
             ],
         ),
     }

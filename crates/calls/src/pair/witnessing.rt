@@ -1,4 +1,4 @@
-//! Prints the schedule that shows a pair: reads the trace, finds the schedule, makes the text, and writes it.
+//! Prints the schedule that shows a pair, or two requests that wait for each other: reads the trace, finds the schedule, makes the text, and writes it.
 ghost use Rattle.std.specs.Prelude.{◌≡◌, ◌≢◌, ◌<◌, ℕ, List, length, false, true, IfSome, IfOk, IfErr, Err};
 ghost use Rattle.client_scripts.specs.declared.fault.ReadCause.{ReadCause};
 ghost use Rattle.client_scripts.specs.declared.fault.ReadCause.TheVariants.{Device};
@@ -11,6 +11,7 @@ ghost use Rattle.calls.specs.declared.pair.fault.PairFault.TheVariants.{Replay};
 use crate::pair::fault::PairFault;
 use crate::pair::form::{Form, append_schedule};
 use crate::pair::naming::named_pair;
+use crate::pair::requests::witness_of_requests;
 use crate::pair::writing::write_text;
 use client_scripts::{Sink, Source, read_trace};
 use event_index::{EventList, Indexed};
@@ -88,7 +89,7 @@ fn witness_by_orders(
     }
 }
 
-/// Finds the pair that the two names mean, and makes the text of the schedule that shows it.
+/// Finds the pair or the requests that the two names mean, and makes the text of the schedule that shows them.
 fn witness_of(
     alloc: Global,
     indexed: &Indexed,
@@ -101,7 +102,7 @@ fn witness_of(
 {
     match named_pair(alloc, indexed, one, other) {
         Ok(Some(pair)) => witness_by_orders(alloc, indexed, one, other, pair, form),
-        Ok(None) => Err(PairFault::NoSuchPair),
+        Ok(None) => witness_of_requests(alloc, indexed, one, other, form),
         Err(refused) => Err(PairFault::from(refused)),
     }
 }
@@ -131,7 +132,7 @@ fn write_witness<K: Sink>(
 
 /// Reads a whole trace text and writes a schedule that shows a pair, in this form. The two names mean the pair, in
 /// either order (docs/FORMATS.md, "A pair by its locations"). The schedule is a correct reordering of the trace, and
-/// after it both events are next in their threads.
+/// after it both events are next in their threads. The numbers of two requests mean these, if they wait for each other.
 ///
 /// At the faults 91, 92, 94, 96, 98 and 99 nothing is written. At 95 the writer has taken a beginning of the text.
 pub fn witness<S: Source, K: Sink>(

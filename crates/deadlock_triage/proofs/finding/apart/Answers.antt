@@ -1,7 +1,7 @@
 use Rattle.std.proofs.Common.{[], ◌∷◌, subst}
 use Rattle.rapid_text.specs.Recording.{Recording}
 use Rattle.trace_rules.specs.Rules.{IsDisciplined}
-use Rattle.deadlock_triage.proofs.judging.never.Goals as goal
+use Rattle.deadlock_triage.proofs.finding.apart.Goals as goal
 
 pub returns : goal.returns
 returns c =
