@@ -3,7 +3,7 @@
 
 Each two requests that wait for each other have a block on their pattern. A reordering of the printed size shows each
 deadlock, and none shows what is apart. The rest of the text follows from the trace and is compared with it. `witness`
-prints a correct reordering of the printed size that shows the deadlock, and `explain` tells the same. Takes the
+prints a correct reordering of the printed size that shows the deadlock, and `explain` says the same. Takes the
 program's path, how many traces are drawn, and the first seed.
 """
 
@@ -88,7 +88,7 @@ def check_verdicts(run: Run, trace: deadlocked.Trace, blocks: list[Block], shown
 
 
 def walked(trace: deadlocked.Trace, events: list[int]) -> deadlocked.State:
-    """The state after these events. Raises Wrong if one of them may not come."""
+    """The state after these events. Raises Wrong if an event may not come."""
     state = trace.first_state()
     for event in events:
         thread = trace.events[event][0]
@@ -142,7 +142,7 @@ def check_schedule(run: Run, trace: deadlocked.Trace, block: Block) -> None:
     head = [f"deadlock {how}: after {size} each of 2 threads waits for the next", *requests_text(trace, block.pair)]
     waits = [wait_line(trace, *block.pair), wait_line(trace, *reversed(block.pair))]
     if text[: len(head)] != head or text[-2:] != waits:
-        raise Wrong("explain tells something else:\n" + "\n".join(text))
+        raise Wrong("explain says something else:\n" + "\n".join(text))
 
 
 def check_forms(run: Run, trace: deadlocked.Trace, block: Block) -> None:
@@ -179,7 +179,7 @@ def check_reason(run: Run, trace: deadlocked.Trace, block: Block) -> None:
         run.tally["forced"] += head == forced
         is_right = head.startswith(begins) and (head == forced or "comes before" not in head)
     if not is_right or rest != requests_text(trace, block.pair):
-        raise Wrong(f"explain tells something else of {block.line}: {head}")
+        raise Wrong(f"explain says something else of {block.line}: {head}")
 
 
 def check_others(run: Run, trace: deadlocked.Trace) -> None:

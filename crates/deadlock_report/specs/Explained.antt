@@ -47,7 +47,7 @@ IsWaitTold r e d text =
     ((l p : ℕ) × (op_at r.events e ≡ Some (Acquire l)) × IsHeldFrom r.events d l p × (text ≡ wait_line r e d l p))
     ⊎ ((¬ WaitsFor r.events e d) × (text ≡ []))
 
--- what stands behind the runs: for whom each thread waits
+-- what follows the runs: for whom each thread waits
 abbrev pub AreWaitsTold : Recording → ℕ → ℕ → List ℕ → Type 0
 AreWaitsTold r a b text = (one other : List ℕ) × IsWaitTold r a b one × IsWaitTold r b a other × (text ≡ one ++ other)
 

@@ -72,7 +72,7 @@ fn append_finding(
     }
 }
 
-// Appends a deadlock that the schedule of these events shows.
+// Appends a deadlock that the schedule shows.
 fn append_shown(
     out: &mut Vec<u8>,
     analysis: &Analysis<'_>,

@@ -8,8 +8,8 @@ use event_index::Indexed;
 use explain_report::{Form, append_adds, append_all_numbered, append_events};
 use rapid_text::OutOfMemory;
 
-/// Appends the schedule of these events, after which the two requests wait for each other. The script ends with the
-/// two requests, which are refused. If memory runs out, `out` stays as it was.
+/// Appends the schedule, after which the two requests wait for each other. The script ends with both requests, which
+/// are refused. If memory runs out, `out` stays as it was.
 pub fn schedule_text(
     indexed: &Indexed,
     events: &[u32],

@@ -1,4 +1,4 @@
--- Which requests two names mean, and what is told of them. `r` is a trace's recording, `one` and `other` are the names,
+-- Which requests two names mean, and what is printed about both. `r` is a trace's recording, `one` and `other` are the names,
 -- `a` is the earlier request, `b` the later. All notions here are this project's own.
 use Rattle.std.specs.Prelude.{◌≡◌, ◌⊎◌, ℕ, min, max, Bool, true, false, List, [], ◌∷◌, MatchOption, ⊤}
 use Rattle.rapid_text.specs.Recording.{Recording}
@@ -30,7 +30,7 @@ AreNoRequests r (Event one) (Place other) = ⊤
 AreNoRequests r (Place one) (Event other) = ⊤
 AreNoRequests r (Place one) (Place other) = ⊤
 
--- the text tells a right finding on the two requests
+-- the text has a right finding on the two requests
 abbrev pub AreRequestsTold : Recording → ℕ → ℕ → Bool → List ℕ → Type 0
 AreRequestsTold r a b all text = (finding : Finding) × IsFinding r a b finding × IsDeadlockTold r finding a b all text
 

@@ -1,4 +1,4 @@
-//! Two names that mean requests which wait for each other: what is known of them, and a schedule that shows them.
+//! Two names that mean requests which wait for each other: what is known, and a schedule that shows both.
 ghost use Rattle.std.specs.Prelude.{◌≡◌, ◌<◌, None, length, IfErr, IfOk, IfSome};
 ghost use Rattle.deadlock_triage.specs.Findings.{IsFinding};
 ghost use Rattle.rapid_text.specs.Appended.{AppendedOne};
