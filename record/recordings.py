@@ -15,7 +15,7 @@ WHOLE, NOT_WHOLE, NOT_RECORDED, NOT_JUDGED, STOPPED = "whole", "not whole", "not
 # The statuses of record/run for a recording, for one that is not whole, and for a program in a deadlock.
 RECORDED, IS_NOT_WHOLE, IS_DEADLOCK = 0, 4, 5
 # How record/run begins the line that says who waits for whom.
-IN_DEADLOCK = "record/run: the program is in a deadlock: "
+IN_DEADLOCK = re.compile(r"record/\w+: the program is in a deadlock: ")
 # The files of a seed.
 ENDINGS = ("std", "clock", "log", "json")
 
@@ -63,8 +63,8 @@ def path_of(folder: str, seed: int, ending: str) -> str:
 def deadlock_in(path: str) -> str:
     """Which threads wait for each other, as record/run printed it in a log."""
     with open(path, encoding="utf-8", errors="replace") as file:
-        lines = [line.rstrip("\n") for line in file if line.startswith(IN_DEADLOCK)]
-    return lines[-1][len(IN_DEADLOCK) :] if lines else "which threads wait is not known"
+        found = [line[said.end() :].rstrip("\n") for line in file if (said := IN_DEADLOCK.match(line))]
+    return found[-1] if found else "which threads wait is not known"
 
 
 def last_line(path: str) -> str:

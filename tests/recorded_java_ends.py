@@ -11,6 +11,7 @@ import resource
 import signal
 import subprocess
 import tempfile
+import time
 from typing import Any
 
 import recorded_ci
@@ -23,6 +24,8 @@ ENDS = [("throws", 1, ""), ("exits", 7, ""), ("halts", 9, ""), ("kills", 137, "K
 THREADS = 300
 # The most bytes of a file while the disk is full.
 SMALL_DISK = 3 << 20
+# Seconds in which a deadlock would be seen.
+A_WHILE = 4
 
 
 def compile_broken() -> None:
@@ -77,28 +80,81 @@ def judge_threads() -> None:
         raise Wrong(f"with --max: {len(short)} lines, and it ends with {short[-1:]}")
 
 
-def judge_deadlock() -> None:
-    """A deadlock is recorded up to control-C."""
-    compile_broken()
-    command = [recorded_java.RECORD, "--status", "-cp", ".", "Broken", "locks", "1"]
+def places_of(label: str, way: str) -> str:
+    """Where Stuck.java has a comment, as a pattern."""
+    with open(os.path.join(recorded_java.SOURCES, "Stuck.java"), encoding="utf-8") as file:
+        lines = [str(n) for n, line in enumerate(file, start=1) if re.search(rf"// {label} {way}$", line)]
+    return rf"Stuck\.java:({'|'.join(lines)})"
+
+
+def check_deadlock(way: str, threads: int, text: str) -> None:
+    """The line of a deadlock: each thread waits for a lock that the next one has."""
+    where = "monitors" if way in ("three", "pool") else way
+    waits, since = places_of("WAITS", where), places_of("HOLDS", where)
+    said = re.search(r"^\S+: the program is in a deadlock: (.*)$", text, re.MULTILINE)
+    for number, one in enumerate(said[1].split("; ") if said else [], start=1):
+        holder = rf"T{number % threads + 1}"
+        lock = r"heap:Stuck\.java:\d+ (Object|ReentrantLock|ReentrantReadWriteLock)(#T0\.\d)?"
+        if not re.fullmatch(rf"T{number} waits at {waits} for {lock}, which {holder} holds since {since}", one):
+            raise Wrong(f"{way}: a line has another form: {one}")
+    if not said or said[1].count("; ") != threads - 1:
+        raise Wrong(f"{way}: there is no line of {threads} threads: {text[-600:]}")
+
+
+def judge_deadlock(racebench: str) -> None:
+    """A program in a deadlock is ended, with a line that says who waits for whom; the trace has what came before."""
+    recorded_java.compiled(os.path.join(recorded_java.SOURCES, "Stuck.java"))
+    for way, threads in (("monitors", 2), ("three", 3), ("locks", 2), ("upgrade", 2), ("notified", 2), ("pool", 2)):
+        lines, text = recorded_java.recorded("--partial", "-cp", ".", "Stuck", way, wanted=[5])
+        check_deadlock(way, threads, text)
+        if lines[-1] != f"recording|end(LEFT OUT 0 FROM {len(lines) - 2}: DEADLOCK)|" or "program ended" in text:
+            raise Wrong(f"{way}: the trace ends with {lines[-1]}: {text[-600:]}")
+        status, _, text = recorded_java.ran(racebench, "triage", "trace.std")
+        if status:
+            raise Wrong(f"{way}: the trace is refused: {text}")
+    recorded_java.recorded("--status", "-cp", ".", "Stuck", "monitors", wanted=[134])
+    lines, text = recorded_java.recorded("-cp", ".", "Stuck", "timed")
+    if lines[-1] != WHOLE or "deadlock" in text:
+        raise Wrong(f"a lock whose time ran out: {lines[-1]}: {text[-600:]}")
+
+
+def judge_deadlock_alone(racebench: str) -> None:
+    """The agent by itself ends a program in a deadlock, and writes the trace; record/check reports the deadlock."""
+    recorded_java.compiled(os.path.join(recorded_java.SOURCES, "Stuck.java"))
+    jar = recorded_java.ran(recorded_java.RECORD, "--jar")[1].strip()
+    status, _, text = recorded_java.ran("java", f"-javaagent:{jar}=out=alone.std", "-cp", ".", "Stuck", "locks")
+    check_deadlock("locks", 2, text)
+    with open("alone.std", encoding="utf-8") as file:
+        last = file.read().splitlines()[-1]
+    if status != 134 or ": DEADLOCK)|" not in last or os.path.exists("alone.std.records"):
+        raise Wrong(f"status {status}, and the trace ends with {last}: {text[-600:]}")
+    check = os.path.join(os.path.dirname(recorded_java.RECORD), "check")
+    command = [check, "--racebench", racebench, "--seeds", "1", "java", "-cp", ".", "Stuck", "locks"]
+    status, out, text = recorded_java.ran(*command)
+    if status != 5 or not re.search(r"^deadlock: T1 waits at Stuck.java:\d+ for .*: seeds 1$", out, re.MULTILINE):
+        raise Wrong(f"record/check: status {status}: {out}{text[-600:]}")
+
+
+def judge_hang() -> None:
+    """A program that hangs without a circle of locks is recorded up to control-C."""
+    recorded_java.compiled(os.path.join(recorded_java.SOURCES, "Stuck.java"))
+    command = [recorded_java.RECORD, "--status", "-cp", ".", "Stuck", "lost"]
     with tempfile.TemporaryFile("w+") as out:
         with subprocess.Popen(
             command, stdout=out, stderr=subprocess.PIPE, text=True, start_new_session=True
         ) as started:
             assert started.stderr
-            holds = 0
-            while holds < 2:
-                line = started.stderr.readline()
-                if not line:
-                    raise Wrong("the program ended before it locked itself in")
-                holds += line == "holds\n"
+            if started.stderr.readline() != "waits\n":
+                raise Wrong("the program did not come to its wait")
+            time.sleep(A_WHILE)
+            if started.poll() is not None:
+                raise Wrong("the program was ended")
             os.killpg(started.pid, signal.SIGINT)
             rest = started.stderr.read()
             status = started.wait(recorded_java.PATIENCE)
         out.seek(0)
         lines = out.read().splitlines()
-    held = [line.split("|")[0] for line in lines if re.search(r"\|acq\(heap:Broken\.java:6 Object", line)]
-    if status != 130 or len(set(held)) != 2 or not lines[-1].startswith("recording|end("):
+    if status != 130 or not any("|fork(T2)|" in line for line in lines) or lines[-1] != WHOLE:
         raise Wrong(f"status {status}, and the trace is {lines[-8:]}: {rest[-600:]}")
 
 
@@ -201,7 +257,9 @@ def cases(racebench: str) -> list[recorded_java.Case]:
     ]
     found.append(("java: a full disk", judge_disk, (racebench,)))
     found.append((f"java: {THREADS} threads", judge_threads, ()))
-    found.append(("java: a deadlock", judge_deadlock, ()))
+    found.append(("java: a deadlock", judge_deadlock, (racebench,)))
+    found.append(("java: a deadlock with the agent alone", judge_deadlock_alone, (racebench,)))
+    found.append(("java: a program that hangs", judge_hang, ()))
     found.append(("java: options", judge_options, ()))
     found.append(("java: what is refused", judge_refused, ()))
     found.append(("java: the agent alone", judge_agent, ()))

@@ -1,9 +1,6 @@
-import java.util.concurrent.CountDownLatch;
-
 /** A race, and then an end of the sort that the first argument names. */
 public class Broken {
     static int shared;
-    static final Object first = new Object(), second = new Object();
 
     static void raise(int n) {
         for (int k = 0; k < n; k++) shared++; // RACE shared
@@ -17,29 +14,6 @@ public class Broken {
             all[k].start();
         }
         for (Thread t : all) t.join();
-    }
-
-    static void both(Object one, Object other, CountDownLatch latch) {
-        synchronized (one) {
-            latch.countDown();
-            try {
-                latch.await();
-            } catch (InterruptedException e) {
-                throw new IllegalStateException(e);
-            }
-            System.out.println("holds");
-            synchronized (other) {
-                shared++;
-            }
-        }
-    }
-
-    static void deadlock() throws InterruptedException {
-        CountDownLatch latch = new CountDownLatch(2);
-        Thread other = new Thread(() -> both(first, second, latch));
-        other.start();
-        both(second, first, latch);
-        other.join();
     }
 
     static int deep(int n) {
@@ -64,7 +38,6 @@ public class Broken {
             case "kills": kill(); break;
             case "overflows": deep(0); break;
             case "threads": many(n); break;
-            case "locks": deadlock(); break;
             default:
         }
         System.out.println("the end");

@@ -23,6 +23,8 @@ public final class Agent implements ClassFileTransformer {
     private static Field target;
     private static final Set<Thread> unknown = new HashSet<>();
     private static double seconds;
+    /** What makes the trace as the program ends; null if record/java does. */
+    private static AtEnd atEnd;
 
     public static void premain(String options, Instrumentation by) {
         try {
@@ -61,7 +63,7 @@ public final class Agent implements ClassFileTransformer {
         loadOwn();
         by.addTransformer(new Agent(), true);
         by.retransformClasses(LibraryHooks.classes());
-        if (given.out != null) Runtime.getRuntime().addShutdownHook(new AtEnd(given));
+        if (given.out != null) Runtime.getRuntime().addShutdownHook(atEnd = new AtEnd(given));
         Follow.begin(given);
         Turns.T main = Turns.register(Thread.currentThread(), Follow.on ? 0 : -1);
         Turns.holder = main;
@@ -74,7 +76,7 @@ public final class Agent implements ClassFileTransformer {
     private static void loadOwn() throws ClassNotFoundException {
         for (String name : new String[] {"Rec", "Things", "Things$Thing", "Calls", "Calls$Cache", "Store", "Turns",
             "Turns$T", "Bridge", "Bridge$Call", "Work", "Work$Job",
-            "Work$JobOfOne", "Work$JobOfTwo", "Locking", "Row", "Rows", "Follow", "Plan", "Places", "Standing"})
+            "Work$JobOfOne", "Work$JobOfTwo", "Locking", "Row", "Rows", "Follow", "Plan", "Places", "Standing", "Deadlock"})
             Class.forName("planecarmine." + name).getDeclaredMethods();
     }
 
@@ -105,10 +107,20 @@ public final class Agent implements ClassFileTransformer {
         @Override
         public void run() {
             Turns.stop();
+            make();
+        }
+
+        private void make() {
             List<String> words = new ArrayList<>(List.of("--out", given.out, given.raw));
             int status = Decode.decode(words.toArray(new String[0]));
             if (status == 0 && !new File(given.raw).delete()) System.err.println("planecarmine: " + given.raw + " stays");
         }
+    }
+
+    /** Ends the program, in which nothing goes on. */
+    static void end(int status) {
+        if (atEnd != null) atEnd.make();
+        Runtime.getRuntime().halt(status);
     }
 
     /** A thread came to a hook that the program did not start. */

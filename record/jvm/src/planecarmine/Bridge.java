@@ -1,6 +1,7 @@
 package planecarmine;
 
 import java.util.ArrayList;
+import java.util.concurrent.TimeUnit;
 
 /** Calls of the library: each goes by a bridge, a method that the agent adds to the class of the program. It calls
  * `before`, the library, and `after`, or `threw` if the call throws. */
@@ -33,6 +34,13 @@ public final class Bridge {
         boolean begins(String name) { return method.startsWith(name); }
         boolean isTimed() { return method.endsWith(" for"); }
 
+        /** Whether it waits for a day or longer. */
+        boolean isLong() {
+            int n = arguments.length;
+            return isTimed() && n > 1 && arguments[n - 2] instanceof Long && arguments[n - 1] instanceof TimeUnit
+                    && ((TimeUnit) arguments[n - 1]).toDays((Long) arguments[n - 2]) > 0;
+        }
+
         Things.Thing thing() {
             if (thing == null) thing = Work.base(t, on);
             return thing;
@@ -61,18 +69,24 @@ public final class Bridge {
         if (row == Rows.NONE) return null;
         Call call = new Call(t, on, arguments, method, site);
         call.row = row;
-        return row.before(call) ? call : null;
+        if (!row.before(call)) return null;
+        t.waitsLong = call.isLong();
+        return call;
     }
 
     public static void after(Call call, Object result, boolean isTrue) {
-        if (call == null || !Turns.on || Turns.keep() == null) return;
+        if (call == null) return;
+        call.t.waitsLong = false;
+        if (!Turns.on || Turns.keep() == null) return;
         call.row.after(call, result, isTrue);
     }
 
     public static void after(Call call, Object result, int isTrue) { after(call, result, isTrue != 0); }
 
     public static void threw(Call call, Throwable what) {
-        if (call == null || !Turns.on || Turns.keep() == null) return;
+        if (call == null) return;
+        call.t.waitsLong = false;
+        if (!Turns.on || Turns.keep() == null) return;
         if (what instanceof InterruptedException) Work.takeInterrupt(call.t, call.site);
         call.row.threw(call);
     }

@@ -74,7 +74,7 @@ final class BridgeMethod {
         else m.visitInsn(ACONST_NULL);
         boolean passes = passesArguments();
         if (passes) allArguments(m);
-        m.visitLdcInsn(method + (desc.contains("Ljava/util/concurrent/TimeUnit;") ? " for" : ""));
+        m.visitLdcInsn(method + (isTimed() ? " for" : ""));
         m.visitVarInsn(ILOAD, site);
         String d = "(Ljava/lang/Object;" + (passes ? "[Ljava/lang/Object;" : "") + "Ljava/lang/String;I)" + CALL;
         m.visitMethodInsn(INVOKESTATIC, BRIDGE, "before", d, false);
@@ -98,6 +98,8 @@ final class BridgeMethod {
         m.visitMethodInsn(INVOKESTATIC, Hooking.REC, "elements", "(Ljava/lang/Object;IIZI)V", false);
     }
 
+    private boolean isTimed() { return desc.contains("Ljava/util/concurrent/TimeUnit;"); }
+
     /** Whether the recorder looks at the arguments of this call. */
     private boolean passesArguments() {
         boolean looks = isStatic || owner.startsWith("java/util/concurrent/") || owner.startsWith("java/lang/invoke/");
@@ -111,10 +113,12 @@ final class BridgeMethod {
         m.visitTypeInsn(ANEWARRAY, "java/lang/Object");
         int at = isStatic ? 0 : 1;
         for (int k = 0; k < types.length; k++) {
-            if (types[k].getSort() >= Type.ARRAY) {
+            boolean isTime = types[k] == Type.LONG_TYPE && isTimed();
+            if (types[k].getSort() >= Type.ARRAY || isTime) {
                 m.visitInsn(DUP);
                 m.visitLdcInsn(k);
-                m.visitVarInsn(ALOAD, at);
+                m.visitVarInsn(types[k].getOpcode(ILOAD), at);
+                if (isTime) m.visitMethodInsn(INVOKESTATIC, "java/lang/Long", "valueOf", "(J)Ljava/lang/Long;", false);
                 m.visitInsn(AASTORE);
             }
             at += types[k].getSize();

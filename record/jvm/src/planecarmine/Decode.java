@@ -9,7 +9,8 @@ import java.util.ArrayList;
 import java.util.List;
 
 /** From the raw file of a run to its trace: the trace goes to standard output or to --out FILE, and what there is to
- * say of it to standard error, as lines `fact NAME NUMBER`, `loss CAUSE NUMBER` and `lost CAUSE NAME`. */
+ * say of it to standard error, as lines `fact NAME NUMBER`, `loss CAUSE NUMBER`, `lost CAUSE NAME` and
+ * `deadlock THREAD|PLACE|LOCK|HOLDER|SINCE`. */
 public final class Decode {
     private Decode() { }
 
@@ -73,8 +74,9 @@ public final class Decode {
             losses = losses(given, raw, variables, trace);
             trace.mark(losses.end());
         }
-        if (given.out.equals("-")) tell(raw, trace, losses);
-        else tellInShort(raw, trace, losses);
+        List<String> waits = waits(raw, variables, naming);
+        if (given.out.equals("-")) tell(raw, trace, losses, waits);
+        else tellInShort(raw, trace, losses, waits);
     }
 
     /** Writes the events, and the parts of a clock if they are wanted. */
@@ -101,14 +103,34 @@ public final class Decode {
         losses.add("THREADS", raw.unknownThreads);
         losses.add(trace.tooManyThreads ? "THREADS" : "MAX", trace.leftOut, trace.written);
         if (!raw.stopped.isEmpty()) losses.addUncounted(raw.stopped, trace.written);
+        if (!raw.deadlock.isEmpty()) losses.addUncounted("DEADLOCK", trace.written);
         if (given.isKilled) losses.addUncounted("KILLED", trace.written);
         if (!trace.hasThreads) losses.addUncounted("ONE THREAD", trace.written);
         return losses;
     }
 
+    /** The threads of a deadlock: `THREAD|PLACE|LOCK|HOLDER|SINCE` each. */
+    private static List<String> waits(Raw raw, Variables variables, Naming naming) throws IOException {
+        List<String> waits = new ArrayList<>();
+        for (int[] wait : raw.deadlock) {
+            int[] held = {-1, 0};
+            raw.go(r -> {
+                boolean comes = r.kind == Kinds.ACQUIRE || r.kind == Kinds.WRITER_IN || r.kind == Kinds.READER_IN;
+                if (!comes || r.thing != wait[1] || r.thread != wait[3]) return true;
+                held[0] = variables.number(r);
+                held[1] = r.site;
+                return true;
+            });
+            String lock = held[0] < 0 ? "a lock" : naming.name(variables.keyOf[held[0]]);
+            String since = naming.place(held[1]);
+            waits.add(wait[0] + "|" + naming.place(wait[2]) + "|" + lock + "|" + wait[3] + "|" + since);
+        }
+        return waits;
+    }
+
     private static void fact(String name, long value) { System.err.println("fact " + name + " " + value); }
 
-    private static void tell(Raw raw, Trace trace, Losses losses) {
+    private static void tell(Raw raw, Trace trace, Losses losses, List<String> waits) {
         fact("written", trace.written);
         fact("before", trace.before);
         fact("left_out", trace.leftOut);
@@ -119,9 +141,17 @@ public final class Decode {
         fact("turns", raw.turns);
         fact("forced", raw.forced);
         for (String line : losses.lines()) System.err.println(line);
+        for (String wait : waits) System.err.println("deadlock " + wait);
     }
 
-    private static void tellInShort(Raw raw, Trace trace, Losses losses) {
+    private static void tellInShort(Raw raw, Trace trace, Losses losses, List<String> waits) {
+        List<String> texts = new ArrayList<>();
+        for (String wait : waits) {
+            String[] one = wait.split("\\|");
+            texts.add("T" + one[0] + " waits at " + one[1] + " for " + one[2] + ", which T" + one[3] + " holds since " + one[4]);
+        }
+        if (!texts.isEmpty())
+            System.err.println("planecarmine: the program is in a deadlock: " + String.join("; ", texts));
         for (String line : losses.lines()) System.err.println("planecarmine: " + line);
         System.err.println("planecarmine: recorded " + trace.written + " events, " + raw.turns + " turns, " + raw.forced
                 + " taken by force");

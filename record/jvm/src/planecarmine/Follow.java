@@ -261,7 +261,8 @@ final class Follow {
     /** A look of the watcher: whether nothing was recorded for too long, or, after the race, whether all threads wait
      * for ever. */
     static void look() {
-        if (plan != null && !on) lookForDeadlock();
+        if (plan == null) Deadlock.look();
+        else if (!on) lookForDeadlock();
         if (!on) return;
         if (plan.count() != seenRecords) {
             seenRecords = plan.count();
@@ -278,7 +279,7 @@ final class Follow {
     }
 
     private static void lookForDeadlock() {
-        stuck = Turns.isStuck() ? stuck + 1 : 0;
+        stuck = Deadlock.isStuck() ? stuck + 1 : 0;
         if (stuck < MOST_STUCK) return;
         Store.name(Kinds.FACT, 0, 0, 0, "deadlock");
         Runtime.getRuntime().halt(GONE);

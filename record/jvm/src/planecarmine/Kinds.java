@@ -32,6 +32,8 @@ final class Kinds {
     /** Of a followed run: a call of a thread right before its access, what it accesses, the value there, and the place
      * where the run departs. */
     static final int FRAME = 10, ACCESSED = 11, VALUE = 12, PLACE = 13;
+    /** A thread of a deadlock, the lock that it waits for, and the site; the text is the thread that has the lock. */
+    static final int DEADLOCK = 14;
 
     /** The two sorts of chunks of the raw file, and how each begins. */
     static final int MAGIC = 0x4a434c50, RECORDS = 1, NAMES = 2;

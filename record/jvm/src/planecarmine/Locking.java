@@ -16,11 +16,22 @@ final class Locking {
             m.count++;
             return;
         }
-        if (m.owner != null) Store.put(t, Kinds.WANTED, m.number, Kinds.LOCK, site);
-        while (m.owner != null && Turns.on) Turns.park(t, m);
+        if (m.owner != null) {
+            wants(t, m, false, site);
+            while (m.owner != null && Turns.on) Turns.park(t, m);
+            t.wanted = null;
+        }
         m.owner = t;
         m.count = 1;
         Store.put(t, kind, m.number, Kinds.LOCK, site);
+    }
+
+    /** A thread is about to wait for a lock. */
+    private static void wants(Turns.T t, Things.Thing m, boolean asReader, int site) {
+        Store.put(t, Kinds.WANTED, m.number, Kinds.LOCK, site);
+        t.wantsRead = asReader;
+        t.wantedAt = site;
+        t.wanted = m;
     }
 
     static void release(Turns.T t, Things.Thing m, int kind, int site) {
@@ -32,8 +43,9 @@ final class Locking {
 
     /** Waits until a lock is free for this thread, before the call that takes it. */
     static void untilFree(Turns.T t, Things.Thing m, boolean asReader) {
-        if (!isFree(t, m, asReader)) Store.put(t, Kinds.WANTED, m.number, Kinds.LOCK, t.site);
+        if (!isFree(t, m, asReader)) wants(t, m, asReader, t.site);
         Turns.parkUntil(t, m, () -> t.interrupted || isFree(t, m, asReader));
+        t.wanted = null;
     }
 
     private static boolean isFree(Turns.T t, Things.Thing m, boolean asReader) {
@@ -85,6 +97,7 @@ final class Locking {
             if (queue.waiters == null) queue.waiters = new ArrayList<>();
             queue.waiters.add(t);
             t.needs = lock;
+            t.wantedAt = site;
             t.waits = true;
             t.isTimed = until != 0;
             Turns.parkWithout(t, mark);

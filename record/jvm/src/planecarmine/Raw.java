@@ -28,6 +28,8 @@ final class Raw implements AutoCloseable {
     final List<String> loaded = new ArrayList<>();
     final List<Integer> lines = new ArrayList<>();
     final List<int[]> calls = new ArrayList<>();
+    /** Of a deadlock: each thread, its lock, the site where it waits, and the thread that has the lock. */
+    final List<int[]> deadlock = new ArrayList<>();
     String stopped = "";
     long cut, turns, forced, records;
     private final RandomAccessFile file;
@@ -88,6 +90,7 @@ final class Raw implements AutoCloseable {
             case Kinds.NO_HOOKS: noHooks.add(text); break;
             case Kinds.UNKNOWN_THREAD: unknownThreads.add(text); break;
             case Kinds.LOADED: loaded.add(text); break;
+            case Kinds.DEADLOCK: deadlock.add(new int[] {a, b, c, Integer.parseInt(text)}); break;
             case Kinds.FACT:
                 if (text.startsWith("stopped ")) stopped = text.substring(8);
                 else cut += a;

@@ -29,6 +29,10 @@ final class Turns {
         BooleanSupplier ready;
         /** The monitor that it needs before it goes on: it comes back from a wait. */
         Things.Thing needs;
+        /** The lock that it waits for, whether as a reader, and the line of that or of its `wait`. */
+        Things.Thing wanted;
+        boolean wantsRead;
+        int wantedAt;
         long left = 1;
         int longer = 1;
         boolean news;
@@ -46,6 +50,8 @@ final class Turns {
         int lastSite;
         /** It is at its end; it is in a `wait`, and in one with a time; the last one ended since its time was over. */
         boolean atEnd, waits, isTimed, wasLate;
+        /** It is in a call of the library that waits for a day or longer. */
+        volatile boolean waitsLong;
 
         T(int number, Thread thread, boolean isUnknown) {
             this.number = number;
@@ -63,8 +69,8 @@ final class Turns {
     static long turns, forced, progress;
     static long chance;
     static int oneIn = 40;
-    private static final ArrayList<T> waiting = new ArrayList<>(), parked = new ArrayList<>();
-    private static final IdentityHashMap<Thread, T> threads = new IdentityHashMap<>();
+    static final ArrayList<T> waiting = new ArrayList<>(), parked = new ArrayList<>();
+    static final IdentityHashMap<Thread, T> threads = new IdentityHashMap<>();
     private static final ThreadLocal<T> mine = new ThreadLocal<>();
     private static int known;
 
@@ -360,21 +366,6 @@ final class Turns {
                 Follow.openFor(Turns::handOn);
             }
         }
-    }
-
-    /** Whether each thread waits for another one, and none for a time, so that nothing goes on. */
-    static boolean isStuck() {
-        synchronized (LOCK) {
-            if (holder != null || !waiting.isEmpty() || parked.isEmpty()) return false;
-            for (T t : threads.values()) if (!t.ended && !waitsForever(t)) return false;
-            return true;
-        }
-    }
-
-    private static boolean waitsForever(T t) {
-        if (t.parkedAt != null) return !t.isTimed;
-        Thread.State state = t.thread.getState();
-        return state == Thread.State.WAITING || state == Thread.State.BLOCKED || state == Thread.State.TERMINATED;
     }
 
     /** Nothing more is recorded: all threads go on freely. */
