@@ -80,6 +80,17 @@ def judge_threads() -> None:
         raise Wrong(f"with --max: {len(short)} lines, and it ends with {short[-1:]}")
 
 
+def judge_for(racebench: str) -> None:
+    """With --for the program goes on unrecorded, also threads that wait for a lock then. The trace is a legal one."""
+    compile_broken()
+    lines, text = recorded_java.recorded("--for", "0.2", "-cp", ".", "Broken", "held", "1", wanted=[4])
+    if not re.fullmatch(r"recording\|end\(LEFT OUT 0 FROM \d+: FOR\)\|", lines[-1]) or "the end\n" not in text:
+        raise Wrong(f"it ends with {lines[-1:]}: {text[-600:]}")
+    status, _, text = recorded_java.ran(racebench, "info", "trace.std")
+    if status:
+        raise Wrong(f"the trace is refused: {text}")
+
+
 def places_of(label: str, way: str) -> str:
     """Where Stuck.java has a comment, as a pattern."""
     with open(os.path.join(recorded_java.SOURCES, "Stuck.java"), encoding="utf-8") as file:
@@ -257,6 +268,7 @@ def cases(racebench: str) -> list[recorded_java.Case]:
     ]
     found.append(("java: a full disk", judge_disk, (racebench,)))
     found.append((f"java: {THREADS} threads", judge_threads, ()))
+    found.append(("java: --for", judge_for, (racebench,)))
     found.append(("java: a deadlock", judge_deadlock, (racebench,)))
     found.append(("java: a deadlock with the agent alone", judge_deadlock_alone, (racebench,)))
     found.append(("java: a program that hangs", judge_hang, ()))

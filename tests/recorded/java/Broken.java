@@ -1,6 +1,7 @@
 /** A race, and then an end of the sort that the first argument names. */
 public class Broken {
     static int shared;
+    static final Object first = new Object();
 
     static void raise(int n) {
         for (int k = 0; k < n; k++) shared++; // RACE shared
@@ -11,6 +12,32 @@ public class Broken {
         Thread[] all = new Thread[n];
         for (int k = 0; k < n; k++) {
             all[k] = new Thread(() -> raise(1));
+            all[k].start();
+        }
+        for (Thread t : all) t.join();
+    }
+
+    private static boolean isTimed() {
+        return Thread.getAllStackTraces().keySet().stream().anyMatch(t -> t.getName().equals("planecarmine timer"));
+    }
+
+    /** Has a lock as long as the recorder's timer runs; other threads wait for it then. */
+    private static void hold() {
+        synchronized (first) {
+            try {
+                do Thread.sleep(10);
+                while (isTimed());
+            } catch (InterruptedException e) {
+                throw new IllegalStateException(e);
+            }
+            shared++;
+        }
+    }
+
+    private static void held() throws InterruptedException {
+        Thread[] all = new Thread[4];
+        for (int k = 0; k < all.length; k++) {
+            all[k] = new Thread(Broken::hold);
             all[k].start();
         }
         for (Thread t : all) t.join();
@@ -38,6 +65,7 @@ public class Broken {
             case "kills": kill(); break;
             case "overflows": deep(0); break;
             case "threads": many(n); break;
+            case "held": held(); break;
             default:
         }
         System.out.println("the end");

@@ -76,23 +76,37 @@ public final class Agent implements ClassFileTransformer {
     private static void loadOwn() throws ClassNotFoundException {
         for (String name : new String[] {"Rec", "Things", "Things$Thing", "Calls", "Calls$Cache", "Store", "Turns",
             "Turns$T", "Bridge", "Bridge$Call", "Work", "Work$Job",
-            "Work$JobOfOne", "Work$JobOfTwo", "Locking", "Row", "Rows", "Follow", "Plan", "Places", "Standing", "Deadlock"})
+            "Work$JobOfOne", "Work$JobOfTwo", "Locking", "Row", "Rows", "Follow", "Plan", "Places", "Standing", "Deadlock",
+            "Agent$Timer"})
             Class.forName("planecarmine." + name).getDeclaredMethods();
     }
 
-    /** With `--for`: records so long from the first record on. */
-    static void firstRecord() {
+    /** The program starts a thread. With `--for`, records are kept so long from the first such start on. */
+    static void started() {
         if (seconds <= 0) return;
-        Thread timer = new Thread(() -> {
+        new Timer(seconds).start();
+        seconds = 0;
+    }
+
+    /** Ends the recording after some seconds. */
+    static final class Timer extends Thread {
+        private final double seconds;
+
+        Timer(double seconds) {
+            super("planecarmine timer");
+            this.seconds = seconds;
+            setDaemon(true);
+        }
+
+        @Override
+        public void run() {
             try {
                 Thread.sleep((long) (1000 * seconds));
             } catch (InterruptedException e) {
                 return;
             }
             Store.stop("FOR");
-        }, "planecarmine timer");
-        timer.setDaemon(true);
-        timer.start();
+        }
     }
 
     /** Without record/java the trace is made as the program ends. */

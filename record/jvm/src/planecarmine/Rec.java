@@ -223,6 +223,7 @@ public final class Rec {
         if (t == null) return;
         Turns.T c = Turns.register(child, Follow.childOf(t));
         c.isOfLibrary = !Agent.runsProgram(child);
+        Agent.started();
         Store.put(t, Kinds.FORK, c.number, 0, t.site);
         if (!c.isOfLibrary) Turns.comesLater(c);
     }

@@ -40,8 +40,9 @@ final class Store {
 
     static boolean isEmpty() { return records == null; }
 
-    /** Writes a record; the caller has the turn. */
+    /** Writes a record; the caller has the turn. After the recording no thread has it: they all go on freely. */
     static void put(Turns.T t, int kind, int thing, int part, int site) {
+        if (!Turns.on) return;
         boolean isTick = Kinds.isTick(kind);
         t.lastSite = site;
         if (isTick && Follow.on) Follow.before(t, kind, thing, part, site);
