@@ -67,7 +67,7 @@ static inline __attribute__((always_inline)) void put_access(int kind, u64 at, u
         return;
     }
     see_place(pc);
-    put_inline(record_of(kind, at, size, pc), 0);
+    put_plain(kind, at, size, pc);
 }
 
 /* An access of a call that has been made, in the turn that it was made in: no other thread comes between. */

@@ -11,6 +11,7 @@
 #include "turns.h"
 #include "words.h"
 
+static u64 put(int kind, u64 at, u64 size, u64 pc);
 static __thread struct call *calls;
 static __thread u32 known_nodes;
 
@@ -143,6 +144,23 @@ static inline __attribute__((always_inline)) u64 put_inline(struct record r, int
     if (!stays_open && is_tick(r.kind) && !r.answer && fits_word(r)) return put_word(r, (r.pos >> 16) - 1, r.pos >> 16);
     struct record whole = r;
     return put_long(&whole, 0);
+}
+
+/* Nearly all records are of an access in no plan: nothing of them goes by the memory. A struct would be written in
+ * parts and read as a whole, for which a processor waits. */
+static inline __attribute__((always_inline)) u64 put_plain(int kind, u64 at, u64 size, u64 pc) {
+    if (IDLE) return NO_PLACE;
+    if (following || plan || me >= MOST_THREADS || size > UINT_MAX || at >> 48 || pc >> 48)
+        return put(kind, at, size, pc);
+    keep_turn();
+    u64 now = ++tick;
+    sub = 0;
+    count_record();
+    note_frame(at);
+    note_use_of_stack();
+    struct form f = {pc << 16 | (u64)kind << 8, (u64)stack_now() << 32 | size};
+    u64 place = put_short(at, f, first_slot_of(f), me, now - 1, now);
+    return place != NO_FORM ? place : put_first_access(at, f, me, now);
 }
 
 static u64 put_open_record(struct record r) { return put_inline(r, 1); }

@@ -25,6 +25,7 @@ SHARED u64 node_table_size;
 SHARED int more_nodes(void);
 SHARED u32 stack_now(void);
 SHARED u64 put_inline(struct record r, int stays_open);
+SHARED u64 put_plain(int kind, u64 at, u64 size, u64 pc);
 SHARED u64 put_record(struct record r);
 SHARED u64 put_open_record(struct record r);
 SHARED struct record record_of(int kind, u64 at, u64 size, u64 pc);

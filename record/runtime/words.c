@@ -25,10 +25,6 @@ static int has_room(u64 at, u64 size) {
 /* Whether there is no room for more records. */
 static volatile u8 is_full;
 
-/* What records of a slot have in common. */
-struct form {
-    u64 code, rest;
-};
 /* The slots that a form may have: as many side by side, so that forms seldom push each other out. */
 #define WAYS 4
 static struct form forms[SLOTS];
@@ -135,28 +131,40 @@ static inline u64 first_slot_of(struct form f) {
     return first < FIRST_SLOT ? first + FIRST_SLOT : first;
 }
 
-/* Writes a record as a word, if a slot has its form. `before` is the tick of its thread before it, and `after` the one
- * after it. Inlined, so that the record is in registers. */
-static inline __attribute__((always_inline)) u64 put_word(const struct record r, u64 before, u64 after) {
-    struct form f = {r.pc << 16 | (u64)r.of << 13 | (u64)r.kind << 8 | r.order, (u64)r.stack << 32 | r.size};
-    u64 first = first_slot_of(f);
+/* Writes a record of a form as a word; NO_FORM if no slot has its form. `before` is the tick of its thread before it,
+ * and `after` the one after it. */
+static inline __attribute__((always_inline)) u64 put_short(u64 content, struct form f, u64 first, u32 thread,
+                                                           u64 before, u64 after) {
     for (;;) {
         u64 at = __atomic_load_n(&head->used, __ATOMIC_ACQUIRE);
         u32 way = way_of(&forms[first], f);
         __atomic_thread_fence(__ATOMIC_ACQUIRE);
-        if (way == WAYS || are_forms_in_work) {
-            struct record whole = r;
-            return put_form(&whole, f, first);
-        }
-        u64 count = last_put == STATE(r.thread, before, at) ? 1 : TURN_WORDS + 1;
+        if (way == WAYS || are_forms_in_work) return NO_FORM;
+        u64 count = last_put == STATE(thread, before, at) ? 1 : TURN_WORDS + 1;
         if (head->kept >= head->room || !has_words(at, count)) return no_place();
         if (!take_words(at, count)) continue;
-        if (count > 1) at = put_turn(at, r.thread, before);
-        __atomic_store_n(&words[at], r.at * SLOTS + first + way, __ATOMIC_RELEASE);
-        last_put = STATE(r.thread, after, at + 1);
+        if (count > 1) at = put_turn(at, thread, before);
+        __atomic_store_n(&words[at], content * SLOTS + first + way, __ATOMIC_RELEASE);
+        last_put = STATE(thread, after, at + 1);
         head->kept++;
         return at;
     }
+}
+
+/* Writes a record as a word, if a slot has its form. Inlined, so that the record is in registers. */
+static inline __attribute__((always_inline)) u64 put_word(const struct record r, u64 before, u64 after) {
+    struct form f = {r.pc << 16 | (u64)r.of << 13 | (u64)r.kind << 8 | r.order, (u64)r.stack << 32 | r.size};
+    u64 first = first_slot_of(f), place = put_short(r.at, f, first, r.thread, before, after);
+    if (place != NO_FORM) return place;
+    struct record whole = r;
+    return put_form(&whole, f, first);
+}
+
+/* The first access of its form, in the tick that its thread came to. */
+static __attribute__((noinline)) u64 put_first_access(u64 at, struct form f, u32 thread, u64 now) {
+    struct record r = {.at = at, .pc = f.code >> 16, .pos = CLOCK(now, 0), .size = (u32)f.rest};
+    r.stack = (u32)(f.rest >> 32), r.thread = (u16)thread, r.kind = f.code >> 8 & 31;
+    return put_form(&r, f, first_slot_of(f));
 }
 
 /* Whether a word can have what a record has. */
