@@ -32,6 +32,8 @@ from rustlang import building, library
 
 SOURCES = os.path.join(TOP, "tests", "recorded", "rust")
 PATIENCE = 900
+# Seconds in which a deadlock would be seen.
+A_WHILE = 4
 SEEDS = 10
 BEGIN, WHOLE = "recording|begin(RECORDED)|", "recording|end(WHOLE)|"
 # The programs; each race has the name of its program as its label.
@@ -191,15 +193,59 @@ def judge_many(racebench: str) -> None:
     judge_races(racebench, "many", "broken")
 
 
+def judge_thousands(racebench: str) -> None:
+    """2,000 threads, in turns and at once: all are in the trace. With --max the rest is left out, and counted."""
+    for name in ("in_turns", "at_once"):
+        trace, notes = recorded(name, "--only", "broken.rs", "--partial")
+        threads = {line.split("|")[0] for line in trace.splitlines()} - {"recording"}
+        if len(threads) != 2002 or "this trace has" not in notes or "2000\n" not in notes:
+            raise Wrong(f"{name}: {len(threads)} threads: {notes[-600:]}")
+        lines = trace.splitlines(keepends=True)
+        cut = next(k for k, line in enumerate(lines) if "|fork(T200)|" in line)
+        with open("trace.std", "w", encoding="utf-8") as file:
+            file.writelines(lines[:cut])
+        judge_races(racebench, name, "broken")
+    trace, notes = recorded("at_once", "--max", "1000000", wanted=4)
+    last = re.fullmatch(r"recording\|end\(LEFT OUT (\d+) FROM \d+: THREADS\)\|", trace.splitlines()[-1])
+    threads = {line.split("|")[0] for line in trace.splitlines()} - {"recording"}
+    if not last or not int(last[1]) or len(threads) > 256:
+        raise Wrong(f"--max: {len(threads)} threads, and the end is {trace.splitlines()[-1]}: {notes[-600:]}")
+
+
+def lines_of(label: str, name: str) -> str:
+    """The lines of broken.rs that have a comment, as a pattern."""
+    with open(os.path.join(SOURCES, "src", "broken.rs"), encoding="utf-8") as file:
+        found = [str(n) for n, line in enumerate(file, start=1) if re.search(rf"// {label} {name}$", line)]
+    return rf"broken\.rs:(?:{'|'.join(found)})"
+
+
 def judge_deadlock(racebench: str) -> None:
-    """A program that hangs is recorded up to the signal that ends it."""
+    """A program in a deadlock is ended, with a line that says who waits for whom."""
+    lock = r"scenarios::broken::(?:FIRST|SECOND|TABLE)\S*"
+    for name in ("deadlock", "scoped_deadlock"):
+        trace, notes = recorded(name, "--partial", wanted=5)
+        waits, since = lines_of("WAITS", name), lines_of("HOLDS", name)
+        one = rf"T\d waits at {waits} for {lock}, which T\d holds since {since}"
+        if not re.search(rf"^record/run: the program is in a deadlock: {one}; {one}$", notes, re.MULTILINE):
+            raise Wrong(f"{name}: {notes}")
+        lines = trace.splitlines()
+        if lines[-1] != f"recording|end(LEFT OUT 0 FROM {len(lines) - 2}: DEADLOCK)|":
+            raise Wrong(f"{name}: the trace ends with {lines[-1]}")
+        judge_races(racebench, name, "broken")
+
+
+def judge_hang(racebench: str) -> None:
+    """A program that hangs, but not in locks, is recorded up to the signal that ends it."""
     with open("trace.std", "wb") as out, open("said", "wb") as notes:
-        started = subprocess.Popen([os.path.join(RECORD, "run"), scenarios(), "deadlock"], stdout=out, stderr=notes)
+        started = subprocess.Popen([os.path.join(RECORD, "run"), scenarios(), "hangs"], stdout=out, stderr=notes)
         while not os.path.getsize("said") and started.poll() is None:
             time.sleep(0.01)
+        time.sleep(A_WHILE)
+        if started.poll() is not None:
+            raise Wrong("the program was ended")
         started.send_signal(signal.SIGTERM)
         started.wait(PATIENCE)
-    judge_races(racebench, "deadlock", "broken")
+    judge_races(racebench, "hangs", "broken")
 
 
 def judge_follow(racebench: str) -> None:
@@ -368,7 +414,9 @@ def all_cases(racebench: str, seeds: int) -> Iterator[Case]:
     yield "Rust: names and locations", judge_names, ()
     yield "Rust: ends", judge_ends, (racebench,)
     yield "Rust: 200 threads", judge_many, (racebench,)
+    yield "Rust: 2,000 threads", judge_thousands, (racebench,)
     yield "Rust: a deadlock", judge_deadlock, (racebench,)
+    yield "Rust: a program that hangs", judge_hang, (racebench,)
     yield "Rust: following", judge_follow, (racebench,)
     yield "Rust: a report of ThreadSanitizer", judge_report, (racebench,)
     yield "Rust: a Rust that is missing", judge_missing, ()

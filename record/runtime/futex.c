@@ -13,6 +13,10 @@
 /* This file defines the function that recorder.h replaces elsewhere. */
 #undef syscall
 
+/* How often a waiter may be sent back to wait when parked threads look again: some 10 s. A library without hooks may
+ * have woken it without a change of the value. */
+#define MOST_LOOKS 100
+
 static long wait_at(u32 *at, u32 value, u64 pc) {
     maybe_give();
     if (__atomic_load_n(at, SC) != value) {
@@ -21,6 +25,7 @@ static long wait_at(u32 *at, u32 value, u64 pc) {
         return -1;
     }
     park(at, NULL, 0);
+    for (int k = 0; rescuing && k < MOST_LOOKS && __atomic_load_n(at, SC) == value; k++) park(at, NULL, 0);
     put_answer(ANSWER, (u64)at, 0, pc);
     return 0;
 }

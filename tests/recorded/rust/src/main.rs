@@ -29,6 +29,10 @@ fn main() {
         "killed" => broken::killed(),
         "many" => broken::many(),
         "alone" => broken::alone(),
+        "scoped_deadlock" => broken::scoped_deadlock(),
+        "hangs" => broken::hangs(),
+        "in_turns" => broken::in_turns(),
+        "at_once" => broken::at_once(),
         "deadlock" => broken::deadlock(),
         _ => std::process::exit(9),
     }
