@@ -195,13 +195,13 @@ def report_order(head: raw_file.Numbers, facts: decoders.Facts, libraries: list[
         say(f"{facts.counts['stronger']} atomic accesses are written with more order than they have, at {places}")
 
 
-def deadlock_of(facts: decoders.Facts) -> str:
+def deadlock_of(waits: list[decoders.Wait]) -> str:
     """Which threads wait for each other, in words."""
-    waits = (
+    texts = (
         f"T{one.thread} waits at {one.place} for {one.lock}, which T{one.holder} holds since {one.since}"
-        for one in facts.deadlock
+        for one in waits
     )
-    return "; ".join(waits)
+    return "; ".join(texts)
 
 
 def report_loss(options: argparse.Namespace, facts: decoders.Facts) -> None:
@@ -227,7 +227,7 @@ def report_what_no_verdict_needs(facts: decoders.Facts) -> None:
 def report(options: argparse.Namespace, head: raw_file.Numbers, facts: decoders.Facts, libraries: list[str]) -> None:
     counts = facts.counts
     if facts.deadlock:
-        say(f"the program is in a deadlock: {deadlock_of(facts)}")
+        say(f"the program is in a deadlock: {deadlock_of(facts.deadlock)}")
     for line in (*losses_of_recording(options, head, facts), *losses_of_program(facts)):
         say(line)
     report_order(head, facts, libraries)

@@ -29,6 +29,8 @@ from golang import recording
 
 SOURCES = os.path.join(TOP, "tests", "recorded", "go")
 PATIENCE = 900
+# Seconds in which a deadlock would be seen.
+A_WHILE = 4
 # A recording is made again so often if its seed gave another trace.
 AGAIN = 5
 # Where Debian puts each version of Go.
@@ -177,17 +179,51 @@ def judge_ends() -> None:
         raise Wrong(f"a program with one goroutine: {notes}{trace}")
 
 
-def judge_deadlock() -> None:
+def judge_hang() -> None:
     """A program that hangs is recorded up to the signal that ends it."""
     with open("out", "wb") as out, open("said", "wb") as notes:
-        started = subprocess.Popen([os.path.join(RECORD, "run"), scenarios(), "deadlock"], stdout=out, stderr=notes)
+        started = subprocess.Popen([os.path.join(RECORD, "run"), scenarios(), "hangs"], stdout=out, stderr=notes)
         while not os.path.getsize("said"):
             time.sleep(0.01)
+        time.sleep(A_WHILE)
+        if started.poll() is not None:
+            raise Wrong("the program was ended")
         started.send_signal(signal.SIGTERM)
         started.wait(PATIENCE)
     with open("out", encoding="utf-8") as out_text:
         trace = out_text.read()
     judge_marks(trace, f"recording|end(LEFT OUT 0 FROM {len(trace.splitlines()) - 2}: KILLED)|")
+
+
+def lines_of(label: str, name: str) -> str:
+    """The lines of broken.go that have a comment, as a pattern."""
+    with open(os.path.join(SOURCES, "broken.go"), encoding="utf-8") as file:
+        found = [str(n) for n, line in enumerate(file, start=1) if re.search(rf"// {label} {name}$", line)]
+    return rf"broken\.go:(?:{'|'.join(found)})"
+
+
+def judge_deadlock(racebench: str) -> None:
+    """Go's runtime ends a program whose goroutines all wait, with its own line; if some wait in a circle of locks, a
+    line says who waits for whom."""
+    lock = r"(?:mu|a|b)@broken\.go:\d+(?:#\d)?"
+    for name, threads in (("deadlock", ["T0"]), ("abba", ["T3", "T4"]), ("abbaReaders", ["T3", "T4"])):
+        trace, notes = recorded(name, "--partial", wanted=5)
+        waits, since = lines_of("WAITS", name), lines_of("HOLDS", name)
+        one = (
+            rf"{thread} waits at {waits} for {lock}, which {holder} holds since {since}"
+            for thread, holder in zip(threads, threads[1:] + threads[:1])
+        )
+        if not re.search(rf"^record/run: the program is in a deadlock: {'; '.join(one)}$", notes, re.MULTILINE):
+            raise Wrong(f"{name}: {notes}")
+        if "fatal error: all goroutines are asleep - deadlock!" not in notes:
+            raise Wrong(f"{name}: Go's runtime says nothing: {notes}")
+        judge_marks(trace, f"recording|end(LEFT OUT 0 FROM {len(trace.splitlines()) - 2}: DEADLOCK)|")
+        shown(racebench)
+    recorded("abba", "--status", wanted=2)
+    trace, notes = recorded("asleep")
+    judge_marks(trace)
+    if "is in a deadlock" in notes or "ended with status 2" not in notes:
+        raise Wrong(f"all goroutines wait, but for no lock: {notes}")
 
 
 def judge_thousands(racebench: str) -> None:
@@ -500,7 +536,8 @@ def all_cases(racebench: str) -> Iterator[Case]:
     yield "Go: a seed is a run", judge_seeds, ()
     yield "Go: names and locations", judge_names, ()
     yield "Go: ends", judge_ends, ()
-    yield "Go: a deadlock", judge_deadlock, ()
+    yield "Go: a deadlock", judge_deadlock, (racebench,)
+    yield "Go: a program that hangs", judge_hang, ()
     yield "Go: 2,000 goroutines", judge_thousands, (racebench,)
     yield "Go: numbers that are lent", judge_lent, ()
     yield "Go: options", judge_options, ()

@@ -14,6 +14,8 @@ HERE = os.path.dirname(os.path.realpath(__file__))
 RECORDER, FOLLOWER = os.path.join(HERE, "recorder.c"), os.path.join(HERE, "follow.h")
 # The kinds of events of the changed sources, as recorder.c and decode/log.go count them.
 LOCK, UNLOCK, REFUSED, READ_LOCK, READ_UNLOCK, READ_REFUSED, WRITE_LOCK, WRITE_UNLOCK, WRITE_REFUSED = range(9)
+# Requests of goroutines that are about to wait for a lock.
+WANTED, READ_WANTED, WRITE_WANTED = range(9, 12)
 CHANNEL_MEETS, CHANNEL_BUFFER, CHANNEL_REFUSED, SIGNALED, WOKEN = range(16, 21)
 FILE_READS, FILE_READ, FILE_WRITES, FILE_WRITTEN, FILE_KEPT, FILE_CLOSED = range(21, 27)
 # The objects that Go links if no overlay drops them.
@@ -167,6 +169,11 @@ def guarded(*lines: str) -> str:
     return "	if race.Enabled {\n" + "".join(f"		{line}\n" for line in lines) + "	}\n"
 
 
+def wants(kind: int, what: str) -> str:
+    """Statements of a lock's function, which makes no records itself."""
+    return guarded("race.Enable()", event(kind, what), "race.Disable()")
+
+
 def mutex(root: str) -> Source:
     """A mutex is one record. It makes no record inside, and no other goroutine runs between the two."""
     source = Source(root, "sync/mutex.go")
@@ -176,6 +183,7 @@ def mutex(root: str) -> Source:
     source.change("race.Acquire(unsafe.Pointer(m))", "race.Enable()\n		" + event(LOCK, "m"), 3)
     source.change("race.Release(unsafe.Pointer(m))", f"race.Turn()\n		{event(UNLOCK, 'm')}\n		race.Disable()")
     source.change("		m.unlockSlow(new)\n	}\n", "		m.unlockSlow(new)\n	}\n" + guarded("race.Enable()"))
+    source.change("	m.lockSlow()\n", wants(WANTED, "m") + "	m.lockSlow()\n", 1, "func (m *Mutex) Lock() {")
     refused = guarded("race.Enable()", event(REFUSED, "m"), "race.Refused()") + "		return false\n"
     source.change("		return false\n", refused, 2, "func (m *Mutex) TryLock")
     return source
@@ -198,6 +206,10 @@ def reader_locks(root: str) -> Source:
         source.change(writers, "", 1, f"func (rw *RWMutex) {name}(")
     release = "race.Release(unsafe.Pointer(&rw.readerSem))"
     source.change(release, event(WRITE_UNLOCK, "rw"), 1, "func (rw *RWMutex) Unlock(")
+    for name, kind in (("reader", READ_WANTED), ("writer", WRITE_WANTED)):
+        source.pattern(rf"(\t\truntime_Semacquire\w+\(&rw\.{name}Sem, false, 0\)\n)", wants(kind, "rw") + r"\1")
+    other_writer = "	if rw.w.state != 0 {\n" + wants(WRITE_WANTED, "rw") + "	}\n"
+    source.change("	rw.w.Lock()\n", other_writer + "	rw.w.Lock()\n", 1, "func (rw *RWMutex) Lock() {")
     for name in ("RLock()", "TryRLock() bool", "RUnlock()", "Lock()", "TryLock() bool", "Unlock()"):
         source.after(f"func (rw *RWMutex) {name} {{\n", guarded("race.Turn()"))
     return source
@@ -292,6 +304,7 @@ def scheduler(root: str) -> Iterator[Source]:
         r"\1if raceseed == 0 {\n\1\2\1} else if pd.schedwhen+raceforceNS <= now {\n\1	raceforce(\3)\n\1}\n\4",
     )
     planned(source)
+    asleep(source)
     yield from timers(root, source)
     yield source
     yield from drawn(root)
@@ -307,6 +320,16 @@ def planned(source: Source) -> None:
     )
     idle = "	if racefollows {\n		if gp := raceidle(); gp != nil {\n			return gp, false, false\n		}\n		goto top\n	}\n"
     source.change("	allpSnapshot := allp\n", idle + "	allpSnapshot := allp\n")
+
+
+def asleep(source: Source) -> None:
+    """If all goroutines wait for ever, the runtime ends the program. With cgo, which `-race` needs, it never looks: code
+    in C could go on. Here it looks if C has no threads."""
+    source.pattern(r"if !iscgo && cgoHasExtraM\b", "if (raceseed != 0 || !iscgo) && cgoHasExtraM")
+    alone = "	if raceseed != 0 && iscgo && !racealone(uintptr(mcount()-1)) {\n		return\n	}\n"
+    source.after("	if run > run0 {\n		return\n	}\n", alone)
+    fatal = '	fatal("all goroutines are asleep - deadlock!")\n'
+    source.change(fatal, "	if raceseed != 0 {\n		racedead()\n	}\n" + fatal)
 
 
 def timers(root: str, source: Source) -> Iterator[Source]:

@@ -6,6 +6,7 @@
 // to the tail, which is shared memory, and the full tail goes to the end of the body. So a program that is killed
 // leaves all records. decode/log.go reads the file.
 #define _GNU_SOURCE
+#include <dirent.h>
 #include <fcntl.h>
 #include <stdint.h>
 #include <stdlib.h>
@@ -41,7 +42,7 @@ enum {
     EVENTS = 32, // the kinds of __record_event begin here
     QUIET = 64   // set in the kind of an access inside of race.Disable, which is no tick
 };
-enum { MEETS = 16, BUFFER = 17 };
+enum { WANTED = 9, MEETS = 16, BUFFER = 17 };
 // Why records are missing.
 enum { ROOM = 1, DISK };
 // Who started a goroutine, as raceorigin says.
@@ -70,6 +71,7 @@ struct record {
 struct header {
     u64 magic, owner, flushed, appended, limit, lost, cause, base, others, clashes, switches, yields, threads, no_calls;
     volatile u64 forced, stop;
+    u64 dead;
 };
 struct waiting {
     u32 kind, size, stack, depth;
@@ -471,13 +473,28 @@ u64 __record_event(struct context *c, u64 kind, u64 address, u64 value) {
     if (!begin(c)) return 0;
     struct context *other = kind == MEETS ? (struct context *)value : 0;
     u64 high = other ? other->thread : kind < MEETS ? place_of(value) : value;
-    tick(c, (int)(EVENTS + kind), kind < MEETS ? value : 0);
+    int is_request = kind >= WANTED && kind < MEETS; // it depends on what others do, so it is no tick
+    if (!is_request) tick(c, (int)(EVENTS + kind), kind < MEETS ? value : 0);
     if (other) tick(other, (int)(EVENTS + kind), 0);
     put(c->thread, what_of(address, EVENTS + kind, 0), c->stack, high);
     u64 place = kind < MEETS ? 0 : place_in(c, *(u64 **)__builtin_frame_address(0));
     if (place || other) append(what_of(other ? other->stack : 0, MORE, 0), place);
     done();
     return 0;
+}
+
+// Whether the process has no more threads than this.
+void __record_alone(u64 *answer, u64 threads) {
+    DIR *tasks = opendir("/proc/self/task");
+    u64 found = 0;
+    for (struct dirent *one; tasks && (one = readdir(tasks));) found += one->d_name[0] != '.';
+    if (tasks) closedir(tasks);
+    *answer = tasks && found <= threads;
+}
+
+// All goroutines wait for ever.
+void __record_dead(void) {
+    if (!off) header->dead = 1;
 }
 
 // Atomic operations: the recorder does them, so no other goroutine comes between one and its record. Each operation

@@ -15,22 +15,24 @@ from dataclasses import dataclass, field
 from typing import IO
 
 import clocks
+import decoders
+import printing
 import raw as raw_file
 import running
 from golang import building
 
-HEAD = struct.Struct("<16Q")
+HEAD = struct.Struct("<17Q")
 MAGIC = 0x32304F4745434152
 # Places of the head's numbers, in the order of recorder.c.
-APPENDED, LOST, BASE, STOP_AT = 3, 5, 7, 8 * 15
+APPENDED, LOST, BASE, STOP_AT, DEAD = 3, 5, 7, 8 * 15, 16
 # Numbers that mean: no limit.
 NO_LIMIT = (1 << 63) - 1
 MOST_ROOM = 1 << 36
 MOST_EVENTS, MOST_BYTES, MOST_THREADS = 1_048_576, 268_435_456, 256
 # A clock has no more goroutines.
 MOST_NUMBERS = 65536
-# The status if the recording is not whole.
-NOT_WHOLE = 4
+# The statuses if the recording is not whole, and if the program hangs in a deadlock.
+NOT_WHOLE, DEADLOCK = 4, 5
 # How many seconds are between two looks whether a program has begun.
 LOOK = 0.005
 
@@ -72,7 +74,7 @@ def surroundings(options: argparse.Namespace, path: str) -> dict[str, str]:
 
 def head_of(file: IO[bytes]) -> tuple[int, ...]:
     data = os.pread(file.fileno(), HEAD.size, 0)
-    return HEAD.unpack(data) if len(data) == HEAD.size else (0,) * 16
+    return HEAD.unpack(data) if len(data) == HEAD.size else (0,) * 17
 
 
 def stop_recording_after(seconds: float, file: IO[bytes]) -> None:
@@ -114,6 +116,7 @@ class Facts:
 
     counts: dict[str, int] = field(default_factory=dict)
     losses: dict[str, int] = field(default_factory=dict)
+    deadlock: list[decoders.Wait] = field(default_factory=list)
 
 
 def facts_of(text: str) -> Facts:
@@ -127,6 +130,8 @@ def facts_of(text: str) -> Facts:
         elif word == "loss":
             name, count = rest.split("=")
             facts.losses[name] = int(count)
+        elif word == "deadlock":
+            facts.deadlock.append(decoders.Wait(*rest.split("|")))
         else:
             print(line, file=sys.stderr)
     return facts
@@ -206,8 +211,10 @@ def left_out(options: argparse.Namespace, facts: Facts) -> list[str]:
         if "KILLED" in facts.losses
         else []
     )
+    dead = ["what comes after the deadlock is not judged"] if facts.deadlock else []
     return [
         *lost,
+        *dead,
         *counted(counts, "before", held),
         *counted(counts, "left_out", f"events left out after the first {counts['written']} (--max)"),
         *counted(counts, "not_chosen", f"parts of variables left out, which no line of {files} accesses (--only)"),
@@ -232,6 +239,8 @@ def orders(counts: dict[str, int]) -> list[str]:
 
 def report(chosen: argparse.Namespace, facts: Facts) -> None:
     counts = facts.counts
+    if facts.deadlock:
+        say(f"the program is in a deadlock: {printing.deadlock_of(facts.deadlock)}")
     for line in [*left_out(chosen, facts), *orders(counts)]:
         say(line)
     if counts.get("short") or counts.get("threads", 0) > MOST_THREADS:
@@ -244,6 +253,8 @@ def report(chosen: argparse.Namespace, facts: Facts) -> None:
         options = counts.get("before") or counts.get("left_out") or counts.get("not_chosen")
         none = "no event was recorded: the program starts no goroutine, or its goroutines share nothing"
         say("no event was written: the options leave out all of them" if options else none)
+    elif facts.deadlock:
+        say(f"the recording is not whole ({', '.join(facts.losses)}): status {DEADLOCK}")
     elif facts.losses and not chosen.partial:
         say(f"the recording is not whole ({', '.join(facts.losses)}): status {NOT_WHOLE}; --partial accepts it")
     forced = counts.get("forced", 0)
@@ -300,6 +311,8 @@ def record(options: argparse.Namespace, root: str) -> int:
     report(options, facts)
     if options.status and status:
         return status if status > 0 else 128 - status
+    if facts.deadlock:
+        return DEADLOCK
     if not facts.counts["written"]:
         return 1
     return NOT_WHOLE if facts.losses and not options.partial else 0

@@ -23,6 +23,7 @@ type decoder struct {
 	finalizes bool
 	facts     facts
 	missing   []loss
+	deadlock  []string
 	beyond    int // parts of accesses that have many
 	clock     *clock
 }

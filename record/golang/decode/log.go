@@ -42,6 +42,9 @@ const (
 	wlock
 	wunlock
 	wrefused
+	wanted
+	rwanted
+	wwanted
 )
 const (
 	meets = iota + 48
@@ -98,7 +101,7 @@ type stackNode struct {
 // A log that was written: the head's numbers, and the records of the body and the tail.
 type goLog struct {
 	body, tail                                                         []byte
-	lost, cause, base, others, clashes, switches, yields, forced, most uint64
+	lost, cause, base, others, clashes, switches, yields, forced, most, dead uint64
 	nodes                                                              []stackNode
 	hasNodes                                                           bool
 	bias                                                               uint64 // of the program's addresses
@@ -124,7 +127,7 @@ func openLog(name string) (*goLog, error) {
 	}
 	word := func(k int) uint64 { return binary.LittleEndian.Uint64(all[8*k:]) }
 	l := &goLog{lost: word(5), cause: word(6), base: word(7), others: word(8), clashes: word(9), switches: word(10),
-		yields: word(11), most: word(13), forced: word(14), nodes: make([]stackNode, 1)}
+		yields: word(11), most: word(13), forced: word(14), dead: word(16), nodes: make([]stackNode, 1)}
 	flushed, appended := word(2), word(3)
 	isWhole := appended >= flushed && appended-flushed <= tailSize && headSize+tailSize+flushed <= uint64(size)
 	if word(0) != logMagic || !isWhole {

@@ -83,6 +83,9 @@ func main() {
 	for _, name := range names {
 		fmt.Fprintln(os.Stderr, "fact", name, d.facts[name])
 	}
+	for _, one := range d.deadlock {
+		fmt.Fprintln(os.Stderr, "deadlock", one)
+	}
 	for _, one := range d.missing {
 		fmt.Fprintf(os.Stderr, "loss %s=%d\n", one.cause, one.count)
 	}

@@ -52,7 +52,9 @@ func (d *decoder) needs() *needed {
 	n := &needed{last: map[uint32]int{}}
 	nothing := func(int32) {}
 	d.begin()
-	d.translate(n.see, nothing)
+	t := d.translating(n.see, nothing)
+	t.wants = n.see // so the lock is one of both
+	d.pass(t.one)
 	number, forks := 0, []forked(nil)
 	d.begin()
 	d.translate(func(l line) {

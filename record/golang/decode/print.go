@@ -30,6 +30,7 @@ type printer struct {
 	isOpen  bool
 	written int
 	bytes   int
+	waits   *waits // if all goroutines wait at the end
 }
 
 func (d *decoder) print(to io.Writer, n *needed) error {
@@ -57,6 +58,7 @@ func (d *decoder) print(to io.Writer, n *needed) error {
 	if l.short {
 		d.facts["short"] = 1
 	}
+	p.deadlock = p.circle()
 	p.mark()
 	if err := p.out.Flush(); err != nil || d.clock == nil {
 		return err
@@ -69,13 +71,21 @@ func (d *decoder) print(to io.Writer, n *needed) error {
 
 // printing returns what is done with each record: it is written to the clock, if there is one, and its lines are.
 func (p *printer) printing(l *lender) func(*record, int32, uint64) {
+	work := p.translation.one
+	if p.log.dead != 0 {
+		p.waits = newWaits()
+		work = func(r *record, id int32, offset uint64) {
+			p.waits.see(r, place{id, offset})
+			p.translation.one(r, id, offset)
+		}
+	}
 	if p.records == 0 {
-		return p.translation.one
+		return work
 	}
 	p.clock = newClock(os.NewFile(uintptr(p.records), "records"), l.number)
 	return func(r *record, id int32, offset uint64) {
 		p.clock.tick(r)
-		p.translation.one(r, id, offset)
+		work(r, id, offset)
 	}
 }
 
@@ -188,6 +198,7 @@ func (p *printer) losses() (found []loss) {
 	add(log.lost > 0 && log.cause == causeDisk, "DISK", log.lost)
 	add(log.lost > 0 && log.cause != causeDisk, p.cause, log.lost)
 	add(p.facts["cut_short"] > 0, "PARTS", uint64(p.facts["cut_short"]))
+	add(len(p.deadlock) > 0, "DEADLOCK", 0)
 	add(p.killed, "KILLED", 0)
 	add(len(p.lender.number) < 2, "ONE THREAD", 0)
 	add(log.others > 0, "EXEC", 0)

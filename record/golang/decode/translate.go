@@ -71,6 +71,7 @@ type translation struct {
 	*decoder
 	emit     func(line)
 	forget   func(variable int32)
+	wants    func(line) // a request of a lock, which is no line of the trace
 	objects  map[objectKey]int32
 	keys     []objectKey
 	passes   map[passKey][]passed
@@ -205,6 +206,10 @@ func (t *translation) event(r *record, at place) {
 	switch {
 	case r.kind >= lock && r.kind <= wrefused:
 		t.locked(r, at)
+	case r.kind >= wanted && r.kind <= wwanted:
+		if one := (line{spot{r.pc, r.stack}, r.thread, t.object(lockOf, at, 0), opAcquire}); t.wants != nil {
+			t.wants(one)
+		}
 	case r.kind >= fileReads && r.kind <= fileClosed:
 		t.file(r, at)
 	case r.kind == meets:

@@ -8,6 +8,7 @@ import (
 	"strings"
 	"sync"
 	"syscall"
+	"time"
 )
 
 // raced races in two goroutines, and both are done.
@@ -31,12 +32,65 @@ func killed() {
 	select {}
 }
 
+// A goroutine waits for itself.
 func deadlock() {
 	raced()
 	var mu sync.Mutex
-	mu.Lock()
+	mu.Lock() // HOLDS deadlock
+	mu.Lock() // WAITS deadlock
+}
+
+// Two goroutines have a lock each and wait for that of the other, while the main one waits for both.
+func abba() {
+	raced()
+	var a, b sync.Mutex
+	var come, done sync.WaitGroup
+	work := func(own, other *sync.Mutex) {
+		own.Lock() // HOLDS abba
+		come.Done()
+		come.Wait()
+		other.Lock() // WAITS abba
+		done.Done()
+	}
+	come.Add(2)
+	done.Add(2)
+	go work(&a, &b)
+	go work(&b, &a)
+	done.Wait()
+}
+
+// A reader of each lock, and a writer that waits for it.
+func abbaReaders() {
+	raced()
+	var a, b sync.RWMutex
+	var come, done sync.WaitGroup
+	work := func(own, other *sync.RWMutex) {
+		own.RLock() // HOLDS abbaReaders
+		come.Done()
+		come.Wait()
+		other.Lock() // WAITS abbaReaders
+		done.Done()
+	}
+	come.Add(2)
+	done.Add(2)
+	go work(&a, &b)
+	go work(&b, &a)
+	done.Wait()
+}
+
+// All goroutines wait, but for no lock.
+func asleep() {
+	raced()
+	<-make(chan bool)
+}
+
+// The program goes on for ever.
+func hangs() {
+	raced()
 	fmt.Println("stuck")
-	mu.Lock()
+	for {
+		time.Sleep(time.Hour)
+	}
 }
 
 func alone() { fmt.Println("no goroutine") }

@@ -12,7 +12,8 @@ var programs = map[string]func(){
 	"pool": pool, "trylock": trylock, "handed": handed, "unbuffered": unbuffered, "closed": closed,
 	"pipeline": pipeline, "selected": selected, "files": files, "spins": spins, "signals": signals, "ranges": ranges,
 	"polled": polled, "syncmap": syncmap, "ticker": ticker,
-	"exits": exits, "panicked": panicked, "killed": killed, "deadlock": deadlock, "alone": alone, "thousands": thousands,
+	"exits": exits, "panicked": panicked, "killed": killed, "deadlock": deadlock, "abba": abba, "abbaReaders": abbaReaders,
+	"asleep": asleep, "hangs": hangs, "alone": alone, "thousands": thousands,
 	"unjoined": unjoined,
 	"works": works,
 }
