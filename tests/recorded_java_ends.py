@@ -21,7 +21,7 @@ from judging import Wrong
 BEGIN, WHOLE = "recording|begin(RECORDED)|", "recording|end(WHOLE)|"
 # How the program ends, its status with --status, and the cause in the mark of the trace.
 ENDS = [("throws", 1, ""), ("exits", 7, ""), ("halts", 9, ""), ("kills", 137, "KILLED"), ("overflows", 1, "")]
-THREADS = 300
+THREADS = 2000
 # The most bytes of a file while the disk is full.
 SMALL_DISK = 3 << 20
 # Seconds in which a deadlock would be seen.
@@ -68,15 +68,16 @@ def judge_disk(racebench: str) -> None:
         raise Wrong("the race is not found")
 
 
-def judge_threads() -> None:
+def judge_threads(way: str) -> None:
     """A trace has threads without a limit; with --max it ends before the 257th."""
     compile_broken()
-    lines, text = recorded_java.recorded("--raw", "kept.raw", "-cp", ".", "Broken", "threads", str(THREADS))
+    lines, text = recorded_java.recorded("--raw", "kept.raw", "-cp", ".", "Broken", way, str(THREADS))
     threads = {line.split("|")[0] for line in lines[1:-1]}
     if len(threads) != THREADS + 2 or lines[-1] != WHOLE or "triage --windows" not in text:
         raise Wrong(f"{len(threads)} threads, and it ends with {lines[-1:]}: {text[-600:]}")
     short, text = recorded_java.recorded("--max", "1000000", "--read", "kept.raw", wanted=[4])
-    if len({line.split("|")[0] for line in short[1:-1]}) > 256 or ": THREADS)|" not in short[-1]:
+    left = re.fullmatch(r"recording\|end\(LEFT OUT (\d+) FROM \d+: THREADS\)\|", short[-1])
+    if len({line.split("|")[0] for line in short[1:-1]}) > 256 or not left or int(left[1]) < THREADS - 256:
         raise Wrong(f"with --max: {len(short)} lines, and it ends with {short[-1:]}")
 
 
@@ -267,7 +268,8 @@ def cases(racebench: str) -> list[recorded_java.Case]:
         (f"java: a program that {way}", judge_end, (racebench, way, status, cause)) for way, status, cause in ENDS
     ]
     found.append(("java: a full disk", judge_disk, (racebench,)))
-    found.append((f"java: {THREADS} threads", judge_threads, ()))
+    found.append((f"java: {THREADS} threads at once", judge_threads, ("threads",)))
+    found.append((f"java: {THREADS} threads in turns", judge_threads, ("turns",)))
     found.append(("java: --for", judge_for, (racebench,)))
     found.append(("java: a deadlock", judge_deadlock, (racebench,)))
     found.append(("java: a deadlock with the agent alone", judge_deadlock_alone, (racebench,)))

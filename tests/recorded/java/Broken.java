@@ -1,3 +1,5 @@
+import java.util.concurrent.CountDownLatch;
+
 /** A race, and then an end of the sort that the first argument names. */
 public class Broken {
     static int shared;
@@ -7,14 +9,28 @@ public class Broken {
         for (int k = 0; k < n; k++) shared++; // RACE shared
     }
 
-    /** Many threads, each with one access. */
-    static void many(int n) throws InterruptedException {
+    /** Many threads, each with one access; they live at once, or one after another. */
+    static void many(int n, boolean atOnce) throws InterruptedException {
         Thread[] all = new Thread[n];
+        CountDownLatch begin = new CountDownLatch(1);
         for (int k = 0; k < n; k++) {
-            all[k] = new Thread(() -> raise(1));
+            all[k] = new Thread(() -> {
+                if (atOnce) await(begin);
+                raise(1);
+            });
             all[k].start();
+            if (!atOnce) all[k].join();
         }
+        begin.countDown();
         for (Thread t : all) t.join();
+    }
+
+    private static void await(CountDownLatch latch) {
+        try {
+            latch.await();
+        } catch (InterruptedException e) {
+            throw new IllegalStateException(e);
+        }
     }
 
     private static boolean isTimed() {
@@ -64,7 +80,8 @@ public class Broken {
             case "halts": Runtime.getRuntime().halt(9);
             case "kills": kill(); break;
             case "overflows": deep(0); break;
-            case "threads": many(n); break;
+            case "threads": many(n, true); break;
+            case "turns": many(n, false); break;
             case "held": held(); break;
             default:
         }
