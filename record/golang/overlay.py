@@ -323,8 +323,8 @@ def planned(source: Source) -> None:
 
 
 def asleep(source: Source) -> None:
-    """If all goroutines wait for ever, the runtime ends the program. With cgo, which `-race` needs, it never looks: code
-    in C could go on. Here it looks if C has no threads."""
+    """If all goroutines wait for ever, the runtime ends the program. With cgo, which `-race` needs, it never looks: C
+    could go on. Here it looks if C has no threads."""
     source.pattern(r"if !iscgo && cgoHasExtraM\b", "if (raceseed != 0 || !iscgo) && cgoHasExtraM")
     alone = "	if raceseed != 0 && iscgo && !racealone(uintptr(mcount()-1)) {\n		return\n	}\n"
     source.after("	if run > run0 {\n		return\n	}\n", alone)
