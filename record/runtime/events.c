@@ -146,7 +146,7 @@ static inline __attribute__((always_inline)) u64 put_inline(struct record r, int
     return put_long(&whole, 0);
 }
 
-/* Nearly all records are of an access in no plan: nothing of them goes by the memory. A struct would be written in
+/* Nearly all records are of an access in no plan: no part goes by the memory. A struct would be written in
  * parts and read as a whole, for which a processor waits. */
 static inline __attribute__((always_inline)) u64 put_plain(int kind, u64 at, u64 size, u64 pc) {
     if (IDLE) return NO_PLACE;

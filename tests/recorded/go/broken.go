@@ -78,7 +78,7 @@ func abbaReaders() {
 	done.Wait()
 }
 
-// All goroutines wait, but for no lock.
+// All goroutines wait, and none for a lock.
 func asleep() {
 	raced()
 	<-make(chan bool)
