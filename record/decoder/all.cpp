@@ -1,6 +1,9 @@
 // The decoder as one file: so it is compiled in half the time.
 #include "text.cpp"
 #include "elf.cpp"
+#include "sections.cpp"
+#include "outline.cpp"
+#include "sources.cpp"
 #include "types.cpp"
 #include "guesses.cpp"
 #include "blocks.cpp"

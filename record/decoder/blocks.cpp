@@ -1,6 +1,7 @@
 #include "blocks.hpp"
 #include <cstring>
 #include <dwarf.h>
+#include "outline.hpp"
 #include "text.hpp"
 #include "types.hpp"
 
@@ -45,7 +46,7 @@ std::optional<Dwarf_Die> local(Dwarf_Die entry, const std::string &name, int dep
 
 std::optional<Dwarf_Die> constructed(Dwarf_Die function, uint64_t size) {
     Dwarf_Die declared = types::declared(function);
-    std::vector<Dwarf_Die> scopes = types::scopes_of(declared);
+    std::vector<Dwarf_Die> scopes = outline::scopes_of(declared);
     const char *name = dwarf_diename(&declared), *around = scopes.empty() ? nullptr : dwarf_diename(&scopes[0]);
     if (!name || !around || !types::is_class(scopes[0])) return std::nullopt;
     bool is_its = text::without_template(name) == text::without_template(around);

@@ -1,4 +1,6 @@
 #include "dwarf.hpp"
+#include "outline.hpp"
+#include "sources.hpp"
 #include "text.hpp"
 #include "types.hpp"
 #include <algorithm>
@@ -32,8 +34,69 @@ std::string name_in(Dwarf_Die &die) {
     return name ? text::without_template(name) : "";
 }
 
-std::string inside_scope(const std::string &scope, const std::string &name) {
-    return scope.empty() ? name : scope + "::" + name;
+// A function with the classes, namespaces and functions around it.
+std::string scoped_name(Dwarf_Die &entry) {
+    std::string name = name_in(entry);
+    for (Dwarf_Die &scope : outline::scopes_of(entry)) {
+        switch (dwarf_tag(&scope)) {
+        case DW_TAG_class_type:
+        case DW_TAG_structure_type:
+        case DW_TAG_union_type:
+        case DW_TAG_namespace:
+            if (dwarf_diename(&scope)) name = name_in(scope) + "::" + name;
+            break;
+        case DW_TAG_subprogram:
+            if (has_name(scope)) name = name_in(scope) + "::" + name;
+            break;
+        default: break;
+        }
+    }
+    return name;
+}
+
+// The name of a function, which may be that of the entry that this one is a copy of.
+std::string name_of(Dwarf_Die entry) {
+    for (int copies = 0; copies < 8; copies++) {
+        if (has_name(entry)) return scoped_name(entry);
+        Dwarf_Attribute attribute;
+        Dwarf_Die other;
+        if (!dwarf_attr(&entry, DW_AT_abstract_origin, &attribute) &&
+            !dwarf_attr(&entry, DW_AT_specification, &attribute))
+            break;
+        if (!dwarf_formref_die(&attribute, &other)) break;
+        entry = other;
+    }
+    return "";
+}
+
+// Finds what was put inside a body.
+void read_inside(Dwarf_Die &entry, std::vector<Body> *around, int depth) {
+    if (depth > MOST_DEPTH) return;
+    Dwarf_Die child;
+    for (int answer = dwarf_child(&entry, &child); answer == 0; answer = dwarf_siblingof(&child, &child)) {
+        int tag = dwarf_tag(&child);
+        if (tag == DW_TAG_lexical_block || tag == DW_TAG_catch_block || tag == DW_TAG_try_block)
+            read_inside(child, around, depth + 1);
+        if (tag != DW_TAG_inlined_subroutine) continue;
+        Body body{child, ranges_of(child), number_in(child, DW_AT_call_file), number_in(child, DW_AT_call_line), {},
+                  true};
+        if (body.ranges.empty()) continue;
+        read_inside(child, &body.inside, depth + 1);
+        around->push_back(std::move(body));
+    }
+}
+
+void sort_starts(std::vector<Start> &starts) {
+    std::sort(starts.begin(), starts.end(), [](const Start &a, const Start &b) {
+        return std::tie(a.start, a.end, a.number) < std::tie(b.start, b.end, b.number);
+    });
+}
+
+// The last range that begins at a place or before it; none if there is none, or if it ends before the place.
+const Start *range_at(const std::vector<Start> &starts, Dwarf_Addr place) {
+    auto after = std::upper_bound(starts.begin(), starts.end(), place,
+                                  [](Dwarf_Addr at, const Start &one) { return at < one.start; });
+    return after == starts.begin() || place >= std::prev(after)->end ? nullptr : &*std::prev(after);
 }
 
 }
@@ -51,83 +114,44 @@ std::string Unit::whole(const char *path) const {
 }
 
 std::vector<std::string> Unit::files() const {
-    Dwarf_Files *found = nullptr;
-    size_t count = 0;
-    std::vector<std::string> paths;
-    if (dwarf_getsrcfiles(&die, &found, &count) != 0) return paths;
-    for (size_t k = 0; k < count; k++) paths.push_back(whole(dwarf_filesrc(found, k, nullptr, nullptr)));
+    std::vector<std::string> paths = sources::paths_of(die).value_or(std::vector<std::string>{});
+    for (std::string &path : paths) path = whole(path.c_str());
     return paths;
 }
 
 void Unit::read() {
     was_read = true;
-    walk(top, "", nullptr, 0);
+    for (const Dwarf_Die &function : outline::functions_of(top)) {
+        Body body;
+        body.die = function;
+        body.ranges = ranges_of(body.die);
+        for (auto &range : body.ranges) starts.push_back({range.first, range.second, bodies.size()});
+        if (!body.ranges.empty()) bodies.push_back(std::move(body));
+    }
+    sort_starts(starts);
     paths = files();
 }
 
-// Finds the bodies below an entry, those in a body around them, and the names of all functions.
-void Unit::walk(Dwarf_Die &entry, const std::string &scope, std::vector<Body> *around, int depth) {
-    if (depth > MOST_DEPTH) return;
-    Dwarf_Die child;
-    for (int answer = dwarf_child(&entry, &child); answer == 0; answer = dwarf_siblingof(&child, &child)) {
-        int tag = dwarf_tag(&child);
-        switch (tag) {
-        case DW_TAG_class_type:
-        case DW_TAG_structure_type:
-        case DW_TAG_union_type:
-        case DW_TAG_namespace:
-            walk(child, dwarf_diename(&child) ? inside_scope(scope, name_in(child)) : scope, nullptr, depth + 1);
-            break;
-        case DW_TAG_lexical_block:
-        case DW_TAG_catch_block:
-        case DW_TAG_try_block: walk(child, scope, around, depth + 1); break;
-        case DW_TAG_subprogram:
-        case DW_TAG_inlined_subroutine: walk_body(child, tag, scope, around, depth); break;
-        default: break;
-        }
-    }
-}
-
-void Unit::walk_body(Dwarf_Die &entry, int tag, std::string scope, std::vector<Body> *around, int depth) {
-    if (tag == DW_TAG_subprogram && has_name(entry)) {
-        scope = inside_scope(scope, name_in(entry));
-        names[dwarf_dieoffset(&entry)] = scope;
-    }
-    Body body{entry, ranges_of(entry), number_in(entry, DW_AT_call_file), number_in(entry, DW_AT_call_line), {}};
-    walk(entry, scope, body.ranges.empty() ? nullptr : &body.inside, depth + 1);
-    if (body.ranges.empty()) return;
-    if (tag == DW_TAG_subprogram) bodies.push_back(std::move(body));
-    else if (around) around->push_back(std::move(body));
-}
-
-// The name of a function, which may be that of the entry that this one is a copy of.
-std::string Unit::name_of(Dwarf_Die entry) const {
-    for (int copies = 0; copies < 8; copies++) {
-        if (has_name(entry)) {
-            auto known = names.find(dwarf_dieoffset(&entry));
-            return known == names.end() || known->second.empty() ? name_in(entry) : known->second;
-        }
-        Dwarf_Attribute attribute;
-        Dwarf_Die other;
-        if (!dwarf_attr(&entry, DW_AT_abstract_origin, &attribute) &&
-            !dwarf_attr(&entry, DW_AT_specification, &attribute))
-            break;
-        if (!dwarf_formref_die(&attribute, &other)) break;
-        entry = other;
-    }
-    return "";
+// Of several functions with one code, the first in the unit.
+Body *Unit::function_at(Dwarf_Addr place) {
+    if (!was_read) read();
+    const Start *last = range_at(starts, place), *first = last;
+    if (!last) return nullptr;
+    while (first != starts.data() && first[-1].start == last->start && first[-1].end == last->end) first--;
+    Body &found = bodies[first->number];
+    if (!found.was_read) read_inside(found.die, &found.inside, 1);
+    found.was_read = true;
+    return &found;
 }
 
 // The bodies that a place lies in, the innermost last.
 std::vector<const Body *> Unit::bodies_at(Dwarf_Addr place) {
-    if (!was_read) read();
     std::vector<const Body *> chain;
-    for (const std::vector<Body> *level = &bodies; level;) {
-        auto found =
-            std::find_if(level->begin(), level->end(), [place](const Body &body) { return holds(body.ranges, place); });
-        if (found == level->end()) break;
-        chain.push_back(&*found);
-        level = &found->inside;
+    for (const Body *body = function_at(place); body;) {
+        chain.push_back(body);
+        auto found = std::find_if(body->inside.begin(), body->inside.end(),
+                                  [place](const Body &inner) { return holds(inner.ranges, place); });
+        body = found == body->inside.end() ? nullptr : &*found;
     }
     return chain;
 }
@@ -169,7 +193,7 @@ std::optional<Dwarf_Die> Unit::allocated(Dwarf_Addr place) {
     for (auto body = chain.rbegin(); body != chain.rend(); ++body) {
         Dwarf_Die function = types::declared((*body)->die);
         const char *name = dwarf_diename(&function);
-        std::vector<Dwarf_Die> scopes = types::scopes_of(function);
+        std::vector<Dwarf_Die> scopes = outline::scopes_of(function);
         if (!name || strcmp(name, "allocate") != 0 || scopes.empty()) continue;
         const char *around = dwarf_diename(&scopes[0]);
         for (const char *allocator : {"__new_allocator<", "new_allocator<", "allocator<"})
@@ -211,7 +235,7 @@ locals::Name Unit::local_name(Dwarf_Addr place, const locals::Frame &frame, uint
     std::vector<const Body *> chain = bodies_at(place);
     if (chain.empty()) return {"", ""};
     std::unique_ptr<locals::Locals> &known = locals_of[chain[0]->die.addr];
-    if (!known) known = std::make_unique<locals::Locals>(chain[0]->die, name_of_entry);
+    if (!known) known = std::make_unique<locals::Locals>(chain[0]->die, name_of);
     return known->name(frame, at, size, uses);
 }
 
@@ -226,9 +250,7 @@ Lines::Lines(const std::string &path) {
     }
     for (size_t k = 0; k < units.size(); k++)
         for (auto &range : ranges_of(units[k]->die)) starts.push_back({range.first, range.second, k});
-    std::sort(starts.begin(), starts.end(), [](const Start &a, const Start &b) {
-        return std::tie(a.start, a.end, a.unit) < std::tie(b.start, b.end, b.unit);
-    });
+    sort_starts(starts);
 }
 
 std::set<std::string> Lines::paths() const {
@@ -240,10 +262,8 @@ std::set<std::string> Lines::paths() const {
 }
 
 Unit *Lines::unit_at(Dwarf_Addr place) {
-    auto after = std::upper_bound(starts.begin(), starts.end(), place,
-                                  [](Dwarf_Addr at, const Start &one) { return at < one.start; });
-    if (after == starts.begin() || place >= std::prev(after)->end) return nullptr;
-    return units[std::prev(after)->unit].get();
+    const Start *found = range_at(starts, place);
+    return found ? units[found->number].get() : nullptr;
 }
 
 std::vector<Frame> Lines::frames(Dwarf_Addr place) {

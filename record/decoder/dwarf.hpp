@@ -23,12 +23,20 @@ struct Frame {
     Dwarf_Die die{};
 };
 
-// Code of a function, or of one that was put in its place where it was called: there at that line of that file.
+// Code of a function, or of one that was put in its place where it was called: there at that line of that file. What is
+// inside a function is read when a place in it is looked up.
 struct Body {
     Dwarf_Die die;
     Ranges ranges;
-    uint64_t file, line;
+    uint64_t file = 0, line = 0;
     std::vector<Body> inside;
+    bool was_read = false;
+};
+
+// A range of code, and the number of the function or unit that has it.
+struct Start {
+    Dwarf_Addr start, end;
+    size_t number;
 };
 
 // A unit of compilation. Its functions are read when a place in its code is looked up.
@@ -54,9 +62,7 @@ public:
 private:
     void read();
     std::string whole(const char *path) const;
-    void walk(Dwarf_Die &entry, const std::string &scope, std::vector<Body> *around, int depth);
-    void walk_body(Dwarf_Die &entry, int tag, std::string scope, std::vector<Body> *around, int depth);
-    std::string name_of(Dwarf_Die entry) const;
+    Body *function_at(Dwarf_Addr place);
     std::vector<const Body *> bodies_at(Dwarf_Addr place);
     Dwarf_Line *row_at(Dwarf_Addr place, const std::vector<const Body *> &chain);
     Dwarf_Die top;
@@ -64,10 +70,10 @@ private:
     std::string compiled_in, folder;
     blocks::Names known_types;
     bool was_read = false;
+    // The functions, and where their code begins and ends, by its start.
     std::vector<Body> bodies;
+    std::vector<Start> starts;
     std::vector<std::string> paths;
-    std::unordered_map<Dwarf_Off, std::string> names;
-    std::function<std::string(Dwarf_Die)> name_of_entry = [this](Dwarf_Die entry) { return name_of(entry); };
     // The variables of a function, by the place of its entry in memory.
     std::unordered_map<const void *, std::unique_ptr<locals::Locals>> locals_of;
 };
@@ -93,10 +99,6 @@ public:
                             const locals::Uses &uses);
 
 private:
-    struct Start {
-        Dwarf_Addr start, end;
-        size_t unit;
-    };
     Dwarf *debug = nullptr;
     variables::Variables variables;
     Unit *unit_at(Dwarf_Addr place);

@@ -61,7 +61,7 @@ int64_t start_of(const Local &local, const Frame &frame) {
 
 }
 
-Locals::Locals(Dwarf_Die function, const std::function<std::string(Dwarf_Die)> &name_of) : name_of(name_of) {
+Locals::Locals(Dwarf_Die function, std::string (*name_of)(Dwarf_Die)) : name_of(name_of) {
     Dwarf_Attribute attribute;
     Dwarf_Op *operations = nullptr;
     size_t count = 0;

@@ -1,7 +1,6 @@
 // Variables in the frame of a function, by the debug information.
 #pragma once
 #include <cstdint>
-#include <functional>
 #include <string>
 #include <utility>
 #include <vector>
@@ -52,7 +51,7 @@ using Uses = std::vector<std::pair<Dwarf_Addr, uint64_t>>;
 class Locals {
 public:
     // Finds the variables of a function. `name_of` gives the name of an inlined one.
-    Locals(Dwarf_Die function, const std::function<std::string(Dwarf_Die)> &name_of);
+    Locals(Dwarf_Die function, std::string (*name_of)(Dwarf_Die));
     // The name of `size` bytes at an address of a frame. Empty if no variable is known there, or if the uses don't show
     // which of several it is.
     Name name(const Frame &frame, uint64_t at, uint64_t size, const Uses &uses) const;
@@ -67,7 +66,7 @@ private:
     void add(Dwarf_Die &die, const Around &around);
     void add_at(Dwarf_Die &die, const Around &around, const Dwarf_Op &operation, const dwarf::Ranges &when);
     const Local *chosen(const std::vector<const Local *> &found, const Uses &uses) const;
-    const std::function<std::string(Dwarf_Die)> &name_of;
+    std::string (*name_of)(Dwarf_Die);
     From base = From::END;
     bool has_base = false;
     std::vector<Local> all;

@@ -230,15 +230,6 @@ Dwarf_Die declared(Dwarf_Die die) {
     return die;
 }
 
-std::vector<Dwarf_Die> scopes_of(Dwarf_Die die) {
-    Dwarf_Die *scopes = nullptr;
-    int count = dwarf_getscopes_die(&die, &scopes);
-    std::vector<Dwarf_Die> found;
-    if (count > 1) found.assign(scopes + 1, scopes + count);
-    if (count > 0) free(scopes);
-    return found;
-}
-
 std::optional<Dwarf_Die> parameter_of(Dwarf_Die type) {
     Dwarf_Die child;
     for (int answer = dwarf_child(&type, &child); answer == 0; answer = dwarf_siblingof(&child, &child))

@@ -22,8 +22,6 @@ uint64_t size_of(Dwarf_Die type);
 std::optional<uint64_t> number_of(Dwarf_Die die, unsigned attribute);
 // The entry that has the name of this one, in its scope: that of a member is in its class.
 Dwarf_Die declared(Dwarf_Die die);
-// The entries around one, the innermost first.
-std::vector<Dwarf_Die> scopes_of(Dwarf_Die die);
 // The first parameter of a template that is a type.
 std::optional<Dwarf_Die> parameter_of(Dwarf_Die type);
 // What a type is called, or that of a variable, without the arguments of templates. Empty if it has no name.

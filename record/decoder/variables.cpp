@@ -1,19 +1,13 @@
 #include "variables.hpp"
 #include <algorithm>
 #include <cstdlib>
+#include "outline.hpp"
 #include "text.hpp"
 #include "types.hpp"
 
 namespace variables {
 
 namespace {
-
-constexpr int MOST_DEPTH = 200;
-
-bool is_body(int tag) {
-    return tag == DW_TAG_subprogram || tag == DW_TAG_lexical_block || tag == DW_TAG_inlined_subroutine ||
-        tag == DW_TAG_try_block || tag == DW_TAG_catch_block;
-}
 
 // The address that an operation puts, as a number or by its place in a table.
 bool address_in(Dwarf_Attribute &location, const Dwarf_Op &operation, Dwarf_Addr &to) {
@@ -47,7 +41,7 @@ bool is_scope(int tag) {
 std::string qualified(Dwarf_Die die) {
     const char *own = dwarf_diename(&die);
     std::string name = own ? text::without_template(own) : "?";
-    for (Dwarf_Die &scope : types::scopes_of(types::declared(die))) {
+    for (Dwarf_Die &scope : outline::scopes_of(types::declared(die))) {
         const char *around = is_scope(dwarf_tag(&scope)) ? dwarf_diename(&scope) : nullptr;
         if (around) name = text::without_template(around) + "::" + name;
     }
@@ -57,7 +51,7 @@ std::string qualified(Dwarf_Die die) {
 // The name of a variable with the scopes or the function around it: `ns::Class::member`, `Class::function:variable`.
 std::string scoped_name(Dwarf_Die die) {
     const char *own = dwarf_diename(&die);
-    for (Dwarf_Die &scope : types::scopes_of(types::declared(die)))
+    for (Dwarf_Die &scope : outline::scopes_of(types::declared(die)))
         if (dwarf_tag(&scope) == DW_TAG_subprogram)
             return text::function_name(qualified(scope)) + ":" + text::plain(own ? own : "?");
     return text::plain(qualified(die));
@@ -96,25 +90,12 @@ void Variables::add(Dwarf_Die &die) {
     }
 }
 
-void Variables::walk(Dwarf_Die &entry, bool in_functions, int depth) {
-    if (depth > MOST_DEPTH) return;
-    Dwarf_Die child;
-    for (int answer = dwarf_child(&entry, &child); answer == 0; answer = dwarf_siblingof(&child, &child)) {
-        int tag = dwarf_tag(&child);
-        if (tag == DW_TAG_variable) add(child);
-        else if (tag == DW_TAG_namespace || (in_functions && is_body(tag))) walk(child, in_functions, depth + 1);
-    }
-}
-
-void Variables::read(Dwarf *debug, bool in_functions) {
+void Variables::read(Dwarf *debug) {
     were_read = true;
-    in_functions_too = in_functions;
-    all.clear();
-    of_threads.clear();
     Dwarf_CU *unit = nullptr;
     Dwarf_Die die{}, split{};
     while (debug && dwarf_get_units(debug, unit, &unit, nullptr, nullptr, &die, &split) == 0) {
-        walk(split.addr ? split : die, in_functions, 0);
+        for (Dwarf_Die &one : outline::variables_of(split.addr ? split : die)) add(one);
         die = split = Dwarf_Die{};
     }
     auto is_before = [](const Variable &a, const Variable &b) { return a.start < b.start; };
@@ -131,13 +112,8 @@ const Variable *Variables::at(const std::vector<Variable> &all, Dwarf_Addr start
 }
 
 std::string Variables::name(Dwarf *debug, Dwarf_Addr start, uint64_t size, bool of_thread) {
-    if (!were_read) read(debug, false);
-    const std::vector<Variable> &some = of_thread ? of_threads : all;
-    const Variable *found = at(some, start);
-    if (!found && !in_functions_too) {
-        read(debug, true);
-        found = at(some, start);
-    }
+    if (!were_read) read(debug);
+    const Variable *found = at(of_thread ? of_threads : all, start);
     if (!found) return "";
     return scoped_name(found->die) +
         text::plain(types::path_in(found->die, start - found->start + found->offset, size));

@@ -22,13 +22,12 @@ public:
 
 private:
     static const Variable *at(const std::vector<Variable> &all, Dwarf_Addr start);
-    void read(Dwarf *debug, bool in_functions);
-    void walk(Dwarf_Die &entry, bool in_functions, int depth);
+    void read(Dwarf *debug);
     void add(Dwarf_Die &die);
     bool add_of_thread(Dwarf_Die &die, Dwarf_Attribute &location, const Dwarf_Op *operations, size_t count);
     // Sorted by their starts: those of the program, and those that each thread has.
     std::vector<Variable> all, of_threads;
-    bool were_read = false, in_functions_too = false;
+    bool were_read = false;
 };
 
 }
