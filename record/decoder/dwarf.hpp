@@ -66,8 +66,8 @@ private:
     std::vector<const Body *> bodies_at(Dwarf_Addr place);
     Dwarf_Line *row_at(Dwarf_Addr place, const std::vector<const Body *> &chain);
     Dwarf_Die top;
-    // Where it was compiled. The own paths of a unit of Rust's library begin in this folder, which is else empty.
-    std::string compiled_in, folder;
+    // The folder where it was compiled.
+    std::string compiled_in;
     blocks::Names known_types;
     bool was_read = false;
     // The functions, and where their code begins and ends, by its start.
