@@ -23,6 +23,7 @@ bool fits(const guesses::Guess &guess, Dwarf_Die type, uint64_t size) {
     std::optional<Dwarf_Die> object = types::object_type(type);
     uint64_t each = object ? types::size_of(*object) : 0;
     if (each < 2) return false;
+    if (types::has_open_end(*object)) return each <= size;
     if (guess.from == guesses::Guess::SIZE) return each <= size;
     if (guess.from == guesses::Guess::NEW && !guess.is_array) return each == size;
     return size && size % each == 0;

@@ -155,11 +155,12 @@ std::string statement_at(const std::string &path, int line) {
     return whole;
 }
 
-// A type is surer than the pointer, and of several sizes none is sure.
+// A type is surer than the pointer, and of several sizes or several `new` none is sure.
 Guess guess_in(const std::string &statement) {
     Words words = words_of(statement);
     Guess found;
-    size_t sizes = static_cast<size_t>(std::count(words.begin(), words.end(), "sizeof"));
+    auto sizes = std::count(words.begin(), words.end(), "sizeof");
+    if (std::count(words.begin(), words.end(), "new") > 1) return {};
     for (size_t at = 0; at < words.size() && found.from == Guess::NONE; at++) {
         if (words[at] == "new") return of_new(words, at + 1);
         if (words[at] == "sizeof") return sizes == 1 ? of_size(words, at + 1) : Guess{};

@@ -55,7 +55,7 @@ u32 Objects::site_at(const places::Key &key) {
     const std::string &name = modules.place(key.pc, key.call);
     auto number = place_numbers.emplace(name, static_cast<u32>(place_names.size()));
     if (number.second) place_names.push_back(name), given.push_back(0);
-    sites.push_back({key, {0, 0}, false, false, std::nullopt});
+    sites.push_back({key, {0, 0}, false, false, std::nullopt, ""});
     place_of_site.push_back(number.first->second);
     return made.first->second;
 }
@@ -270,9 +270,12 @@ const Objects::Site &Objects::site_of_block(const Name &block) {
     site.was_looked_for = true;
     site.type = modules.allocated(site.key.pc, site.key.call);
     if (!site.type) site.type = modules.constructed(site.key, site.written, block.size);
-    if (site.type) return site;
-    site.type = modules.guessed(site.key, block.size);
-    site.is_guess = site.type.has_value();
+    bool is_guess = !site.type;
+    if (is_guess) site.type = modules.guessed(site.key, block.size);
+    if (site.type) site.label = text::plain(types::label_of(*site.type));
+    if (is_guess && !site.label.empty()) site.label += "?";
+    std::optional<Dwarf_Die> type = site.type ? types::object_type(*site.type) : std::nullopt;
+    site.has_open_end = type && types::has_open_end(*type);
     return site;
 }
 
@@ -280,9 +283,8 @@ const Objects::Site &Objects::site_of_block(const Name &block) {
 std::string Objects::label_of(const Name &block) {
     const Site &site = site_of_block(block);
     std::optional<Dwarf_Die> type = site.type ? types::object_type(*site.type) : std::nullopt;
-    if (!type || !types::size_of(*type) || types::size_of(*type) > block.size) return "";
-    std::string label = text::plain(types::label_of(*site.type));
-    return label.empty() || !site.is_guess ? label : label + "?";
+    uint64_t size = type ? types::size_of(*type) : 0;
+    return size && size <= block.size ? site.label : "";
 }
 
 // The name of a block or frame without a number: the place and the type of a block, or the function.
@@ -325,6 +327,7 @@ std::string Objects::block_name(Thing thing, u64 place, u64 size) {
     std::optional<Dwarf_Die> type = label_of(block).empty() ? std::nullopt : types::object_type(*site.type);
     u64 each = type ? types::size_of(*type) : 0;
     std::string name = base_name(thing) + number_of(thing);
+    if (each && site.has_open_end) return name + text::plain(types::path_in(*site.type, place, size));
     if (!each || place % each + size > each) return name + (place ? "+" + std::to_string(place) : "");
     if (block.size >= 2 * each) name += "[" + std::to_string(place / each) + "]";
     return name + text::plain(types::path_in(*site.type, place % each, size));

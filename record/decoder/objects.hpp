@@ -87,11 +87,12 @@ private:
         Thing thing;
     };
     // Where blocks were allocated, where the first of them was written first, and of which type they are, if that was
-    // looked for. A type may be a guess.
+    // looked for. The label is what the type is called, with a mark if it is a guess.
     struct Site {
         places::Key key, written;
-        bool was_looked_for = false, is_guess = false;
+        bool was_looked_for = false, has_open_end = false;
         std::optional<Dwarf_Die> type;
+        std::string label;
     };
     // The result of the last search for an address, while nothing began or changed in its page.
     struct Found {

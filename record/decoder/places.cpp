@@ -113,7 +113,7 @@ std::string Modules::symbol_function(Module &module, u64 start, const std::strin
     std::string whole = symbol ? symbol->name : "";
     size_t last = whole.rfind("::"), dot = whole.find('.');
     if (last != std::string::npos)
-        return text::function_name(text::without_parameters(whole.substr(0, last))) + ":" + name;
+        return text::function_name(text::without_lambdas(text::without_parameters(whole.substr(0, last)))) + ":" + name;
     return dot == std::string::npos ? name : text::function_name(whole.substr(0, dot)) + ":" + name;
 }
 

@@ -81,6 +81,22 @@ std::string without_parameters(std::string name) {
     return kept;
 }
 
+std::string without_lambdas(const std::string &name) {
+    std::string kept;
+    int depth = 0;
+    for (size_t k = 0; k < name.size(); k++) {
+        bool is_scope = !depth && name.compare(k, 4, "::$_") == 0;
+        for (k += is_scope ? 4 : 0; is_scope && k < name.size() && name[k] >= '0' && name[k] <= '9';) k++;
+        if (k == name.size()) break;
+        bool is_operator = kept.size() >= 8 && kept.substr(kept.size() - 8) == "operator" && name[k + 1] == ')';
+        if (name[k] == '(' && is_operator) kept += name.substr(k++, 2);
+        else if (name[k] == '(') depth++;
+        else if (name[k] == ')') depth--;
+        else if (!depth) kept += name[k];
+    }
+    return kept;
+}
+
 // GCC makes a function of each region and task of OpenMP, and so does clang, which does not name the one around it.
 static std::string with_region(const std::string &name) {
     size_t end = std::min(name.find("._omp_fn."), name.find("._omp_cpyfn."));

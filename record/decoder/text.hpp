@@ -21,6 +21,8 @@ std::string without_template(const std::string &name);
 std::string function_name(const std::string &name);
 // A function that C++ writes in full, without its result, its parameters, and what is in angles or braces.
 std::string without_parameters(std::string name);
+// Such a function without the scopes that clang makes for lambdas, and without parameters of functions around it.
+std::string without_lambdas(const std::string &name);
 // The lock of a critical section of OpenMP that has a name: `omp.critical:NAME`; clang puts `.var` after it.
 std::string with_section(const std::string &name);
 // Whether a source is of the library of C++, or of that or Rust's.

@@ -4,6 +4,8 @@
 #include <cstdlib>
 #include <cstring>
 #include <iterator>
+#include <map>
+#include <tuple>
 #include <vector>
 
 namespace types {
@@ -12,6 +14,8 @@ namespace {
 
 // Members in each other beyond this number are not looked into.
 constexpr int MOST_DEPTH = 64;
+// Classes beyond this number are not looked into for one name.
+constexpr int MOST_STEPS = 1000;
 // Types of the libraries that a user sees as one object.
 const char *const WHOLE[] = {
     "pthread_mutex_t",
@@ -58,12 +62,13 @@ bool is_of_classes(int tag) {
 struct Search {
     uint64_t offset, size;
     std::string path;
-    int depth = 0;
+    int depth = 0, steps = 0;
 
-    void enter(Dwarf_Die type);
+    bool enter(Dwarf_Die type);
     void enter_array(Dwarf_Die type);
     std::optional<uint64_t> start_of(Dwarf_Die &child) const;
     bool enter_member(Dwarf_Die type);
+    bool enter_base(Dwarf_Die base);
     bool enter_bits(Dwarf_Die type);
     bool has(uint64_t start, uint64_t length) const { return start <= offset && offset + size <= start + length; }
 };
@@ -131,6 +136,24 @@ bool Search::enter_bits(Dwarf_Die type) {
     return !names.empty();
 }
 
+// Whether an entry is an array whose first number of elements is not known, or none.
+bool is_open_array(Dwarf_Die type) {
+    Dwarf_Die child;
+    for (int answer = dwarf_child(&type, &child); answer == 0; answer = dwarf_siblingof(&child, &child))
+        if (dwarf_tag(&child) == DW_TAG_subrange_type) return dwarf_tag(&type) == DW_TAG_array_type && !count_of(child);
+    return false;
+}
+
+// Whether a member is the last one of its class, and an array without a length: it goes on to the end of the block.
+bool is_open(Dwarf_Die member) {
+    std::optional<Dwarf_Die> type = type_of(member);
+    if (dwarf_tag(&member) != DW_TAG_member || !type || !is_open_array(*type)) return false;
+    Dwarf_Die next;
+    for (int answer = dwarf_siblingof(&member, &next); answer == 0; answer = dwarf_siblingof(&next, &next))
+        if (dwarf_tag(&next) == DW_TAG_member) return false;
+    return true;
+}
+
 // Where a member or base begins, if it has all bytes.
 std::optional<uint64_t> Search::start_of(Dwarf_Die &child) const {
     int tag = dwarf_tag(&child);
@@ -138,28 +161,46 @@ std::optional<uint64_t> Search::start_of(Dwarf_Die &child) const {
     uint64_t start = number_of(child, DW_AT_data_member_location).value_or(0);
     std::optional<Dwarf_Die> of = type_of(child);
     bool is_static = dwarf_hasattr(&child, DW_AT_external) || dwarf_hasattr(&child, DW_AT_declaration);
-    return is_static || !of || !has(start, size_of(*of)) ? std::nullopt : std::optional(start);
+    // A virtual base is where only the object itself knows.
+    if (is_static || !of || (tag == DW_TAG_inheritance && dwarf_hasattr(&child, DW_AT_virtuality))) return std::nullopt;
+    return has(start, size_of(*of)) || (start <= offset && is_open(child)) ? std::optional(start) : std::nullopt;
+}
+
+// Goes into a base if one of its members has the bytes. A base is said to be as long as if its own virtual bases were in
+// it, so its last bytes may be those of the class.
+bool Search::enter_base(Dwarf_Die base) {
+    Search inner = *this;
+    inner.offset -= start_of(base).value_or(0);
+    std::optional<Dwarf_Die> type = inner_type(base);
+    bool is_there = type && inner.enter(*type);
+    if (is_there) *this = inner;
+    steps = inner.steps;
+    return is_there;
 }
 
 // Goes into the member or base that has all bytes, if there is one: of a class the smallest, since a member may lie in
 // the last bytes of a base, and of a union the first.
 bool Search::enter_member(Dwarf_Die type) {
-    Dwarf_Die child, best{};
-    uint64_t least = UINT64_MAX;
+    Dwarf_Die child;
+    std::vector<std::pair<uint64_t, Dwarf_Die>> found;
     for (int answer = dwarf_child(&type, &child); answer == 0; answer = dwarf_siblingof(&child, &child)) {
         if (!start_of(child)) continue;
-        bool is_base = dwarf_tag(&child) == DW_TAG_inheritance;
-        uint64_t bytes = 2 * size_of(*type_of(child)) + is_base;
-        if (bytes >= least) continue;
-        least = dwarf_tag(&type) == DW_TAG_union_type ? 0 : bytes;
-        best = child;
+        bool is_base = dwarf_tag(&child) == DW_TAG_inheritance, is_first = dwarf_tag(&type) == DW_TAG_union_type;
+        found.emplace_back(is_first ? 0 : 2 * size_of(*type_of(child)) + is_base, child);
     }
-    if (least == UINT64_MAX) return false;
-    const char *name = dwarf_tag(&best) == DW_TAG_member ? dwarf_diename(&best) : nullptr;
-    if (name && !is_one_of(WRAPPERS, name)) path += std::string(".") + name;
-    offset -= start_of(best).value_or(0);
-    if (std::optional<Dwarf_Die> inside = inner_type(best)) enter(*inside);
-    return true;
+    std::stable_sort(found.begin(), found.end(), [](auto &one, auto &other) { return one.first < other.first; });
+    for (auto &one : found) {
+        if (dwarf_tag(&one.second) == DW_TAG_inheritance) {
+            if (enter_base(one.second)) return true;
+            continue;
+        }
+        const char *name = dwarf_diename(&one.second);
+        if (name && !is_one_of(WRAPPERS, name)) path += std::string(".") + name;
+        offset -= start_of(one.second).value_or(0);
+        if (std::optional<Dwarf_Die> inside = inner_type(one.second)) enter(*inside);
+        return true;
+    }
+    return false;
 }
 
 // Memory for an object of the first parameter of the template, as containers have it.
@@ -171,13 +212,14 @@ std::optional<Dwarf_Die> buffer_of(Dwarf_Die type) {
     return parameter ? inner_type(*parameter) : std::nullopt;
 }
 
-void Search::enter(Dwarf_Die type) {
-    if (++depth > MOST_DEPTH || is_one_of(WHOLE, dwarf_diename(&type))) return;
+// Whether it is no class, or one with a member that has the bytes.
+bool Search::enter(Dwarf_Die type) {
+    if (++depth > MOST_DEPTH || ++steps > MOST_STEPS || is_one_of(WHOLE, dwarf_diename(&type))) return true;
     int tag = dwarf_tag(&type);
-    if (tag == DW_TAG_array_type) return enter_array(type);
-    if (!is_of_classes(tag)) return;
+    if (tag == DW_TAG_array_type) return enter_array(type), true;
+    if (!is_of_classes(tag)) return true;
     if (std::optional<Dwarf_Die> inside = buffer_of(type)) return enter(*inside);
-    if (!enter_member(type)) enter_bits(type);
+    return enter_member(type) || enter_bits(type);
 }
 
 }
@@ -265,13 +307,28 @@ static std::string label_in(Dwarf_Die die, int depth) {
 
 std::string label_of(Dwarf_Die die) { return label_in(die, 0); }
 
-std::string path_in(Dwarf_Die die, uint64_t offset, uint64_t size) {
+bool has_open_end(Dwarf_Die type) {
+    Dwarf_Die child;
+    for (int answer = dwarf_child(&type, &child); answer == 0; answer = dwarf_siblingof(&child, &child))
+        if (dwarf_tag(&type) == DW_TAG_structure_type && is_open(child)) return true;
+    return false;
+}
+
+static std::string found_path(Dwarf_Die die, uint64_t offset, uint64_t size) {
     Search search{offset, std::max<uint64_t>(size, 1), ""};
     bool is_whole = is_type(die) && is_one_of(WHOLE, dwarf_diename(&die));
     bool is_inner = is_type(die) && !is_plain_name(dwarf_tag(&die));
     std::optional<Dwarf_Die> type = is_inner ? die : inner_type(die);
     if (type && !is_whole) search.enter(*type);
     return search.offset ? search.path + "+" + std::to_string(search.offset) : search.path;
+}
+
+// Many blocks have one type.
+std::string path_in(Dwarf_Die die, uint64_t offset, uint64_t size) {
+    static std::map<std::tuple<const void *, uint64_t, uint64_t>, std::string> known;
+    auto made = known.emplace(std::make_tuple(die.addr, offset, size), "");
+    if (made.second) made.first->second = found_path(die, offset, size);
+    return made.first->second;
 }
 
 }

@@ -24,6 +24,8 @@ std::optional<uint64_t> number_of(Dwarf_Die die, unsigned attribute);
 Dwarf_Die declared(Dwarf_Die die);
 // The first parameter of a template that is a type.
 std::optional<Dwarf_Die> parameter_of(Dwarf_Die type);
+// Whether the last member of a class is an array without a length: a block has one object, and the array to its end.
+bool has_open_end(Dwarf_Die type);
 // What a type is called, or that of a variable, without the arguments of templates. Empty if it has no name.
 std::string label_of(Dwarf_Die die);
 // The path of the innermost member of a variable or type that has all the bytes, and the offset in it if it is not

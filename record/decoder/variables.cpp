@@ -34,10 +34,10 @@ bool offset_in(Dwarf_Attribute &location, const Dwarf_Op &operation, Dwarf_Addr 
 
 bool is_scope(int tag) {
     return tag == DW_TAG_namespace || tag == DW_TAG_structure_type || tag == DW_TAG_class_type ||
-        tag == DW_TAG_union_type;
+        tag == DW_TAG_union_type || tag == DW_TAG_subprogram;
 }
 
-// A name with the namespaces and classes around it. A function without a name is `?`.
+// A name with the namespaces, classes and functions around it. A function without a name is `?`.
 std::string qualified(Dwarf_Die die) {
     const char *own = dwarf_diename(&die);
     std::string name = own ? text::without_template(own) : "?";

@@ -20,6 +20,13 @@ struct head {
     struct item *first;
     int count;
 };
+struct note {
+    struct note *next;
+    int length;
+    struct {
+        short from, to;
+    } marks[];
+};
 static struct head head;
 static struct config *config;
 static point_t *points;
@@ -27,6 +34,9 @@ static int *counts;
 static struct item **table;
 static struct head *whole;
 static char *text;
+static struct note *note;
+
+static size_t bytes_of_note(int marks) { return sizeof(struct note) + (size_t)marks * 4; }
 
 static void *xmalloc(size_t n) {
     void *p = malloc(n);
@@ -45,6 +55,8 @@ static void *work(void *p) {
     table[1] = NULL;
     whole->count++;
     text[5]++;
+    note->length++;
+    note->marks[9].to++;
     return p;
 }
 
@@ -59,6 +71,7 @@ int main(void) {
     table = malloc(4 * sizeof(struct item *));
     whole = calloc(1, sizeof(struct head) + 2 * sizeof(struct item));
     text = malloc(20);
+    note = xmalloc(bytes_of_note(10));
     for (int k = 0; k < 2; k++)
         if (pthread_create(&t[k], NULL, work, NULL)) return 1;
     for (int k = 0; k < 2; k++) pthread_join(t[k], NULL);

@@ -22,6 +22,8 @@ static Plain *several;
 static std::unique_ptr<Plain> unique;
 static std::unique_ptr<Plain[]> many;
 static std::shared_ptr<Plain> shared;
+static int *numbers;
+static short *halves;
 
 static void work() {
     entry->id++;
@@ -32,6 +34,8 @@ static void work() {
     unique->a++;
     many[3].b++;
     shared->b++;
+    numbers[1]++;
+    halves[2]++;
 }
 
 int main() {
@@ -41,6 +45,8 @@ int main() {
     unique = std::make_unique<Plain>();
     many = std::make_unique<Plain[]>(4);
     shared = std::make_shared<Plain>();
+    // Two blocks of one size on a line.
+    numbers = new int[2](), halves = new short[4]();
     std::thread a(work), b(work);
     a.join();
     b.join();

@@ -13,6 +13,21 @@ struct Base {
 struct Item : Base {
     int price;
 };
+// Each base is as long as if its own virtual base were in it.
+struct Root {
+    int root;
+};
+struct Left : virtual Root {
+    int left;
+};
+struct Right : virtual Root {
+    int right;
+};
+struct Both : Left, Right {
+    int both;
+    unsigned a : 3, b : 5;
+};
+static Both both;
 struct Pool {
     std::mutex mutex_;
     std::vector<Item> items_;
@@ -53,6 +68,12 @@ static void work() {
     shop::Counter::next();
     shop::Table<long>::slot++;
     pairs[2].second++;
+    shop::both.left++, shop::both.right++, shop::both.both++, shop::both.b++;
+    auto tick = [] {
+        static int ticks;
+        return ++ticks;
+    };
+    tick();
 }
 
 int main() {
