@@ -9,6 +9,7 @@ import random
 import re
 import shutil
 import subprocess
+import zlib
 
 import names_of_runs
 import recorded_options
@@ -23,8 +24,9 @@ NAMES = {
         "shop.door table_lock",
     ),
     "named.cpp": (
-        "pairs[2].second shop::Counter::next:last shop::Counter::total shop::Table::slot shop::hidden[2] "
-        "shop::pool.done_ shop::pool.items_._M_start shop::pool.last_.id shop::pool.stopping_",
+        "pairs[2].second shop::Counter::next:last shop::Counter::total shop::Table::slot shop::both.a/b "
+        "shop::both.both shop::both.left shop::both.right shop::hidden[2] shop::pool.done_ "
+        "shop::pool.items_._M_start shop::pool.last_.id shop::pool.stopping_ work::operator():ticks",
         "atomic:shop::pool.done_ shop::pool.mutex_",
     ),
 }
@@ -45,15 +47,41 @@ OF_THREADS = {"own#T0", "of_thread.pairs[1].b#T0", "of_thread.pairs[2].a#T0"}
 # An array whose length is not known, and what alloca gave.
 UNKNOWN = re.compile(r"stack:round_of(#2)?-\d+")
 # Forms of debug information, and how many times it is damaged.
-FORMS = ("-gdwarf-4", "-gdwarf-5", "-gz", "-gsplit-dwarf", "-gdwarf-4 -gsplit-dwarf")
+FORMS = ("-gdwarf-4", "-gdwarf-5", "-gz", "-gsplit-dwarf", "-gdwarf-4 -gsplit-dwarf", "-flto")
 DAMAGED = 40
 # How many bytes a variable of the environment moves the stack by.
 MOVED = 3000
 # The blocks of sources, without their lines: a type that the source names is marked, and some have none.
 TYPES = {
-    "blocks.c": "config?.limit config?.in.b point_t?[2].y int?[3] item?.value +8 +8 +5",
-    "blocks.cpp": "Entry.id Entry.uses Plain?.b Owner.first Plain?[2].a Plain.a Plain[3].b Plain.b",
+    "blocks.c": "config?.limit config?.in.b point_t?[2].y int?[3] item?.value note?.length note?.marks[9].to +8 +8 +5",
+    "blocks.cpp": "Entry.id Entry.uses Plain?.b Owner.first Plain?[2].a Plain.a Plain[3].b Plain.b +4 #2+4",
 }
+# A source with names of 10,000 characters that differ at their ends alone, arguments of templates that are as long, and
+# operators with a bar and with quotes. Two threads use each variable.
+LONG = "n" * 9_999
+HOSTILE_SOURCE = """#include <memory>
+#include <thread>
+struct LONG1 { int one; };
+struct LONG2 { int two; };
+template <class T> struct Box { static int value; };
+template <class T> int Box<T>::value;
+static int vLONG1, vLONG2;
+struct Bar { int operator|(int by) { static int bars; return bars += by; } };
+int operator""_km(unsigned long long) { static int quoted; return ++quoted; }
+static std::unique_ptr<LONG1[]> block;
+static void work() {
+    vLONG1++, vLONG2++, Box<LONG1>::value++, Box<LONG2>::value++, block[1].one++;
+    (void) (Bar{} | 1), (void) 1_km;
+}
+int main() {
+    block = std::make_unique<LONG1[]>(2);
+    std::thread a(work), b(work);
+    a.join(), b.join();
+}
+"""
+HOSTILE_FILE = 'bars|and"quotes.cpp'
+# Its names. Both parts of Box have one name, so the second has an offset too.
+HOSTILE = """Box::value Box::value@0 Bar::operator!:bars operator""_km:quoted block""".split()
 # Variables that are not named by the source alone.
 OTHERS = ("heap:", "stack:", "memory:")
 OPERATION = re.compile(r"T\d+\|(\w+)\((.*)\)\|")
@@ -138,6 +166,62 @@ def judge_forms(c):
         ran([cc, "-O0", *form.split(), "-c", path, "-o", "part.o"], env=environment)
         ran([cc, *form.split(), "part.o", "-o", "program"], env=environment)
         judge_frame_names(form)
+
+
+def cut(name):
+    """A name as a trace has it: 255 bytes at most."""
+    whole = name.encode()
+    return name if len(whole) <= 255 else f"{name[:246]}~{zlib.crc32(whole):08x}"
+
+
+def judge_hostile(cxx):
+    """Names that are long, or have signs of the trace's own, are cut and replaced, and stay apart."""
+    with open(HOSTILE_FILE, "w", encoding="ascii") as source:
+        source.write(HOSTILE_SOURCE.replace("LONG", LONG))
+    command = [os.path.join(RECORD, "c++"), "-O0", "-std=c++17", HOSTILE_FILE, "-o", "program"]
+    ran(command, env=dict(os.environ, RECORD_CXX=cxx))
+    variables, _ = names_of(["./program"])
+    block = f'heap:bars!and"quotes.cpp:16 {LONG}1[1].one'
+    wanted = {cut(f"v{LONG}1"), cut(f"v{LONG}2"), cut(block), *HOSTILE}
+    found = {name for name in variables if "_State_impl" not in name}
+    if found != wanted:
+        raise Wrong(f"names of {HOSTILE_FILE}: {sorted(found ^ wanted)}")
+
+
+# A class whose constructor and first virtual function are in another file, and what is shared of its objects.
+ELSEWHERE = {
+    "account.hpp": "struct Account { Account(); virtual ~Account(); virtual void pay(); long cents; int seen; };",
+    "account.cpp": """#include "account.hpp"
+Account::Account() : cents(0), seen(0) {}
+Account::~Account() {}
+void Account::pay() { cents++; }
+""",
+    "main.cpp": """#include <thread>
+#include "account.hpp"
+static Account global;
+int main() {
+    Account local, *block = new Account;
+    auto work = [&] { local.cents++, global.seen++, block->seen++; };
+    std::thread a(work), b(work);
+    a.join(), b.join();
+}
+""",
+}
+OF_ELSEWHERE = {"global.seen", "main:local.cents", "heap:main.cpp:5 Account.seen"}
+
+
+def judge_elsewhere(cxx, level):
+    """Objects of a class that another file defines have the names of their members."""
+    for name, text in ELSEWHERE.items():
+        with open(name, "w", encoding="ascii") as source:
+            source.write(text)
+    # Clang says where main.cpp is in two ways: from the folder of the compiler on, and in whole.
+    os.mkdir("built")
+    command = [os.path.join(RECORD, "c++"), level, "../main.cpp", "../account.cpp", "-o", "../program"]
+    ran(command, env=dict(os.environ, RECORD_CXX=cxx), cwd="built")
+    variables, _ = names_of(["./program"])
+    if not OF_ELSEWHERE <= variables:
+        raise Wrong(f"{cxx} {level}: {sorted(OF_ELSEWHERE - variables)} is not in {sorted(variables)}")
 
 
 def debug_sections(program):
@@ -232,16 +316,21 @@ def cases(c, cxx):
     found = [(f"names without debug information, {c}", judge_stripped, (c,))]
     found.append((f"names by forms of debug information, {c}", judge_forms, (c,)))
     found.append((f"names that are wrong, {c}", judge_wrong_names, (c,)))
+    if cxx:
+        found.append((f"names that are long, with bars and quotes, {cxx}", judge_hostile, (cxx,)))
     for source in ("frames.c", "blocks.cpp") if cxx else ("frames.c",):
         found.append((f"names by damaged debug information, {c} {source}", judge_damaged, (source, (c, cxx))))
     for level in ("-O0", "-O1"):
         found.append((f"names of variables in C, {c} {level}", judge_names, ("named.c", (c, cxx), level)))
         if cxx:
+            found.append(
+                (f"names of members of a class of another file, {cxx} {level}", judge_elsewhere, (cxx, level))
+            )
             found.append((f"names of variables in C++, {cxx} {level}", judge_names, ("named.cpp", (c, cxx), level)))
-        # Clang with -O1 says of few variables where they are, and leaves out what nobody reads.
+        found.append((f"names of variables in frames, {c} {level}", judge_frames, (c, level)))
+        # Clang with -O1 makes variables of blocks that one pointer has.
         if (c, level) == ("clang", "-O1"):
             continue
-        found.append((f"names of variables in frames, {c} {level}", judge_frames, (c, level)))
         found.append((f"names of blocks in C, {c} {level}", judge_types, ("blocks.c", (c, cxx), level)))
         if cxx:
             found.append((f"names of blocks in C++, {cxx} {level}", judge_types, ("blocks.cpp", (c, cxx), level)))

@@ -162,8 +162,10 @@ def judge_stripped():
 
 def judge_places(c):
     sources = [os.path.join(SOURCES, "places", name) for name in ("main.c", "p/util.c", "q/util.c")]
-    ran([os.path.join(RECORD, "cc"), "-O1", *sources, "-o", "program"], env=dict(os.environ, RECORD_CC=c))
-    judge_names()
+    for form in ("-gdwarf-4", "-gz", "-g"):
+        command = [os.path.join(RECORD, "cc"), "-O1", form, *sources, "-o", "program"]
+        ran(command, env=dict(os.environ, RECORD_CC=c))
+        judge_names()
     judge_free()
     judge_frames()
     judge_stripped()
