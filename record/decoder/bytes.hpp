@@ -11,7 +11,7 @@ public:
         : at(static_cast<const uint8_t *>(start)), end(static_cast<const uint8_t *>(end)) {}
     const uint8_t *place() const { return at; }
     bool has_more() const { return at < end; }
-    // Whether there were fewer bytes than were asked for.
+    // Whether there were fewer bytes than were to be read.
     bool is_short() const { return was_short; }
     uint64_t left() const { return static_cast<uint64_t>(end - at); }
     void skip(uint64_t count) { left() < count ? stop() : void(at += count); }

@@ -92,7 +92,7 @@ void sort_starts(std::vector<Start> &starts) {
     });
 }
 
-// The last range that begins at a place or before it; none if there is none, or if it ends before the place.
+// The last range that begins at a place or before it, if it ends after the place.
 const Start *range_at(const std::vector<Start> &starts, Dwarf_Addr place) {
     auto after = std::upper_bound(starts.begin(), starts.end(), place,
                                   [](Dwarf_Addr at, const Start &one) { return at < one.start; });

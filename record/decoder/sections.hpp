@@ -8,8 +8,8 @@ namespace sections {
 
 // The bytes of a section: that of this name, such as `debug_line`. None if the file has no such section.
 bytes::Reader section(Dwarf *debug, const std::string &name);
-// The bytes of the section of units that an entry is in, from the entry on. `ending` gets what follows the names of that
-// section and of those that belong to it: `.dwo`, or nothing.
+// The bytes of the section of units that an entry is in, from the entry on. `ending` gets the end of the section's name,
+// which others of the unit have too: `.dwo`, or nothing.
 bytes::Reader from_entry(const Dwarf_Die &die, std::string &ending);
 
 // How many bytes numbers have in a unit or table.

@@ -166,8 +166,8 @@ std::optional<uint64_t> Search::start_of(Dwarf_Die &child) const {
     return has(start, size_of(*of)) || (start <= offset && is_open(child)) ? std::optional(start) : std::nullopt;
 }
 
-// Goes into a base if one of its members has the bytes. A base is said to be as long as if its own virtual bases were in
-// it, so its last bytes may be those of the class.
+// Goes into a base if one of its members has the bytes. The size of a base counts its own virtual bases too, so its last
+// bytes may be those of the class.
 bool Search::enter_base(Dwarf_Die base) {
     Search inner = *this;
     inner.offset -= start_of(base).value_or(0);
