@@ -131,6 +131,7 @@ template <class See, class End> void read(const Dwarf_Die &unit, See see, End en
     while (bytes.reader.has_more()) {
         const uint8_t *at = bytes.reader.place();
         uint64_t code = bytes.reader.leb(), operation = 0;
+        if (!code && !depth) break;
         if (!code) {
             end(bytes.reader.place());
             if (--depth == 0) break;
