@@ -15,7 +15,7 @@ struct Item : Base {
 };
 // Each base is as long as if its own virtual base were in it.
 struct Root {
-    int root;
+    int root[6];
 };
 struct Left : virtual Root {
     int left;
