@@ -11,29 +11,32 @@ import os
 import subprocess
 import sys
 
-sys.dont_write_bytecode = True
-sys.path.insert(0, os.path.dirname(os.path.dirname(os.path.abspath(__file__))))
-from screen_app.trace import Trace  # noqa: E402
+if (SCREEN := os.path.dirname(os.path.dirname(os.path.abspath(__file__)))) not in sys.path:
+    sys.dont_write_bytecode = True
+    sys.path.insert(0, SCREEN)
+from screen_app.trace import Trace
 
 PROGRAM = os.environ["RACEBENCH"]
 
 
 class Session:
-    def __init__(self, arguments):
+    def __init__(self, arguments: list[str]) -> None:
         self.trace, self.path, self.log = Trace(arguments[1]).read_at_once(), arguments[1], arguments[2]
         self.process = subprocess.Popen([PROGRAM, *arguments], stdin=subprocess.PIPE, stdout=subprocess.PIPE)
+        assert self.process.stdin and self.process.stdout
+        self.input, self.output = self.process.stdin, self.process.stdout
 
-    def ask(self, line):
-        self.process.stdin.write(line.encode() + b"\n")
-        self.process.stdin.flush()
-        return self.process.stdout.readline().decode().rstrip("\n")
+    def ask(self, line: str) -> str:
+        self.input.write(line.encode() + b"\n")
+        self.input.flush()
+        return self.output.readline().decode().rstrip("\n")
 
-    def length(self):
+    def length(self) -> int:
         with open(self.log, "rb") as file:
             next(file)
             return sum(1 for _ in itertools.takewhile(lambda line: line.startswith(b" "), file))
 
-    def answer(self, line):
+    def answer(self, line: str) -> str:
         fields = line.split()
         if fields[0] != "?":
             return self.ask(line)
@@ -48,7 +51,7 @@ class Session:
             return "line 1: 87 bad question"
         return self.witness(fields[2], fields[3])
 
-    def next(self, name):
+    def next(self, name: str) -> str:
         word, *events = self.ask(f"show {name}").split()
         if word != "shown":
             return " ".join([word, *events])
@@ -58,7 +61,7 @@ class Session:
         left = [own[count] for own, count in zip(self.trace.events_of, counts) if count < len(own)]
         return " ".join([f"next {self.length()} {len(events)}", *(self.item(name, event) for event in left)])
 
-    def item(self, name, event):
+    def item(self, name: str, event: int) -> str:
         answer = self.ask(f"batch add {name} {event} ; new {name}").removeprefix("refused 70 at ")
         if answer.startswith("1 43"):
             return str(event)
@@ -69,14 +72,14 @@ class Session:
             return f"{event}:25:{self.trace.threads.raw.index(fields[-1].encode())}"
         return f"{event}:{code}"
 
-    def witness(self, first, second):
+    def witness(self, first: str, second: str) -> str:
         done = subprocess.run([PROGRAM, "witness", self.path, first, second], capture_output=True)
         if done.returncode:
             return "refused 99 not shown: FORCED"
         return " ".join(["witness found", *(line.split()[0].decode() for line in done.stdout.splitlines() if line)])
 
 
-def main():
+def main() -> None:
     arguments = sys.argv[1:]
     if arguments[0] != "session":
         os.execv(PROGRAM, [PROGRAM, *arguments])

@@ -1,5 +1,7 @@
 """A small client of Chromium's remote protocol: pages, keys, clicks, pictures."""
 
+from __future__ import annotations
+
 import asyncio
 import base64
 import contextlib
@@ -9,11 +11,16 @@ import re
 import shutil
 import tempfile
 import time
+from collections.abc import Callable
+from typing import Any
 
 import aiohttp
-
 from comparing import within
 from legend import Listener
+
+# What JavaScript or the browser answers: any value of JSON.
+Json = Any
+WIDTH, HEIGHT = 1440, 900
 
 KEYS = {
     "Enter": 13,
@@ -79,12 +86,12 @@ DELAY = f"""(() => {{
 }})()"""
 
 
-def chromium():
+def chromium() -> str:
     """Chromium itself; the script in /usr/bin starts it with more words."""
     return next(filter(os.path.exists, ("/usr/lib/chromium/chromium", "/usr/bin/chromium")))
 
 
-def short_paths():
+def short_paths() -> dict[str, str]:
     """An environment for the browser, which makes a socket in the folder for temporary files: its path is short."""
     folder = tempfile.gettempdir()
     is_long = len(folder) > SOCKET_FOLDER and os.access("/tmp", os.W_OK | os.X_OK)
@@ -94,9 +101,20 @@ def short_paths():
 class Browser:
     """The browser of all tests. Leaving it closes its pages, and `end` the browser."""
 
-    started = None
+    started: Browser | None = None
+    process: asyncio.subprocess.Process
+    errors: asyncio.StreamReader
+    folder: str
+    client: aiohttp.ClientSession
+    socket: aiohttp.ClientWebSocketResponse
+    drain: asyncio.Future[None]
+    reader: asyncio.Future[None]
+    number: int
+    is_dead: bool
+    waiting: dict[int, tuple[str | None, asyncio.Future[Json]]]
+    pages: dict[str, Page]
 
-    async def __aenter__(self):
+    async def __aenter__(self) -> Browser:
         if Browser.started is not None and Browser.started.is_dead:
             await Browser.end()
         if Browser.started is None:
@@ -104,8 +122,9 @@ class Browser:
             Browser.started = self
         return Browser.started
 
-    async def __aexit__(self, *_):
+    async def __aexit__(self, *_: object) -> None:
         browser = Browser.started
+        assert browser is not None
         for page in browser.pages.values():
             if not page.is_closed and not browser.is_dead:
                 page.is_closed = True
@@ -115,17 +134,17 @@ class Browser:
                 except asyncio.TimeoutError:
                     return await Browser.end()
 
-    async def _start(self):
+    async def _start(self) -> None:
         """Starts the browser; a slow machine may need more than one try."""
-        for _ in range(TRIES):
+        for number in range(TRIES):
             try:
                 return await asyncio.wait_for(self._start_once(), PATIENCE)
-            except (asyncio.TimeoutError, OSError, aiohttp.ClientError) as why:
-                failed = why
+            except (asyncio.TimeoutError, OSError, aiohttp.ClientError):
                 await self._stop()
-        raise failed
+                if number == TRIES - 1:
+                    raise
 
-    async def _stop(self):
+    async def _stop(self) -> None:
         """Ends the process and removes its folder. Its own processes may have its pipe for longer than it lives."""
         for end in (self.process.terminate, self.process.kill):
             if self.process.returncode is None:
@@ -135,7 +154,7 @@ class Browser:
                 break
         shutil.rmtree(self.folder, ignore_errors=True)
 
-    async def _start_once(self):
+    async def _start_once(self) -> None:
         self.folder = tempfile.mkdtemp(prefix="chromium-")
         self.process = await asyncio.create_subprocess_exec(
             chromium(),
@@ -155,9 +174,11 @@ class Browser:
             stderr=asyncio.subprocess.PIPE,
             env=short_paths(),
         )
+        assert self.process.stderr
+        self.errors = self.process.stderr
         address = None
         while not address:
-            line = (await self.process.stderr.readline()).decode()
+            line = (await self.errors.readline()).decode()
             if not line:
                 raise ConnectionResetError("the browser ended at its start")
             address = re.search(r"ws://\S+", line)
@@ -167,11 +188,11 @@ class Browser:
         self.number, self.waiting, self.pages, self.is_dead = 0, {}, {}, False
         self.reader = asyncio.ensure_future(self._read())
 
-    async def _drain(self):
-        while await self.process.stderr.read(4096):
+    async def _drain(self) -> None:
+        while await self.errors.read(4096):
             pass
 
-    async def _read(self):
+    async def _read(self) -> None:
         try:
             async for message in self.socket:
                 parsed = json.loads(message.data)
@@ -183,22 +204,23 @@ class Browser:
             self.is_dead = True
             self.fail("the browser ended")
 
-    def _settle(self, number, message):
-        _, future = self.waiting.pop(number, (None, None))
-        if future and not future.done():  # else nobody waits for it any longer
-            future.set_result(message)
+    def _settle(self, number: int, message: Json) -> None:
+        if number in self.waiting:
+            _, future = self.waiting.pop(number)
+            if not future.done():  # else nobody waits for it any longer
+                future.set_result(message)
 
-    def fail(self, why, session=None):
+    def fail(self, why: str, session: str | None = None) -> None:
         """What waits for an answer, of one page or of all, gets none."""
         for asked, future in self.waiting.values():
             if session in (None, asked) and not future.done():
                 future.set_exception(ConnectionResetError(why))
 
-    async def call(self, method, session=None, **params):
+    async def call(self, method: str, session: str | None = None, **params: object) -> Json:
         if self.is_dead:
             raise ConnectionResetError("the browser ended")
         self.number += 1
-        message = {"id": self.number, "method": method, "params": params}
+        message: dict[str, object] = {"id": self.number, "method": method, "params": params}
         if session:
             message["sessionId"] = session
         future = asyncio.get_running_loop().create_future()
@@ -209,8 +231,10 @@ class Browser:
             raise RuntimeError(f"{method}: {answer['error']}")
         return answer["result"]
 
-    async def page(self, url, width=1440, height=900, dark=False):
-        """A page that shares nothing with the others."""
+    async def page(
+        self, url: str, width: int = WIDTH, height: int = HEIGHT, dark: bool = False, script: str = ""
+    ) -> Page:
+        """A page that shares nothing with the others, and that runs the script before its own code."""
         context = (await self.call("Target.createBrowserContext"))["browserContextId"]
         target = (await self.call("Target.createTarget", url="about:blank", browserContextId=context))["targetId"]
         session = (await self.call("Target.attachToTarget", targetId=target, flatten=True))["sessionId"]
@@ -222,18 +246,19 @@ class Browser:
         await page.call("Emulation.setEmulatedMedia", features=[scheme])
         if SLOWER > 1:
             await page.call("Emulation.setCPUThrottlingRate", rate=SLOWER)
-        for script in (GUARD, DELAY) if LATER else (GUARD,):
-            await page.call("Page.addScriptToEvaluateOnNewDocument", source=script)
+        for first in (GUARD, DELAY if LATER else "", script):
+            if first:
+                await page.call("Page.addScriptToEvaluateOnNewDocument", source=first)
         await page.open(url)
         return page
 
     @classmethod
-    async def end(cls):
+    async def end(cls) -> None:
         if cls.started is not None:
             await cls.started._end()
             cls.started = None
 
-    async def _end(self):
+    async def _end(self) -> None:
         self.reader.cancel()
         await self.socket.close()
         await self.client.close()
@@ -242,13 +267,14 @@ class Browser:
 
 
 class Page:
-    def __init__(self, browser, session, context):
+    def __init__(self, browser: Browser, session: str, context: str) -> None:
         self.browser, self.session, self.context = browser, session, context
         self.is_closed = self.is_crashed = False
-        self.faults, self.requests = [], []
+        self.faults: list[str] = []
+        self.requests: list[str] = []
         self.listener = Listener(self.faults)
 
-    def take(self, method, parameters):
+    def take(self, method: str, parameters: Json) -> None:
         """Keeps each error of the page, each address that it asks for, and what is wrong with its messages."""
         if method == "Runtime.exceptionThrown":
             details = parameters["exceptionDetails"]
@@ -269,26 +295,26 @@ class Page:
             self.is_crashed = True
             self.browser.fail(CRASHED, self.session)
 
-    async def call(self, method, **params):
+    async def call(self, method: str, **params: object) -> Json:
         if self.is_crashed:
             raise ConnectionResetError(CRASHED)
         return await self.browser.call(method, self.session, **params)
 
-    async def size(self, width, height):
+    async def size(self, width: int, height: int) -> None:
         await self.call(
             "Emulation.setDeviceMetricsOverride", width=width, height=height, deviceScaleFactor=1, mobile=False
         )
 
-    async def open(self, url):
+    async def open(self, url: str) -> None:
         await self.call("Page.navigate", url=url)
 
-    async def run(self, code):
+    async def run(self, code: str) -> Json:
         answer = await self.call("Runtime.evaluate", expression=code, awaitPromise=True, returnByValue=True)
         if "exceptionDetails" in answer:
             raise RuntimeError(answer["exceptionDetails"].get("exception", {}).get("description"))
         return answer["result"].get("value")
 
-    async def until(self, code, seconds=PATIENCE, what=None):
+    async def until(self, code: str | Callable[[], str], seconds: float = PATIENCE, what: str | None = None) -> Json:
         """Waits by condition, never by time. What the condition is may change: then it is made anew for each look."""
         loop = asyncio.get_running_loop()
         end = loop.time() + seconds
@@ -302,9 +328,9 @@ class Page:
             await asyncio.sleep(0.02)
         raise AssertionError(f"not within {seconds} s: {what or code}; faults {self.faults}")
 
-    async def key(self, key, modifiers=0):
+    async def key(self, key: str, modifiers: int = 0) -> None:
         code = KEYS.get(key, ord(key.upper()) if len(key) == 1 else 0)
-        event = {"key": key, "windowsVirtualKeyCode": code, "modifiers": modifiers}
+        event: dict[str, object] = {"key": key, "windowsVirtualKeyCode": code, "modifiers": modifiers}
         if len(key) == 1 and not modifiers:
             event["text"] = key
         if key == "Enter":
@@ -312,10 +338,10 @@ class Page:
         await self.call("Input.dispatchKeyEvent", type="keyDown", **event)
         await self.call("Input.dispatchKeyEvent", type="keyUp", key=key, windowsVirtualKeyCode=code)
 
-    async def type(self, text):
+    async def type(self, text: str) -> None:
         await self.call("Input.insertText", text=text)
 
-    async def point(self, selector, at=0):
+    async def point(self, selector: str, at: int = 0) -> tuple[float, float]:
         """A point of an element that is in sight; presses are for that element from here on."""
         found = await self.run(
             f"(() => {{ const e = document.querySelectorAll({json.dumps(selector)})[{at}]; if (!e) return null; "
@@ -324,12 +350,13 @@ class Page:
             "return [b.left + Math.min(b.width / 2, 60), b.top + b.height / 2]; })()"
         )
         assert found, f"nothing is {selector}"
-        return tuple(found)
+        x, y = found
+        return x, y
 
-    async def mouse(self, kind, x, y, **more):
+    async def mouse(self, kind: str, x: float, y: float, **more: object) -> None:
         await self.call("Input.dispatchMouseEvent", type=kind, x=x, y=y, **more)
 
-    async def steady(self, selector, at=0):
+    async def steady(self, selector: str, at: int = 0) -> tuple[float, float]:
         """Waits until the element is where it was a moment ago."""
         before = None
         while (now := await self.point(selector, at)) != before:
@@ -337,7 +364,7 @@ class Page:
             await asyncio.sleep(0.03)
         return now
 
-    async def press(self, selector, at=0, **more):
+    async def press(self, selector: str, at: int = 0, **more: object) -> tuple[float, float]:
         """Moves to the element and presses the button; returns the place. Tries again if the page moved it."""
         for _ in range(PRESSES):
             x, y = await self.steady(selector, at)
@@ -349,10 +376,10 @@ class Page:
             await self.release(x, y)
         raise AssertionError(f"{selector} does not stand still")
 
-    async def release(self, x, y, count=1, **more):
+    async def release(self, x: float, y: float, count: int = 1, **more: object) -> None:
         await self.mouse("mouseReleased", x, y, button="left", clickCount=count, **more)
 
-    async def click(self, selector, at=0, times=1):
+    async def click(self, selector: str, at: int = 0, times: int = 1) -> None:
         """Clicks. Those of a double click follow one another as a hand makes them, however slow the machine is."""
         began = time.time()
         x, y = await self.press(selector, at, timestamp=began)
@@ -362,7 +389,7 @@ class Page:
             await self.mouse("mousePressed", x, y, button="left", clickCount=number, timestamp=now)
             await self.release(x, y, number, timestamp=now)
 
-    async def hover(self, selector, at=0, shown="true"):
+    async def hover(self, selector: str, at: int = 0, shown: str = "true") -> Json:
         """Moves to the element, and again if that does not show what it has to: the page may have moved it."""
         for _ in range(PRESSES):
             x, y = await self.steady(selector, at)
@@ -373,13 +400,13 @@ class Page:
                 pass
         raise AssertionError(f"over {selector} it never holds that {shown}; faults {self.faults}")
 
-    async def drag(self, selector, at, by):
+    async def drag(self, selector: str, at: int, by: float) -> None:
         x, y = await self.press(selector, at)
         for part in (0.3, 0.6, 1):
             await self.mouse("mouseMoved", x, y + by * part, button="left", buttons=1)
         await self.release(x, y + by)
 
-    async def picture(self, path):
+    async def picture(self, path: str) -> None:
         answer = await self.call("Page.captureScreenshot", format="png")
         with open(path, "wb") as file:
             file.write(base64.b64decode(answer["data"]))

@@ -1,26 +1,24 @@
 """Judges messages by the legend, screen_app/messages.py: each key, and the kind of each value."""
 
 import json
-import os
-import sys
 import types
+from collections.abc import Iterator, Set
 from typing import Any, NotRequired, get_args, get_origin, get_type_hints, is_typeddict
 
-sys.path.insert(0, os.path.dirname(os.path.dirname(os.path.abspath(__file__))))
-from screen_app.messages import PUSHES, REQUESTS, Gone, Mistake  # noqa: E402
+from screen_app.messages import PUSHES, REQUESTS, Gone, Mistake
 
 # What each message has beside what the legend says of it.
 REQUEST, ANSWER, PUSH = {"id", "do"}, {"id"}, {"push"}
 
 
-def keys_of(kind):
+def keys_of(kind: Any) -> Iterator[tuple[str, Any, bool]]:
     """The keys of a message, each with the kind of its value and whether it may be left out."""
     for key, hint in get_type_hints(kind, include_extras=True).items():
         is_optional = get_origin(hint) is NotRequired or key in kind.__optional_keys__
         yield key, get_args(hint)[0] if get_origin(hint) is NotRequired else hint, is_optional
 
 
-def wrong_keys(value, kind, where, more=frozenset()):
+def wrong_keys(value: object, kind: Any, where: str, more: Set[str] = frozenset()) -> list[str]:
     """What is wrong with a dictionary."""
     if not isinstance(value, dict):
         return [f"{where}: {value!r} is no message"]
@@ -34,7 +32,7 @@ def wrong_keys(value, kind, where, more=frozenset()):
     return found
 
 
-def wrong(value, kind, where):
+def wrong(value: object, kind: Any, where: str) -> list[str]:
     """What is wrong with a value. JSON has no tuples, and its keys are texts."""
     origin, inner = get_origin(kind), get_args(kind)
     if kind is Any:
@@ -49,24 +47,26 @@ def wrong(value, kind, where):
             return [f"{where}: {value!r} is no list of {inner}"]
         return [text for one, own in zip(value, kinds) for text in wrong(one, own, where)]
     if origin is dict:
+        if not isinstance(value, dict):
+            return [f"{where}: {value!r} is no {kind}"]
         return [text for one in value.values() for text in wrong(one, inner[1], where)]
     is_right = isinstance(value, kind) and not (kind is int and isinstance(value, bool))
     return [] if is_right else [f"{where}: {value!r} is no {kind.__name__}"]
 
 
-def wrong_request(request):
+def wrong_request(request: dict[str, Any]) -> list[str]:
     """What is wrong with what the page asks."""
     do = request.get("do")
     return wrong_keys(request, REQUESTS[do][0], do, REQUEST) if do in REQUESTS else [f"{do} is not in the legend"]
 
 
-def wrong_answer(do, answer):
+def wrong_answer(do: str, answer: dict[str, Any]) -> list[str]:
     """What is wrong with the answer to such a request."""
     kind = next((one for key, one in (("mistake", Mistake), ("gone", Gone)) if key in answer), REQUESTS[do][1])
     return wrong_keys(answer, kind, f"the answer to {do}", ANSWER)
 
 
-def wrong_push(push):
+def wrong_push(push: dict[str, Any]) -> list[str]:
     """What is wrong with what the server says without being asked."""
     what = push["push"]
     return wrong_keys(push, PUSHES[what], what, PUSH) if what in PUSHES else [f"{what} is not in the legend"]
@@ -75,16 +75,17 @@ def wrong_push(push):
 class Listener:
     """Hears the messages of one page, and keeps what is wrong with them."""
 
-    def __init__(self, faults):
-        self.faults, self.asked = faults, {}
+    def __init__(self, faults: list[str]) -> None:
+        self.faults = faults
+        self.asked: dict[int, str] = {}
 
-    def sent(self, text):
+    def sent(self, text: str) -> None:
         if text.startswith("{"):  # else it is the page's key
             message = json.loads(text)
             self.asked[message["id"]] = message["do"]
             self.faults += wrong_request(message)
 
-    def received(self, text):
+    def received(self, text: str) -> None:
         message = json.loads(text or "{}")  # a ping is empty
         if "push" in message:
             self.faults += wrong_push(message)

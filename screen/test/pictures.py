@@ -7,15 +7,16 @@ import sys
 import tempfile
 import time
 
-sys.dont_write_bytecode = True
-sys.path.insert(0, os.path.dirname(os.path.abspath(__file__)))
-from browser import Browser  # noqa: E402
-from stage import LENGTH, NEXT, Screen, focus, logged, press  # noqa: E402
+if (SCREEN := os.path.dirname(os.path.dirname(os.path.abspath(__file__)))) not in sys.path:
+    sys.dont_write_bytecode = True
+    sys.path.insert(0, SCREEN)
+from browser import Browser
+from stage import LENGTH, NEXT, Screen, focus, logged, press
 
 TOP = os.path.dirname(os.path.dirname(os.path.dirname(os.path.abspath(__file__))))
 
 
-async def walk(program, to):
+async def walk(program: str, to: str) -> None:
     trace = os.path.join(TOP, "examples", "pdsh.std")
     async with Screen(program, trace, "log") as screen, Browser() as browser:
         page = await browser.page(screen.link, 1280, 760)
@@ -43,7 +44,7 @@ async def walk(program, to):
         print("faults of the page:", page.faults)
 
 
-async def main():
+async def main() -> None:
     program, to = os.path.abspath(sys.argv[1]), os.path.abspath(sys.argv[2] if len(sys.argv) > 2 else f"{TOP}/docs")
     with tempfile.TemporaryDirectory() as folder:
         os.chdir(folder)

@@ -1,14 +1,22 @@
 """What the tests need: a screen that is started, its socket, and what its page and its log have."""
 
+from __future__ import annotations
+
 import asyncio
+import contextlib
 import itertools
 import json
 import os
 import re
+from collections.abc import Callable
+from typing import Any, TypeVar
 
 import aiohttp
-
+import traces
+from browser import HEIGHT, WIDTH, Browser, Page
 from comparing import same, within
+
+T = TypeVar("T")
 
 SCREEN = os.path.join(os.path.dirname(os.path.dirname(os.path.abspath(__file__))), "screen")
 HEAD = 81
@@ -40,15 +48,16 @@ ORDER = (
 class Screen:
     """A process `screen`, its link and its port."""
 
-    def __init__(self, program, trace, log, *arguments):
+    def __init__(self, program: str, trace: str, log: str, *arguments: str) -> None:
         self.has_page = False
         self.arguments = ["/usr/bin/python3", SCREEN, trace, log, *arguments, "--program", program]
 
-    async def __aenter__(self):
+    async def __aenter__(self) -> Screen:
         pipe = asyncio.subprocess.PIPE
         self.process = await asyncio.create_subprocess_exec(
             *self.arguments, stdin=asyncio.subprocess.DEVNULL, stdout=pipe, stderr=pipe
         )
+        assert self.process.stdout and self.process.stderr
         self.errors = asyncio.ensure_future(self.process.stderr.read())  # so that it never waits for a reader
         try:
             self.link = (await within(PATIENCE, self.process.stdout.readline())).decode().strip()
@@ -58,10 +67,10 @@ class Screen:
         if not self.link:
             raise AssertionError((await self.errors).decode())
         self.base, self.ticket = self.link.split("/#")
-        self.port = int(re.search(r":(\d+)/", self.link)[1])
+        self.port = int(re.findall(r":(\d+)/", self.link)[0])
         return self
 
-    async def __aexit__(self, *_):
+    async def __aexit__(self, *_: object) -> None:
         if self.process.returncode is None:
             self.process.terminate()
         try:
@@ -74,7 +83,7 @@ class Screen:
             assert "bad request" not in errors and "Traceback" not in errors, errors
 
 
-async def keyed(client, screen, key):
+async def keyed(client: aiohttp.ClientSession, screen: Screen, key: str) -> aiohttp.ClientWebSocketResponse:
     """A socket that named the key. A slow machine may do so too late, and then tries again, as the page does."""
     while True:
         socket = await client.ws_connect(screen.base.replace("http", "ws") + "/ws", origin=screen.base, max_msg_size=0)
@@ -89,10 +98,10 @@ async def keyed(client, screen, key):
 class Socket:
     """The page's socket, without a page."""
 
-    def __init__(self, screen):
+    def __init__(self, screen: Screen) -> None:
         self.screen = screen
 
-    async def __aenter__(self):
+    async def __aenter__(self) -> Socket:
         self.client = aiohttp.ClientSession()
         origin = {"Origin": self.screen.base}
         answer = await self.client.post(self.screen.base + "/enter", data=self.screen.ticket.encode(), headers=origin)
@@ -101,19 +110,51 @@ class Socket:
         self.socket = await keyed(self.client, self.screen, self.key)
         return self
 
-    async def call(self, **request):
+    async def call(self, **request: object) -> dict[str, Any]:
+        """The answer to a request; screen_app/messages.py has its keys."""
         await self.socket.send_str(json.dumps({"id": 1, **request}))
         while True:
-            answer = json.loads((await self.socket.receive()).data)
+            answer: dict[str, Any] = json.loads((await self.socket.receive()).data)
             if answer.get("id") == 1:
                 return answer
 
-    async def __aexit__(self, *_):
+    async def __aexit__(self, *_: object) -> None:
         await self.socket.close()
         await self.client.close()
 
 
-async def comes(condition, seconds=PATIENCE):
+class Stage:
+    """What a test starts: screens, and pages of the browser that all tests share. They end with the test."""
+
+    def __init__(self, program: str) -> None:
+        self.program = program
+        self.exits = contextlib.AsyncExitStack()
+        self.browser: Browser | None = None
+
+    async def screen(self, *arguments: str, program: str | None = None) -> Screen:
+        """Starts a screen of the trace and the log that are in the folder of the test."""
+        return await self.exits.enter_async_context(Screen(program or self.program, "trace", "log", *arguments))
+
+    async def page(
+        self, link: str, width: int = WIDTH, height: int = HEIGHT, dark: bool = False, script: str = ""
+    ) -> Page:
+        """Opens a page, which runs the script before its own code."""
+        if self.browser is None:
+            self.browser = await self.exits.enter_async_context(Browser())
+        return await self.browser.page(link, width, height, dark, script)
+
+    async def opened(self, trace: str | None = None, *arguments: str, script: str = "") -> tuple[Screen, Page]:
+        """Writes a trace, unless it is there, starts a screen and opens its link."""
+        if trace is not None:
+            traces.write("trace", trace)
+        screen = await self.screen(*arguments)
+        return screen, await self.page(screen.link, script=script)
+
+    async def end(self) -> None:
+        await self.exits.aclose()
+
+
+async def comes(condition: Callable[[], T], seconds: int = PATIENCE) -> T:
     """Waits until a condition outside the page holds, and gives its value."""
     loop = asyncio.get_running_loop()
     end = loop.time() + seconds
@@ -123,7 +164,7 @@ async def comes(condition, seconds=PATIENCE):
     return got
 
 
-def logged():
+def logged() -> list[str]:
     """The calls in the log: its lines up to the first whose gate is closed. What a killed session left after that does
     not count, though each of its other lines has an open gate."""
     with open("log", "rb") as file:
@@ -131,16 +172,16 @@ def logged():
     return [line[1:].decode() for line in itertools.takewhile(lambda line: line.startswith(b" "), lines)]
 
 
-async def focus(page, name):
+async def focus(page: Page, name: str) -> None:
     await page.run(f"document.getElementById('{name}').focus()")
 
 
-def entries():
+def entries() -> int:
     """How many entries the log has; none before the program makes it."""
     return len(logged()) if os.path.exists("log") else 0
 
 
-async def settled(*pages):
+async def settled(*pages: Page) -> None:
     """Waits until each page shows the whole log, no step is under way, and no answer has to come.
 
     Another analyst's step reaches a page in parts: the length of a schedule, its rows and what may come next are drawn
@@ -150,7 +191,7 @@ async def settled(*pages):
         await page.until(lambda: SETTLED.format(entries=entries()), what="all entries, and no answer to come")
 
 
-async def press(page, *keys):
+async def press(page: Page, *keys: str) -> None:
     """Presses keys one after another, each on a page that is settled, and waits until all that they do is drawn."""
     for key in keys:
         await settled(page)
@@ -158,7 +199,7 @@ async def press(page, *keys):
     await settled(page)
 
 
-async def press_at_once(page, key, modifiers=0):
+async def press_at_once(page: Page, key: str, modifiers: int = 0) -> None:
     """Presses a key, though news or answers may have to come, and waits for the answer to it."""
     before = await page.run(SAYINGS)
     await page.key(key, modifiers)
@@ -172,7 +213,7 @@ async def press_at_once(page, key, modifiers=0):
         raise AssertionError(f"{why}; {pressed}") from why
 
 
-async def new(page, threads, name=None):
+async def new(page: Page, threads: int, name: str | None = None) -> None:
     """Makes a schedule by the key, and waits until it is open and this many threads have a next event."""
     await settled(page)
     await page.key("n")
@@ -186,7 +227,7 @@ async def new(page, threads, name=None):
     await focus(page, "next-list")
 
 
-def is_clean(page, screen):
+def is_clean(page: Page, screen: Screen) -> None:
     """Nothing went wrong in the page, and it asked nobody else for anything."""
     same(page.faults, [])
     own = (f"http://127.0.0.1:{screen.port}/", f"ws://127.0.0.1:{screen.port}/")

@@ -5,20 +5,26 @@ It is no test: it prints figures, with the load of the machine, and the goal bes
 processor time, which is printed too: that of screen, of the session, and of the page's main thread.
 """
 
+from __future__ import annotations
+
 import asyncio
 import os
 import statistics
 import sys
 import tempfile
 import time
+from collections.abc import Sequence
 
-sys.dont_write_bytecode = True
-sys.path.insert(0, os.path.dirname(os.path.abspath(__file__)))
-import traces  # noqa: E402
-from big_traces import batches  # noqa: E402
-from browser import Browser  # noqa: E402
-from two_analysts import children  # noqa: E402
-from stage import LENGTH, NEXT, TITLE, Screen, focus, new  # noqa: E402
+if (SCREEN := os.path.dirname(os.path.dirname(os.path.abspath(__file__)))) not in sys.path:
+    sys.dont_write_bytecode = True
+    sys.path.insert(0, SCREEN)
+import traces
+from browser import Browser, Page
+from sessions import batches, children
+from stage import LENGTH, NEXT, TITLE, Screen, focus, new
+
+# Seconds of processor time of screen, of its sessions and of the page's main thread.
+Times = tuple[float, float, float]
 
 # Notes each time that rows are drawn, and each key.
 WATCH = """window.drawn = []; window.pressed = [];
@@ -31,51 +37,53 @@ FREE = "[...document.querySelectorAll('.next.yes')].find((n) => n.dataset.t < 9)
 class Spent:
     """Processor time that screen, its sessions and a page spend from here on."""
 
-    def __init__(self, screen, page):
+    def __init__(self, screen: Screen, page: Page) -> None:
         self.screen, self.page = screen, page
 
-    async def __aenter__(self):
+    async def __aenter__(self) -> Spent:
         await self.page.call("Performance.setTimeDomain", timeDomain="threadTicks")
         await self.page.call("Performance.enable")
         self.before = await self._now()
         return self
 
-    async def __aexit__(self, *_):
+    async def __aexit__(self, *_: object) -> None:
         self.after = await self._now()
         await self.page.call("Performance.disable")
 
-    async def _now(self):
+    async def _now(self) -> Times:
         metrics = (await self.page.call("Performance.getMetrics"))["metrics"]
         tasks = sum(one["value"] for one in metrics if one["name"] == "TaskDuration")
-        return own(self.screen.process.pid), sum(map(own, children(self.screen.process))), tasks
+        sessions = sum(own(child) for child in children(self.screen.process))
+        return own(self.screen.process.pid), sessions, tasks
 
-    def a_key(self, count):
+    def a_key(self, count: int) -> str:
         screen, program, page = (1000 * (new - old) / count for old, new in zip(self.before, self.after))
         return f"processor time a key: screen {screen:.1f} ms, session {program:.1f} ms, page {page:.1f} ms"
 
 
-def fields(process):
+def fields(process: int) -> list[float]:
     """Seconds of processor time of a process, and of its children that have ended."""
     with open(f"/proc/{process}/stat", encoding="ascii", errors="replace") as file:
         ticks = [int(word) for word in file.read().rpartition(")")[2].split()[11:15]]
     return [sum(pair) / os.sysconf("SC_CLK_TCK") for pair in (ticks[:2], ticks[2:])]
 
 
-def own(process):
+def own(process: int) -> float:
     return fields(process)[0]
 
 
-def say(what, value, goal):
+def say(what: str, value: str, goal: str) -> None:
     print(f"{what}: {value} (goal: {goal})", flush=True)
 
 
-def of(times):
+def of(times: list[float]) -> str:
     return f"median {statistics.median(times):.0f} ms, most {max(times):.0f} ms"
 
 
-async def pressed(page, count, others=()):
+async def pressed(page: Page, count: int, others: Sequence[Page] = ()) -> tuple[list[float], list[float]]:
     """Presses keys that add; of each the times until it is drawn here, and at the others'."""
-    mine, away = [], []
+    mine: list[float] = []
+    away: list[float] = []
     for _ in range(count):
         for each in (page, *others):
             await each.run("window.drawn.length = window.pressed.length = 0")
@@ -90,7 +98,7 @@ async def pressed(page, count, others=()):
     return mine, away
 
 
-async def of_few_events(program):
+async def of_few_events(program: str) -> None:
     lines = [f"T3|w(a{number % 7})|x.c:{number}\nT4|w(b{number % 5})|y.c:{number}\n" for number in range(2000)]
     traces.write("trace", traces.COUNT + "".join(lines))
     async with Screen(program, "trace", "log") as one, Screen(
@@ -111,7 +119,7 @@ async def of_few_events(program):
         say("4,000 events: key to drawn in another's browser", of(away), "100 ms")
 
 
-async def of_a_million(program, trace):
+async def of_a_million(program: str, trace: str) -> None:
     if not os.path.exists(trace):
         traces.big(trace)
     if os.path.abspath(trace) != os.path.abspath("trace"):
@@ -124,8 +132,8 @@ async def of_a_million(program, trace):
         await page.open(screen.link)
         await page.until("document.getElementById('facts').textContent.startsWith('1,048,576')", 60)
         say("1,048,576 events: link to page", f"{time.monotonic() - began:.2f} s", "0.5 s")
-        mine, helpers = fields(screen.process.pid)
-        print(f"   processor time until then: screen {mine:.2f} s, its processes that read sections {helpers:.2f} s")
+        ours, helpers = fields(screen.process.pid)
+        print(f"   processor time until then: screen {ours:.2f} s, its processes that read sections {helpers:.2f} s")
         await new(page, 16)
         began = time.monotonic()
         await batches(program, 100_000)
@@ -143,8 +151,8 @@ async def of_a_million(program, trace):
         await of_a_witness(page, screen)
 
 
-async def scrolled(page):
-    times = []
+async def scrolled(page: Page) -> None:
+    times: list[float] = []
     for share in (0.1, 0.9, 0.5, 0.0, 0.73):
         await page.run(
             "window.drawn.length = 0; window.t0 = performance.now(); "
@@ -155,7 +163,7 @@ async def scrolled(page):
     say("100,000 events: far scroll to drawn", of(times), "none")
 
 
-async def memory(screen, what):
+async def memory(screen: Screen, what: str) -> None:
     with open(f"/proc/{screen.process.pid}/status", encoding="ascii") as file:
         kibibytes = sum(int(line.split()[1]) for line in file if line.startswith("VmRSS"))
     say(what, f"{kibibytes // 1024} MB", "300 MB")
@@ -168,7 +176,7 @@ LENGTHS = """(() => { const cards = [...document.querySelectorAll('.race')];
   return [at, lengths[at]]; })()"""
 
 
-async def of_a_witness(page, screen):
+async def of_a_witness(page: Page, screen: Screen) -> None:
     """Opens the race in sight that has the longest witness."""
     began = time.monotonic()
     await page.until("document.querySelectorAll('.race').length > 0", 900)
@@ -182,7 +190,7 @@ async def of_a_witness(page, screen):
     await memory(screen, "memory with it")
 
 
-async def of_a_long_witness(program):
+async def of_a_long_witness(program: str) -> None:
     """A race whose witness has a million events: it is looked at, and then worked on."""
     for path in ("trace", "log"):
         os.remove(path)
@@ -197,7 +205,7 @@ async def of_a_long_witness(program):
         await memory(screen, "memory with that")
 
 
-async def main():
+async def main() -> None:
     program = os.path.abspath(sys.argv[1])
     big = os.path.abspath(sys.argv[2]) if len(sys.argv) > 2 else "trace"
     with tempfile.TemporaryDirectory() as folder:

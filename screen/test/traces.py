@@ -20,6 +20,20 @@ T0|join(T1)|count.c:18
 T0|join(T2)|count.c:18
 T0|r(hits)|count.c:18
 """
+# Two races of a list that is filtered, and a pair that a lock keeps apart.
+SEVERAL = """T1|w(x)|one.c:1
+T1|acq(l)|one.c:2
+T1|w(guarded)|one.c:3
+T1|rel(l)|one.c:4
+T1|w(another_variable_of_a_long_name)|one.c:5
+T2|w(x)|two.c:5
+T2|r(another_variable_of_a_long_name)|two.c:1
+T2|acq(l)|two.c:2
+T2|w(guarded)|two.c:3
+T2|rel(l)|two.c:4
+"""
+# Events without any order between them, an event a thread.
+FREE = "".join(f"T{thread}|w(a{thread})|a:{thread}\n" for thread in range(8))
 
 HOSTILE = [
     "<script>window.hacked=1</script>",
@@ -37,12 +51,12 @@ HOSTILE = [
 ]
 
 
-def write(path, text):
+def write(path: str, text: str) -> None:
     with open(path, "w", encoding="utf-8") as file:
         file.write(text)
 
 
-def hostile(path):
+def hostile(path: str) -> None:
     lines = []
     for number, name in enumerate(HOSTILE):
         lines += [
@@ -59,21 +73,21 @@ def hostile(path):
 class Workers:
     """Threads that work under locks, read what they wrote, and now and then meet at a counter without one."""
 
-    def __init__(self, threads, seed):
+    def __init__(self, threads: int, seed: int) -> None:
         self.draw = random.Random(seed)
-        self.held = [None] * threads
-        self.taken = set()
-        self.lines = []
+        self.held: list[int | None] = [None] * threads
+        self.taken: set[int] = set()
+        self.lines: list[str] = []
 
-    def put(self, thread, operation, place):
+    def put(self, thread: int, operation: str, place: str) -> None:
         self.lines.append(f"T{thread}|{operation}|src/{place}")
 
-    def release(self, thread):
-        lock, self.held[thread] = self.held[thread], None
+    def release(self, thread: int, lock: int) -> None:
+        self.held[thread] = None
         self.taken.remove(lock)
         self.put(thread, f"rel(l{lock})", f"work.c:{200 + lock}")
 
-    def step(self, thread):
+    def step(self, thread: int) -> None:
         draw, lock, roll = self.draw, self.held[thread], self.draw.random()
         if lock is None and roll < 0.06:
             lock = draw.randrange(64)
@@ -82,7 +96,7 @@ class Workers:
                 self.held[thread] = lock
                 self.put(thread, f"acq(l{lock})", f"work.c:{100 + lock}")
         elif lock is not None and roll < 0.2:
-            self.release(thread)
+            self.release(thread, lock)
         elif lock is not None and roll < 0.6:
             self.put(thread, f"{draw.choice('rw')}(shared{lock})", f"work.c:{300 + lock}")
         elif roll > 0.9995:
@@ -91,7 +105,7 @@ class Workers:
             self.put(thread, f"{draw.choice('rrw')}(own{thread}_{draw.randrange(50)})", f"own.c:{draw.randrange(900)}")
 
 
-def big(path, events=1_048_576, threads=16, seed=1):
+def big(path: str, events: int = 1_048_576, threads: int = 16, seed: int = 1) -> None:
     made = Workers(threads, seed)
     while len(made.lines) < events - 2 * threads:
         thread = made.draw.randrange(threads)
@@ -99,13 +113,13 @@ def big(path, events=1_048_576, threads=16, seed=1):
             made.step(thread)
     for thread, lock in enumerate(made.held):
         if lock is not None:
-            made.release(thread)
+            made.release(thread, lock)
     while len(made.lines) < events:
         made.put(0, "w(own0_0)", "own.c:1")
     write(path, "\n".join(made.lines[:events]) + "\n")
 
 
-def long_witness(path, events=1_048_576):
+def long_witness(path: str, events: int = 1_048_576) -> None:
     """One race, at the end of the trace, whose schedule needs nearly all of it."""
     lines = [
         f"T{0 if at % 7 else 2}|{'w' if at % 3 else 'r'}(own{0 if at % 7 else 2}_{at % 50})|own.c:{at % 900}"
@@ -114,7 +128,7 @@ def long_witness(path, events=1_048_576):
     write(path, "\n".join([*lines, "T2|w(flag)|c.c:1", "T0|r(flag)|a.c:1", "T0|w(x)|a.c:2", "T1|w(x)|b.c:1"]) + "\n")
 
 
-def many_threads(path, threads=200):
+def many_threads(path: str, threads: int = 200) -> None:
     lines = [f"T0|fork(W{number})|main.c:{number % 50}" for number in range(threads)]
     for number in range(threads):
         lines += [f"W{number}|{operation}|w.c:1" for operation in ("acq(m)", "w(x)", "rel(m)", "w(y)")]

@@ -1,0 +1,151 @@
+"""An aim that can't be reached any more: steps stop before that, and the page says so and leads back."""
+
+import random
+from array import array
+from collections.abc import Iterable
+
+import traces
+from browser import Page
+from comparing import same
+from screen_app.reach import Aim, State, loss_of, reach_of, state_of
+from screen_app.trace import Trace
+from stage import LENGTH, SAID, Stage, is_clean, logged, press
+
+
+def drawn(draw: random.Random, path: str) -> Trace:
+    """A small trace of threads that take two locks and access two variables."""
+    held: dict[str, int] = {}
+    lines: list[str] = []
+    for _ in range(draw.randrange(6, 14)):
+        thread, roll = draw.randrange(3), draw.random()
+        mine = [lock for lock, holder in held.items() if holder == thread]
+        lock = draw.choice("LM")
+        if roll < 0.2 and lock not in held:
+            held[lock] = thread
+            lines.append(f"T{thread}|acq({lock})|{len(lines)}\n")
+        elif 0.2 <= roll < 0.4 and mine:
+            del held[mine[0]]
+            lines.append(f"T{thread}|rel({mine[0]})|{len(lines)}\n")
+        elif roll >= 0.4:
+            lines.append(f"T{thread}|{draw.choice('rw')}({draw.choice('xy')})|{len(lines)}\n")
+    traces.write(path, "".join(lines))
+    return Trace(path).read_at_once()
+
+
+def extensions(trace: Trace, pair: tuple[int, int], start: Iterable[int]) -> tuple[int, ...] | None:
+    """The shortest way from a schedule to one that shows the pair, over all orders; None if no way leads there."""
+    seen, waiting = set(), [tuple(start)]
+    while waiting:
+        events = waiting.pop()
+        state = state_of(trace, events)
+        key = tuple(state.counts), tuple(sorted(state.last.items()))
+        if key in seen:
+            continue
+        seen.add(key)
+        heads = [own[count] for own, count in zip(trace.events_of, state.counts) if count < len(own)]
+        if set(pair) <= set(heads):
+            return events
+        waiting += [(*events, event) for event in heads if state.may_add(event)]
+    return None
+
+
+def judge(aim: Aim, events: "array[int]", met: dict[str, int]) -> None:
+    """Compares the page's claim about a schedule with all its extensions."""
+    is_in_reach = extensions(aim.trace, aim.pair, events) is not None
+    bar, found = aim.bar(state_of(aim.trace, events)), aim.completes(state_of(aim.trace, events))
+    assert not (bar and is_in_reach), (list(events), aim.pair, bar)
+    assert not found or is_in_reach, (list(events), aim.pair)
+    met["in reach" if is_in_reach else "out of reach"] += 1
+    met["found"] += bool(found)
+    loss = loss_of(aim, events)
+    if not is_in_reach and bar:
+        met["named"] += 1
+        assert loss is not None, (list(events), aim.pair, bar)
+        assert extensions(aim.trace, aim.pair, events[: loss.length]) is not None, (list(events), aim.pair, loss)
+
+
+def judge_runs(aim: Aim, events: "array[int]", met: dict[str, int]) -> None:
+    """A run that a bar stops would have left the reach with its next event."""
+    trace = aim.trace
+    for thread, own in enumerate(trace.events_of):
+        done = state_of(trace, events).counts[thread]
+        count, bar, is_searched = reach_of(aim, events, thread, len(own))
+        if not bar or is_searched:
+            continue
+        state, run = state_of(trace, events), list(own[done : done + count + 1])
+        added = list(run)
+        while added and state.may_add(added[0]):
+            state.add(added.pop(0))
+        if not added:
+            met["stopped"] += 1
+            assert extensions(trace, aim.pair, [*events, *run]) is None, (list(events), aim.pair, thread, bar)
+
+
+def wandered(draw: random.Random, trace: Trace, pair: tuple[int, int]) -> "array[int]":
+    """A schedule by chance that has none of the pair."""
+    state, events = State(trace), []
+    for _ in range(draw.randrange(len(trace) + 1)):
+        heads = [own[count] for own, count in zip(trace.events_of, state.counts) if count < len(own)]
+        free = [event for event in heads if event not in pair and state.may_add(event)]
+        if not free:
+            break
+        events.append(draw.choice(free))
+        state.add(events[-1])
+    return array("I", events)
+
+
+def test_what_is_out_of_reach_by_all_orders() -> None:
+    """A bar is never wrong, a search that comes through is never wrong, and a loss names a length that is in reach."""
+    draw, met = random.Random(20261129), {"in reach": 0, "found": 0, "out of reach": 0, "named": 0, "stopped": 0}
+    for _ in range(600):
+        trace = drawn(draw, "trace")
+        pairs = [(a, b) for b in range(len(trace)) for a in range(b) if trace.conflict(a, b)]
+        for pair in draw.sample(pairs, min(2, len(pairs))):
+            witness = extensions(trace, pair, ())
+            if witness is None:
+                continue
+            aim, events = Aim(trace, pair, witness), wandered(draw, trace, pair)
+            judge(aim, events, met)
+            judge_runs(aim, events, met)
+    assert min(met.values()) > 20, met
+    assert met["found"] > 0.95 * met["in reach"] and met["named"] > 0.9 * met["out of reach"], met
+
+
+# T1 has to read x before T0 writes it again. The pair is 4 and 5.
+OVERWRITTEN = "T0|fork(T1)|a:0\nT0|w(x)|a:1\nT1|r(x)|b:1\nT0|w(x)|a:2\nT0|w(y)|a:3\nT1|w(y)|b:2\n"
+PAIR = "document.getElementById('pair').textContent"
+
+
+async def open_aim(page: Page) -> None:
+    """Opens the race of y; those of x are above it."""
+    await page.until("document.querySelectorAll('.race').length === 3")
+    await page.click(".race", 2)
+    await page.until(f"{PAIR}.startsWith('Both are nextT0 4 w y')")
+
+
+async def test_a_run_to_the_aim_stops_in_time(stage: Stage) -> None:
+    screen, page = await stage.opened(OVERWRITTEN)
+    await open_aim(page)
+    await press(page, "e", "t")
+    assert "stopped before 3" in await page.run(SAID), await page.run(SAID)
+    assert "the aim needs 2 T1 r x first" in await page.run(SAID), await page.run(SAID)
+    same(await page.run(LENGTH), "2 events")
+    await page.key("2")
+    await page.until(f"{LENGTH} === '3 events'")
+    await page.key("1")
+    await page.until(f"{LENGTH} === '4 events' && {PAIR}.startsWith('Aim: side by side')")
+    is_clean(page, screen)
+
+
+async def test_a_dead_end_has_a_way_back(stage: Stage) -> None:
+    screen, page = await stage.opened(OVERWRITTEN)
+    await open_aim(page)
+    await press(page, "e", "1", "1", "1")
+    await page.until(f'{PAIR}.startsWith("The aim can\'t be reached any more")')
+    assert "it needs 2 T1 r x, which can't come after 3 T0 w x" in await page.run(PAIR), await page.run(PAIR)
+    await page.click("#pair button")
+    await page.until(f"{LENGTH} === '2 events' && {PAIR}.startsWith('Side by side')")
+    same(logged()[-1], "1 back r4-5")
+    await press(page, "2", "1")
+    await page.until(f"{PAIR}.startsWith('Aim: side by side')")
+    is_clean(page, screen)
