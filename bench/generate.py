@@ -5,9 +5,10 @@ import argparse
 import os
 import random
 import subprocess
+from collections.abc import Callable, Iterable, Sequence
 
 
-def read_options():
+def read_options() -> argparse.Namespace:
     parser = argparse.ArgumentParser(description=__doc__)
     parser.add_argument("folder", metavar="FOLDER", help="where the inputs go")
     parser.add_argument(
@@ -19,10 +20,10 @@ def read_options():
     return options
 
 
-DIVISOR = read_options().divisor if __name__ == "__main__" else 1
+DIVISOR: int = read_options().divisor if __name__ == "__main__" else 1
 
 
-def sized(count):
+def sized(count: int) -> int:
     return max(count // DIVISOR, 1)
 
 
@@ -31,10 +32,10 @@ EVENTS = sized(65_536)
 MOST_EVENTS = sized(1_048_576)
 
 
-def locked_trace(events, threads, location, seed):
+def locked_trace(events: int, threads: int, location: Callable[[int], str], seed: int) -> list[str]:
     """Blocks of four events: a thread takes a lock, writes and reads a variable, lets the lock go."""
     pick = random.Random(seed)
-    lines = []
+    lines: list[str] = []
     while len(lines) + 4 <= events:
         t, l, x = pick.randrange(threads), pick.randrange(16), pick.randrange(256)
         for op in (f"acq(L{l})", f"w(V{x})", f"r(V{x})", f"rel(L{l})"):
@@ -42,10 +43,10 @@ def locked_trace(events, threads, location, seed):
     return lines
 
 
-def guarded_trace(events, threads, seed):
+def guarded_trace(events: int, threads: int, seed: int) -> list[str]:
     """Blocks of four events, each access under the lock of its variable: 1,000 variables, 100 locks. No candidate."""
     pick = random.Random(seed)
-    lines = []
+    lines: list[str] = []
     while len(lines) + 4 <= events:
         t, x = pick.randrange(threads), pick.randrange(1_000)
         for op in (f"acq(L{x % 100})", f"r(V{x})", f"w(V{x})", f"rel(L{x % 100})"):
@@ -53,7 +54,7 @@ def guarded_trace(events, threads, seed):
     return lines
 
 
-def loose_trace(events, threads, seed):
+def loose_trace(events: int, threads: int, seed: int) -> list[str]:
     """The same, and at the end T0 and T1 take each lock once and then no more: T0 writes 999 of the variables, and T1
     reads them. One candidate each, the last two accesses of the variable."""
     end = [f"T{t}|{op}(L{lock})|end" for t in (0, 1) for lock in range(100) for op in ("acq", "rel")]
@@ -62,26 +63,26 @@ def loose_trace(events, threads, seed):
     return guarded_trace(max(events - len(end), 0), threads, seed) + end
 
 
-def named_trace(events, threads, names):
+def named_trace(events: int, threads: int, names: list[str]) -> list[str]:
     return [f"T{i % threads}|w({names[i % len(names)]})|{i}" for i in range(events)]
 
 
-def short(i):
+def short(i: int) -> str:
     return str(i % 1000)
 
 
-def long(i):
+def long(i: int) -> str:
     return f"org.example.project.module{i % 97}.ClassWithALongName.method{i % 13}(SourceFile.java:{i % 5000})"
 
 
-def nested(events):
+def nested(events: int) -> list[str]:
     """One thread takes one lock again and again, and then lets it go as often."""
     return [f"T0|acq(L)|{i}" for i in range(events // 2)] + [f"T0|rel(L)|{i}" for i in range(events // 2)]
 
 
-def ordered_by_a_lock(events, threads):
+def ordered_by_a_lock(events: int, threads: int) -> list[str]:
     """Every access of the one variable is ordered by a lock: no candidate at all."""
-    lines = []
+    lines: list[str] = []
     i = 0
     while len(lines) + 3 <= events:
         t = i % threads
@@ -90,22 +91,22 @@ def ordered_by_a_lock(events, threads):
     return lines
 
 
-def unordered(events, threads):
+def unordered(events: int, threads: int) -> list[str]:
     """No lock and no fork: nothing orders the accesses of two threads."""
     return [f"T{i % threads}|w(V{i % 509})|1" for i in range(events)]
 
 
-def one_variable(events, threads):
+def one_variable(events: int, threads: int) -> list[str]:
     """All accesses are of one variable, and nothing orders those of two threads."""
     return [f"T{i % threads}|w(x)|1" for i in range(events)]
 
 
-def readers(events, threads):
+def readers(events: int, threads: int) -> list[str]:
     """Each thread reads one variable again and again; nothing writes it, so that no two accesses conflict."""
     return [f"T{i % threads}|r(x)|1" for i in range(events)]
 
 
-def colliding_names(folder, count):
+def colliding_names(folder: str, count: int) -> list[str]:
     """Names whose SipHash-1-3 under zero keys agrees in its low 11 bits, so that a table which hashed names without a
     separate key would put them into few places."""
     here = os.path.dirname(os.path.abspath(__file__))
@@ -115,7 +116,7 @@ def colliding_names(folder, count):
     return text.split()
 
 
-def colliding_classes(folder, events):
+def colliding_classes(folder: str, events: int) -> list[str]:
     """Reads of many variables at many places, whose pairs of numbers collide if they are hashed without a key."""
     here = os.path.dirname(os.path.abspath(__file__))
     tool = os.path.join(folder, "collide_pairs")
@@ -125,18 +126,18 @@ def colliding_classes(folder, events):
     return text.splitlines()
 
 
-def write(folder, name, lines, script=()):
+def write(folder: str, name: str, lines: list[str], script: Sequence[str] = ()) -> None:
     with open(os.path.join(folder, name), "w", encoding="ascii") as out:
         out.write("".join(line + "\n" for line in lines))
         out.write("---\n" + "".join(line + "\n" for line in script))
 
 
-def write_trace(folder, name, lines):
+def write_trace(folder: str, name: str, lines: list[str]) -> None:
     with open(os.path.join(folder, name), "w", encoding="ascii") as out:
         out.write("".join(line + "\n" for line in lines))
 
 
-def write_traces(folder):
+def write_traces(folder: str) -> None:
     """Traces alone, for `info`: how it grows with the events and the threads, with many candidates for races, with
     none, and with one event that has many partners in other threads."""
     os.makedirs(folder, exist_ok=True)
@@ -156,10 +157,10 @@ def write_traces(folder):
     write_trace(folder, f"many_names_{EVENTS}", named_trace(EVENTS, 64, [f"variable_{i}" for i in range(EVENTS)]))
 
 
-def guarded_places(events, threads):
+def guarded_places(events: int, threads: int) -> list[str]:
     """Two accesses of a lock's variable under the lock, again and again, by threads drawn by chance, at 200 places."""
     chance = random.Random(6)
-    lines = []
+    lines: list[str] = []
     while len(lines) + 4 <= events:
         thread, lock = chance.randrange(threads), chance.randrange(64)
         accesses = [f"T{thread}|{chance.choice('rw')}(x{lock})|p{chance.randrange(200)}" for _ in range(2)]
@@ -167,7 +168,7 @@ def guarded_places(events, threads):
     return lines
 
 
-def free_places(events, threads):
+def free_places(events: int, threads: int) -> list[str]:
     """Accesses of 1,000 variables at 200 places, one in twenty a write, that nothing orders."""
     chance = random.Random(7)
     kinds = "r" * 19 + "w"
@@ -177,7 +178,7 @@ def free_places(events, threads):
     ]
 
 
-def shared_places(events, threads):
+def shared_places(events: int, threads: int) -> list[str]:
     """Reads and writes of 256 variables at 200 places, under no lock: nearly all pairs are forced, since most reads
     see another thread's write."""
     chance = random.Random(9)
@@ -187,11 +188,11 @@ def shared_places(events, threads):
     ]
 
 
-def scattered_places(events, threads):
+def scattered_places(events: int, threads: int) -> list[str]:
     """Sections of 64 locks, each with four accesses of any of 4,096 variables: nearly each access is of a class of its
     own."""
     chance = random.Random(10)
-    lines = []
+    lines: list[str] = []
     while len(lines) + 6 <= events:
         thread, lock = chance.randrange(threads), chance.randrange(64)
         accesses = [
@@ -201,10 +202,10 @@ def scattered_places(events, threads):
     return lines
 
 
-def scattered_widely(events, threads):
+def scattered_widely(events: int, threads: int) -> list[str]:
     """The same at 1,400 places, so that nearly each open pair is of other places than the others."""
     chance = random.Random(12)
-    lines = []
+    lines: list[str] = []
     while len(lines) + 6 <= events:
         thread, lock = chance.randrange(threads), chance.randrange(64)
         accesses = [
@@ -214,12 +215,12 @@ def scattered_widely(events, threads):
     return lines
 
 
-def own_locks(events, threads):
+def own_locks(events: int, threads: int) -> list[str]:
     """Each thread takes one of its 16 locks before each write of one variable, or lets it go: nearly each write
     is under other locks."""
     chance = random.Random(11)
-    held = [set() for _ in range(threads)]
-    lines = []
+    held: list[set[int]] = [set() for _ in range(threads)]
+    lines: list[str] = []
     while len(lines) + 2 <= events:
         thread, lock = chance.randrange(threads), chance.randrange(16)
         word = "rel" if lock in held[thread] else "acq"
@@ -228,7 +229,7 @@ def own_locks(events, threads):
     return lines
 
 
-def nested_locks(events):
+def nested_locks(events: int) -> list[str]:
     """One thread takes a fourth of the events' number of locks, which another took before, and then writes in turn
     with it."""
     locks = range(events // 4)
@@ -237,7 +238,7 @@ def nested_locks(events):
     return lines + ["T1|w(x)|q", "T0|w(x)|r"] * ((events - len(lines)) // 2)
 
 
-def compared_locks(held, written):
+def compared_locks(held: int, written: int) -> list[str]:
     """Two threads hold this many locks each, and write one variable at this many places each; half of the pairs are
     ordered."""
     locks = [[f"{side}{lock}" for lock in range(held)] for side in "ab"]
@@ -250,26 +251,26 @@ def compared_locks(held, written):
     )
 
 
-def sent_to_all(events, threads):
+def sent_to_all(events: int, threads: int) -> list[str]:
     """One thread writes a variable, and then all others read it, again and again: each event learns something."""
-    lines = []
+    lines: list[str] = []
     while len(lines) + threads <= events:
         lines += ["T0|w(x)|w", *(f"T{thread}|r(x)|r{thread}" for thread in range(1, threads))]
     return lines
 
 
-def crowded_places(events, threads):
+def crowded_places(events: int, threads: int) -> list[str]:
     """Reads and writes of one variable at 1,400 places."""
     chance = random.Random(8)
     return [f"T{chance.randrange(threads)}|{chance.choice('rw')}(x)|p{chance.randrange(1_400)}" for _ in range(events)]
 
 
-def one_writing_place(events):
+def one_writing_place(events: int) -> list[str]:
     """One thread writes at one place, another reads each time at a new one."""
     return [line for i in range(events // 2) for line in ("T0|w(x)|w", f"T1|r(x)|r{i}")]
 
 
-def write_places(folder):
+def write_places(folder: str) -> None:
     os.makedirs(folder)
     for events, threads in ((EVENTS, 16), (MOST_EVENTS, 16), (MOST_EVENTS, 256)):
         write_trace(folder, f"guarded_{threads}_{events}", guarded_places(events, threads))
@@ -289,7 +290,7 @@ def write_places(folder):
     write_trace(folder, f"written_everywhere_{sized(40_000)}", [f"T0|w(x)|p{i}" for i in range(sized(40_000))])
 
 
-def last_pair(lines):
+def last_pair(lines: list[str]) -> tuple[int, int]:
     """The last event that writes what another thread has written, and the first such write."""
     fields = [line.split("|") for line in lines]
     for last in range(len(fields) - 1, -1, -1):
@@ -301,7 +302,7 @@ def last_pair(lines):
     return 0, 0
 
 
-def write_pairs(folder):
+def write_pairs(folder: str) -> None:
     """Traces, each with a pair of its events that lie far apart, for `explain`."""
     os.makedirs(folder, exist_ok=True)
     for threads, events in ((4, EVENTS), (16, EVENTS), (16, MOST_EVENTS)):
@@ -310,7 +311,7 @@ def write_pairs(folder):
         write_trace(folder, f"locked_{threads}_{events}_{first}_{last}", lines)
 
 
-def interleaved(clients, rounds):
+def interleaved(clients: int, rounds: int) -> list[str]:
     """Each client makes its own schedule, and the clients in turn add to it and take the event off again."""
     calls = [f"{c} new S{c}" for c in range(1, clients + 1)]
     for i in range(rounds):
@@ -319,11 +320,11 @@ def interleaved(clients, rounds):
     return calls
 
 
-def dropped(rows, order):
+def dropped(rows: int, order: Iterable[int]) -> list[str]:
     return [f"1 new S{i}" for i in range(rows)] + [f"1 drop S{i}" for i in order]
 
 
-def write_refused(folder):
+def write_refused(folder: str) -> None:
     """Scripts whose last line is refused, so that they are read whole and no call is made: how long the reading
     takes."""
     end = ["0 list"]
@@ -335,7 +336,7 @@ def write_refused(folder):
         write(folder, f"read_propose_{lines}", ["T1|w(x)|1"], [f"1 propose 0 1 {listed}"] * lines + end)
 
 
-def write_proposals(folder):
+def write_proposals(folder: str) -> None:
     """Proposals of many events: one that is adopted and taken back again and again, and one made anew each time."""
     for events in (sized(1_000), sized(10_000)):
         listed = " ".join(str(i) for i in range(events))
@@ -345,7 +346,7 @@ def write_proposals(folder):
         write(folder, f"replay_propose_{events}", trace, [propose] * sized(500))
 
 
-def write_edits(folder):
+def write_edits(folder: str) -> None:
     """The last event of a long schedule taken off and appended again, and two neighbours exchanged again and again, at
     the end of the schedule and in its middle; and schedules without an event over a trace of as many variables as
     events.
@@ -368,7 +369,7 @@ def write_edits(folder):
         )
 
 
-def write_batches(folder):
+def write_batches(folder: str) -> None:
     """Batches of 8 commands, each made and taken back, and the same commands singly; these fill the log, so there are
     half as many."""
     trace = [f"T1|w(V{i})|1" for i in range(8)]
@@ -380,7 +381,7 @@ def write_batches(folder):
     write(folder, f"replay_singly_{sized(50_000)}", trace, singly * sized(50_000))
 
 
-def write_scripts(folder):
+def write_scripts(folder: str) -> None:
     """Scripts on a bench, each at two sizes, so that one sees how the cost grows."""
     writes = ["T1|w(x)|1"] * EVENTS
     write(
@@ -405,14 +406,14 @@ def write_scripts(folder):
         write(folder, f"replay_drop_shuffled_{rows}", ["T1|w(x)|1"], dropped(rows, shuffled))
 
 
-def seat_calls(client, row, calls):
+def seat_calls(client: int, row: int, calls: int) -> list[str]:
     """A client's calls that append an event to a schedule and take it off again, in turn."""
     begin = [f"{client} new S{row}"] if client == row else [f"{client} list"]
     turns = [f"{client} add S{row} 0", f"{client} back S{row}"] * (calls // 2)
     return (begin + turns)[:calls]
 
 
-def write_seats(folder):
+def write_seats(folder: str) -> None:
     """Scripts for threads: of each client on its own schedule, and of all clients on one; and the same calls by
     one client alone, in turn."""
     os.makedirs(folder, exist_ok=True)
@@ -426,7 +427,7 @@ def write_seats(folder):
             write_trace(folder, f"{rows}_{clients}_in_turn", in_turn)
 
 
-def write_sessions(folder):
+def write_sessions(folder: str) -> None:
     """Scripts for sessions, each line of which adds an entry to the log."""
     os.makedirs(folder, exist_ok=True)
     write_trace(folder, "trace", ["T1|w(x)|1"])
@@ -434,7 +435,7 @@ def write_sessions(folder):
         write_trace(folder, f"new_and_undo_{entries}", ["1 new A", "1 undo"] * (entries // 2))
 
 
-def main():
+def main() -> None:
     folder = read_options().folder
     os.makedirs(folder, exist_ok=True)
     write_traces(os.path.join(folder, "info"))

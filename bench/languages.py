@@ -5,7 +5,8 @@ import os
 import pathlib
 import shutil
 import sys
-from collections import namedtuple
+from collections.abc import Callable, Mapping, Sequence
+from typing import IO, NamedTuple, Protocol
 
 TOP = pathlib.Path(__file__).resolve().parent.parent
 LOADS, RECORD = TOP / "bench" / "loads", TOP / "record"
@@ -18,8 +19,17 @@ import running
 from golang import recording
 from rustlang import building
 
-# A load: its language, its small size, the size of the aims, and the aim.
-Load = namedtuple("Load", "language small full aim unit")
+
+class Load(NamedTuple):
+    """A load: its language, its small size, the size of the aims, and the aim."""
+
+    language: str
+    small: int
+    full: int
+    aim: int
+    unit: str
+
+
 SIZES = {
     "words": Load("go", 1, 20, 2, "times -race"),
     "mergesort": Load("java", 500, 200_000, 20, "times plain"),
@@ -30,11 +40,31 @@ SIZES = {
 # The bytes of a record of a Go program and of a Java program.
 RECORD_SIZE = 16
 HEADS = ("plain", "detector", "recorded", "and decoded", "records", "figure", "aim")
-# How a load is run. `records_of` counts the records of a file.
-Ways = namedtuple("Ways", "plain detector recorded more file whole records_of")
 
 
-def go_ways(name, size, measured):
+class Ways(NamedTuple):
+    """How a load is run: commands, and what is added to their environment."""
+
+    plain: tuple[list[str], dict[str, str]]
+    detector: tuple[list[str], dict[str, str]] | None
+    recorded: list[str]
+    more: dict[str, str]
+    file: str
+    whole: list[str]
+    # Counts the records of a file.
+    records_of: Callable[[str], int]
+
+
+class Measured(Protocol):
+    """Runs a command, and returns its processor seconds and what it writes on standard error."""
+
+    def __call__(
+        self, command: list[str], statuses: Sequence[int] = (0,), out: IO[bytes] | None = None
+    ) -> tuple[float, str]:
+        ...
+
+
+def go_ways(name: str, size: str, measured: Measured) -> Ways:
     source = str(LOADS / f"{name}.go")
     measured(["go", "build", "-o", "plain", source])
     measured(["go", "build", "-race", "-o", "watched", source])
@@ -45,7 +75,7 @@ def go_ways(name, size, measured):
     more = {key: value for key, value in ours.items() if os.environ.get(key) != value}
     one = {"GOMAXPROCS": "1"}
 
-    def records_of(path):
+    def records_of(path: str) -> int:
         with open(path, "rb") as file:
             return recording.head_of(file)[recording.APPENDED] // RECORD_SIZE
 
@@ -55,19 +85,19 @@ def go_ways(name, size, measured):
     )
 
 
-def java_ways(name, size, measured):
+def java_ways(name: str, size: str, measured: Measured) -> Ways:
     measured(["javac", "-g", "-nowarn", "-d", ".", str(JAVA_LOADS)])
     words, log = ["-cp", ".", "Classics", name, size], os.path.abspath("records")
     agent = f"-javaagent:{java_agent.jar_path('.')}=raw={log},seed=1"
     whole = [str(RECORD / "java"), "--partial", *words]
 
-    def records_of(path):
+    def records_of(path: str) -> int:
         return os.path.getsize(path) // RECORD_SIZE
 
     return Ways((["java", *words], {}), None, ["java", agent, *words], {}, log, whole, records_of)
 
 
-def rust_ways(name, size, measured):
+def rust_ways(name: str, size: str, measured: Measured) -> Ways:
     rust = building.found()
     source, flags = str(LOADS / f"{name}.rs"), ["--edition", "2021", "-Copt-level=1", "-g"]
     measured([rust.rustc, *flags, source, "-o", "plain"])
@@ -76,9 +106,9 @@ def rust_ways(name, size, measured):
     ours = running.environment(log, 1, 40, printing.MOST_ROOM)
     more = {key: value for key, value in ours.items() if os.environ.get(key) != value}
 
-    def records_of(path):
+    def records_of(path: str) -> int:
         with open(path, "rb") as file:
-            return raw.numbers_of(file).kept
+            return int(raw.numbers_of(file).kept)
 
     whole = [str(RECORD / "run"), "--partial", "./recorded", size]
     return Ways((["./plain", size], {}), None, ["./recorded", size], more, log, whole, records_of)
@@ -87,7 +117,9 @@ def rust_ways(name, size, measured):
 WAYS = {"go": go_ways, "java": java_ways, "rust": rust_ways}
 
 
-def least(measured, runs, command, more, file=None):
+def least(
+    measured: Measured, runs: int, command: list[str], more: Mapping[str, str], file: str | None = None
+) -> float:
     """The least processor seconds of several runs; each begins with an empty file of records."""
     found = []
     for _ in range(runs):
@@ -98,13 +130,14 @@ def least(measured, runs, command, more, file=None):
     return min(found)
 
 
-def figure_of(load, plain, detector, recorded, records):
+def figure_of(load: Load, plain: float, detector: float | None, recorded: float, records: int) -> float:
     if load.unit == "times -race":
+        assert detector is not None
         return recorded / detector
     return recorded / plain if load.unit == "times plain" else 1e9 * (recorded - plain) / records
 
 
-def row_of(name, size, runs, measured):
+def row_of(name: str, size: int, runs: int, measured: Measured) -> str:
     """The line of a load."""
     load = SIZES[name]
     ways = WAYS[load.language](name, str(size), measured)
@@ -121,11 +154,11 @@ def row_of(name, size, runs, measured):
     return f"{f'{name} {size}':18}" + "".join([*seconds, *texts])
 
 
-def heads():
+def heads() -> str:
     return f"{'load':18}" + "".join(f"{head:>12}" for head in HEADS)
 
 
-def why_left_out(name):
+def why_left_out(name: str) -> str:
     """Why a load can't be measured here, in words; empty if it can."""
     language = SIZES[name].language
     for program in {"go": ["go"], "java": ["java", "javac"]}.get(language, []):

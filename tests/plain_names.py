@@ -12,7 +12,7 @@ FORMS = [
 ]
 
 
-def without_number(name):
+def without_number(name: str) -> str:
     for form in FORMS:
         found = form.fullmatch(name)
         if found:

@@ -4,6 +4,7 @@ import resource
 import subprocess
 import sys
 import time
+from typing import IO
 
 # A block of this many events comes again and again. One lock is held all the time.
 BLOCK = 1_000
@@ -11,9 +12,9 @@ RACES = 10
 EVENTS = 20_000_000
 
 
-def block():
+def block() -> list[str]:
     """The lines of a block: ten races, and accesses under a lock."""
-    lines = []
+    lines: list[str] = []
     for race in range(RACES):
         lines += [f"T1|w(x{race})|one.c:{race}", f"T2|w(x{race})|two.c:{race}"]
     at = 0
@@ -29,22 +30,24 @@ def block():
     return lines
 
 
-def wanted(events):
+def wanted(events: int) -> set[tuple[str, str]]:
     """The races that the trace has, as pairs of locations."""
     return {(f"one.c:{race}", f"two.c:{race}") for race in range(RACES)} if events >= BLOCK else set()
 
 
-def races_in(text):
+def races_in(text: str) -> set[tuple[str, str]]:
     """The races of a report, as pairs of locations."""
-    lines, found = text.splitlines(), set()
+    lines = text.splitlines()
+    found: set[tuple[str, str]] = set()
     for at, line in enumerate(lines):
         if line.startswith("race "):
             accesses = [line for line in lines[at + 1 : at + 9] if line.startswith("  ") and line[2] != " "]
-            found.add(tuple(sorted(line.rsplit("|", 1)[1] for line in accesses[:2])))
+            first, second = sorted(line.rsplit("|", 1)[1] for line in accesses[:2])
+            found.add((first, second))
     return found
 
 
-def feed(out, blocks):
+def feed(out: IO[bytes], blocks: int) -> None:
     """Writes the trace: a lock that is held all the time, and the blocks."""
     text = ("".join(f"{line}\n" for line in block())).encode()
     out.write(b"T0|acq(outer)|main.c:1\n")
@@ -53,13 +56,14 @@ def feed(out, blocks):
     out.close()
 
 
-def run(program, events, arguments):
+def run(program: str, events: int, arguments: list[str]) -> str | None:
     """Judges a trace of about this many events; answers what is wrong, if anything is, and prints time and memory."""
     blocks, size = events // BLOCK, len(block())
     begun = time.monotonic()
     with subprocess.Popen(
         [program, "triage", "-", *arguments], stdin=subprocess.PIPE, stdout=subprocess.PIPE
     ) as running:
+        assert running.stdin and running.stdout
         pid = running.pid
         feed(running.stdin, blocks)
         out = running.stdout.read().decode()
