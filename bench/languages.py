@@ -8,16 +8,17 @@ import sys
 from collections.abc import Callable, Mapping, Sequence
 from typing import IO, NamedTuple, Protocol
 
-TOP = pathlib.Path(__file__).resolve().parent.parent
-LOADS, RECORD = TOP / "bench" / "loads", TOP / "record"
-JAVA_LOADS = TOP / "tests" / "recorded" / "java" / "Classics.java"
-sys.path.append(str(RECORD))
+if (RECORD := pathlib.Path(__file__).resolve().parent.parent / "record").is_dir():
+    sys.path.append(str(RECORD))
 import java_agent
 import printing
 import raw
 import running
 from golang import recording
 from rustlang import building
+
+LOADS = RECORD.parent / "bench" / "loads"
+JAVA_LOADS = RECORD.parent / "tests" / "recorded" / "java" / "Classics.java"
 
 
 class Load(NamedTuple):

@@ -13,7 +13,8 @@ something that must be seen was never met.
 import random
 import sys
 
-sys.dont_write_bytecode = True
+if __name__ == "__main__":
+    sys.dont_write_bytecode = True
 import by_chance
 import judging
 import plain

@@ -13,7 +13,8 @@ import random
 import sys
 from collections import Counter
 
-sys.dont_write_bytecode = True
+if __name__ == "__main__":
+    sys.dont_write_bytecode = True
 import deadlocked
 import judging
 import running

@@ -17,7 +17,8 @@ Says what is wrong, if something is, and ends with status 1 then.
 import random
 import sys
 
-sys.dont_write_bytecode = True
+if __name__ == "__main__":
+    sys.dont_write_bytecode = True
 import by_chance
 import explained
 import judging

@@ -15,7 +15,8 @@ import subprocess
 import sys
 import time
 
-sys.dont_write_bytecode = True
+if __name__ == "__main__":
+    sys.dont_write_bytecode = True
 import judging
 import slurmed
 from judging import Wrong

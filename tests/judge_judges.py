@@ -19,7 +19,8 @@ import shutil
 import subprocess
 import sys
 
-sys.dont_write_bytecode = True
+if __name__ == "__main__":
+    sys.dont_write_bytecode = True
 import judge_record
 import judging
 

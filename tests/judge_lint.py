@@ -17,7 +17,8 @@ import os
 import sys
 from types import ModuleType
 
-sys.dont_write_bytecode = True
+if __name__ == "__main__":
+    sys.dont_write_bytecode = True
 import judging
 
 TOOLS = os.path.join(os.path.dirname(judging.HERE), "tools")

@@ -19,7 +19,8 @@ import random
 import sys
 import tempfile
 
-sys.dont_write_bytecode = True
+if __name__ == "__main__":
+    sys.dont_write_bytecode = True
 import code_folders
 import compiled
 import judge_merge

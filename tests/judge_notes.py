@@ -11,7 +11,8 @@ import subprocess
 import sys
 import tty
 
-sys.dont_write_bytecode = True
+if __name__ == "__main__":
+    sys.dont_write_bytecode = True
 import judging
 import running
 from judging import Wrong

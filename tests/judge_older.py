@@ -11,7 +11,8 @@ import shutil
 import subprocess
 import sys
 
-sys.dont_write_bytecode = True
+if __name__ == "__main__":
+    sys.dont_write_bytecode = True
 import judging
 from judging import Wrong
 

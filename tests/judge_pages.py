@@ -21,7 +21,8 @@ import sys
 import tempfile
 import threading
 
-sys.dont_write_bytecode = True
+if __name__ == "__main__":
+    sys.dont_write_bytecode = True
 import judging
 import recorded_rust
 

@@ -14,7 +14,8 @@ Says what is wrong, if something is, and ends with status 1 then, also if a kind
 import random
 import sys
 
-sys.dont_write_bytecode = True
+if __name__ == "__main__":
+    sys.dont_write_bytecode = True
 import by_chance
 import judging
 import running

@@ -15,7 +15,8 @@ import sys
 import time
 import tty
 
-sys.dont_write_bytecode = True
+if __name__ == "__main__":
+    sys.dont_write_bytecode = True
 import judging
 import running
 from judging import Wrong

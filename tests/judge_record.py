@@ -17,7 +17,8 @@ import subprocess
 import sys
 import tempfile
 
-sys.dont_write_bytecode = True
+if __name__ == "__main__":
+    sys.dont_write_bytecode = True
 import judging
 import names_of_runs
 import recorded_chance

@@ -12,7 +12,8 @@ import random
 import re
 import sys
 
-sys.dont_write_bytecode = True
+if __name__ == "__main__":
+    sys.dont_write_bytecode = True
 import by_chance
 import judging
 import plain

@@ -21,7 +21,8 @@ import re
 import sys
 import urllib.parse
 
-sys.dont_write_bytecode = True
+if __name__ == "__main__":
+    sys.dont_write_bytecode = True
 import by_chance
 import code_folders
 import compiled

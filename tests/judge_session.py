@@ -24,7 +24,8 @@ import sys
 import tempfile
 import time
 
-sys.dont_write_bytecode = True
+if __name__ == "__main__":
+    sys.dont_write_bytecode = True
 import by_chance
 import judging
 import legal

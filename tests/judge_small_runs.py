@@ -8,7 +8,8 @@ Takes the program's path. Says what is wrong, if something is, and ends with sta
 import random
 import sys
 
-sys.dont_write_bytecode = True
+if __name__ == "__main__":
+    sys.dont_write_bytecode = True
 import by_chance
 import judging
 import legal

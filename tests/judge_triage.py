@@ -17,7 +17,8 @@ import random
 import sys
 import tempfile
 
-sys.dont_write_bytecode = True
+if __name__ == "__main__":
+    sys.dont_write_bytecode = True
 import by_chance
 import compiled
 import judging

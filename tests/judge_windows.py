@@ -24,7 +24,8 @@ import signal
 import subprocess
 import sys
 
-sys.dont_write_bytecode = True
+if __name__ == "__main__":
+    sys.dont_write_bytecode = True
 import by_chance
 import judging
 import missing

@@ -13,7 +13,8 @@ import re
 import subprocess
 import sys
 
-sys.dont_write_bytecode = True
+if __name__ == "__main__":
+    sys.dont_write_bytecode = True
 import judging
 import running
 from judging import Wrong

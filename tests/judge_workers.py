@@ -11,7 +11,8 @@ status 1 then.
 import random
 import sys
 
-sys.dont_write_bytecode = True
+if __name__ == "__main__":
+    sys.dont_write_bytecode = True
 import by_chance
 import judging
 import legal

@@ -13,7 +13,8 @@ import random
 import sys
 import tempfile
 
-sys.dont_write_bytecode = True
+if __name__ == "__main__":
+    sys.dont_write_bytecode = True
 import recorded_options
 from judging import Wrong
 from recorded_places import RECORD, ran

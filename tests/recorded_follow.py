@@ -20,10 +20,11 @@ import tempfile
 from judging import Wrong
 from recorded_places import PATIENCE, events_in
 
-TOP = os.path.dirname(os.path.dirname(os.path.abspath(__file__)))
-RECORD = os.path.join(TOP, "record")
-sys.path.append(RECORD)
+if (RECORD := os.path.join(os.path.dirname(os.path.dirname(os.path.abspath(__file__))), "record")) not in sys.path:
+    sys.path.append(RECORD)
 import verdicts
+
+TOP = os.path.dirname(RECORD)
 
 SOURCES = os.path.join(TOP, "tests", "recorded", "races")
 # A slow machine has time for a run, and for what comes between two hooks.

@@ -22,10 +22,11 @@ import recorded_ci
 import recorded_go_planted
 from judging import Wrong
 
-TOP = os.path.dirname(os.path.dirname(os.path.abspath(__file__)))
-RECORD = os.path.join(TOP, "record")
-sys.path.append(RECORD)
+if (RECORD := os.path.join(os.path.dirname(os.path.dirname(os.path.abspath(__file__))), "record")) not in sys.path:
+    sys.path.append(RECORD)
 from golang import recording
+
+TOP = os.path.dirname(RECORD)
 
 SOURCES = os.path.join(TOP, "tests", "recorded", "go")
 PATIENCE = 900
@@ -398,18 +399,18 @@ MODULE = {
     "a/a_test.go": """package a
 
 import (
-	"os"
-	"testing"
+    "os"
+    "testing"
 )
 
 func TestRace(t *testing.T) {
-	if _, err := os.Stat("a_test.go"); err != nil {
-		t.Fatal(err)
-	}
-	done := make(chan bool)
-	go func() { Add(); done <- true }()
-	Add()
-	<-done
+    if _, err := os.Stat("a_test.go"); err != nil {
+        t.Fatal(err)
+    }
+    done := make(chan bool)
+    go func() { Add(); done <- true }()
+    Add()
+    <-done
 }
 
 func TestOther(t *testing.T) { t.Skip() }

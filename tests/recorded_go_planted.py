@@ -27,22 +27,22 @@ FEW, RUNS, SCENARIOS, LEAST_RACES = (3, 8), (1, 2, 3), 12, 8
 HEAD = """package main
 
 import (
-	"context"
-	"fmt"
-	"io"
-	"os"
-	"runtime"
-	"sync"
-	"sync/atomic"
-	"time"
+    "context"
+    "fmt"
+    "io"
+    "os"
+    "runtime"
+    "sync"
+    "sync/atomic"
+    "time"
 )
 
 var _ = []any{context.Background, fmt.Sprint, io.Pipe, os.Pipe, sync.NewCond, atomic.AddInt32, time.Now}
 
 func wait(until func() bool) {
-	for !until() {
-		runtime.Gosched()
-	}
+    for !until() {
+        runtime.Gosched()
+    }
 }
 """
 # How one goroutine passes on to the next: what is declared, what the first does, and what the second does.

@@ -17,14 +17,16 @@ import sys
 import tempfile
 from collections import Counter, defaultdict
 
-sys.dont_write_bytecode = True
+if __name__ == "__main__":
+    sys.dont_write_bytecode = True
 import leaving
 import recorded_options
 from judging import Wrong
 from recorded_places import PATIENCE, RECORD, SOURCES, events_in, ran
 
-sys.path.insert(0, RECORD)
-import raw as raw_file  # noqa: E402
+if sys.path[0] != RECORD:
+    sys.path.insert(0, RECORD)
+import raw as raw_file
 
 # How many traces the tests draw.
 FEW = 60

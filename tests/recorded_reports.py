@@ -13,7 +13,8 @@ import sys
 from judging import Wrong
 from recorded_places import PATIENCE, RECORD, SOURCES, TOP, ran
 
-sys.path.append(RECORD)
+if RECORD not in sys.path:
+    sys.path.append(RECORD)
 import matching
 
 # What a report calls the variable that has a name in a trace; nothing if the trace names none.

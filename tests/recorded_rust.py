@@ -25,10 +25,11 @@ import recorded_ci
 import recorded_rust_planted
 from judging import Wrong
 
-TOP = os.path.dirname(os.path.dirname(os.path.abspath(__file__)))
-RECORD = os.path.join(TOP, "record")
-sys.path.append(RECORD)
+if (RECORD := os.path.join(os.path.dirname(os.path.dirname(os.path.abspath(__file__))), "record")) not in sys.path:
+    sys.path.append(RECORD)
 from rustlang import building, library
+
+TOP = os.path.dirname(RECORD)
 
 SOURCES = os.path.join(TOP, "tests", "recorded", "rust")
 PATIENCE = 900

@@ -293,10 +293,10 @@ def scheduler(root: str) -> Iterator[Source]:
         r"(\t\tgp := (\w+)\.runq\[h%uint32\(len\(\w+\.runq\)\)\]\.ptr\(\)\n"
         r"\t\tif atomic\.CasRel\(&\w+\.runqhead, h, h\+1\))",
         r"""\t\tif raceseed != 0 && t-h > 1 {
-			one := h + racedraw()%(t-h)
-			here, there := &\2.runq[h%uint32(len(\2.runq))], &\2.runq[one%uint32(len(\2.runq))]
-			*here, *there = *there, *here
-		}
+            one := h + racedraw()%(t-h)
+            here, there := &\2.runq[h%uint32(len(\2.runq))], &\2.runq[one%uint32(len(\2.runq))]
+            *here, *there = *there, *here
+        }
 \1""",
     )
     source.pattern(
