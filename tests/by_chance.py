@@ -1,6 +1,8 @@
 """Traces that keep the rules, and calls that are most often accepted, drawn by chance for the judges."""
 
-from collections import namedtuple
+import random
+from collections.abc import Iterable
+from typing import NamedTuple
 
 import plain
 
@@ -62,24 +64,32 @@ IN_BATCHES = {**COMMANDS, "adopt": 1}
 MOST_COMMANDS = 7
 LONGEST = [plain.BATCH_LIMIT, plain.BATCH_LIMIT + 1]
 
-# What a command is drawn after: that of a log, and within a batch that of the commands before it.
-State = namedtuple("State", "trace rows board")
+# A call of a client, the line that it is answered by, and the log before it.
+Made = tuple[int, plain.Call, str, plain.Log]
 
 
-def weights_at(place, length, middle):
+class State(NamedTuple):
+    """What a command is drawn after: that of a log, and within a batch that of the commands before it."""
+
+    trace: plain.Trace
+    rows: plain.Rows
+    board: list[plain.Listed]
+
+
+def weights_at(place: int, length: int, middle: list[int]) -> list[int]:
     if place < 4:
         return BEGINNING
     return END if place > length * 3 // 4 else middle
 
 
-def trace(chance, most):
+def trace(chance: random.Random, most: int) -> plain.Trace:
     """A trace of 2 to 5 threads with 4 to `most` events, or fewer where the rules leave none to draw."""
     threads = chance.sample(THREADS, chance.randint(2, 5))
     names = {"r": VARIABLES[: chance.randint(1, 3)], "acq": LOCKS[: chance.randint(1, 2)], "fork": threads + [IDLE]}
     names.update(w=names["r"], rel=names["acq"], join=names["fork"])
     length = chance.randint(4, most)
     middle = chance.choice(MIDDLES)
-    events = []
+    events: list[plain.Event] = []
     for _ in range(20 * length):
         if len(events) == length:
             break
@@ -90,7 +100,7 @@ def trace(chance, most):
     return plain.Trace(events)
 
 
-def section(chance, depth):
+def section(chance: random.Random, depth: int) -> list[tuple[str, str]]:
     """The operations of a part of a thread: an access, or a section of a lock with one to three parts."""
     if depth == MOST_NESTED or chance.random() < 0.45:
         return [(chance.choice("rw"), chance.choice(VARIABLES[:2]))]
@@ -99,11 +109,11 @@ def section(chance, depth):
     return [("acq", lock), *within, ("rel", lock)]
 
 
-def locked_trace(chance, most):
+def locked_trace(chance: random.Random, most: int) -> plain.Trace:
     """A trace of 2 or 3 threads with at most this many events, most accesses in sections of locks. Some threads are
     forked and joined by the first. It ends where the rules leave no thread that may go on."""
     threads = chance.sample(THREADS, chance.randint(2, 3))
-    to_do = {
+    to_do: dict[str, list[tuple[str, str]]] = {
         thread: [operation for _ in range(chance.randint(1, 4)) for operation in section(chance, 0)]
         for thread in threads
     }
@@ -112,7 +122,7 @@ def locked_trace(chance, most):
         at = chance.randint(0, len(to_do[first]))
         to_do[first].insert(at, ("fork", other))
         to_do[first].insert(chance.randint(at + 1, len(to_do[first])), ("join", other))
-    events = []
+    events: list[plain.Event] = []
     while len(events) < most:
         nexts = [plain.Event(thread, *rest[0]) for thread, rest in to_do.items() if rest]
         allowed = [event for event in nexts if plain.breach(events, event) is None]
@@ -124,7 +134,7 @@ def locked_trace(chance, most):
     return plain.Trace(events)
 
 
-def probed(drawn):
+def probed(drawn: plain.Trace) -> plain.Trace:
     """The trace with a write before and a write after each pair of events, of a fresh variable: the two writes are a
     candidate exactly if no chain of edges leads from the first event to the second."""
     events = []
@@ -136,7 +146,7 @@ def probed(drawn):
     return plain.Trace(events)
 
 
-def event(chance, trace_, listed):
+def event(chance: random.Random, trace_: plain.Trace, listed: plain.Listed) -> int:
     """An event, most often one that may come next, or the next one of a thread; also the number after the last one,
     which has no event."""
     wanted = chance.random()
@@ -148,7 +158,7 @@ def event(chance, trace_, listed):
     return chance.randint(0, len(trace_.events))
 
 
-def neighbours(chance, trace_, listed):
+def neighbours(chance: random.Random, trace_: plain.Trace, listed: plain.Listed) -> int:
     """A place in the list, most often one whose event may change places with the next; also one after its end."""
     apart = [at for at in range(len(listed) - 1) if trace_.independent(listed[at], listed[at + 1])]
     if apart and chance.random() < 0.7:
@@ -156,7 +166,7 @@ def neighbours(chance, trace_, listed):
     return chance.randint(0, len(listed))
 
 
-def proposal(chance, log):
+def proposal(chance: random.Random, log: plain.Log) -> plain.Call:
     """A list, most often a correct reordering that begins like some schedule, and a pair, most often one that it
     shows."""
     trace_ = log.trace
@@ -176,13 +186,13 @@ def proposal(chance, log):
     return ("propose", chance.randint(0, len(trace_.events)), chance.randint(0, len(trace_.events)), listed)
 
 
-def name_among(chance, names, preferred):
+def name_among(chance: random.Random, names: list[str], preferred: Iterable[str]) -> str:
     """One of the names, most often a preferred one."""
     among = [name for name in names if name in preferred]
     return chance.choice(among if among and chance.random() < 0.85 else names)
 
 
-def command(chance, state, names, word):
+def command(chance: random.Random, state: plain.Log | State, names: list[str], word: str) -> plain.Call:
     """A command on one of the names; also a call that has a name alone."""
     fresh = [name for name in names if name not in state.rows]
     if word == "new":
@@ -200,13 +210,13 @@ def command(chance, state, names, word):
     return (word, name)
 
 
-def batch(chance, log, names):
+def batch(chance: random.Random, log: plain.Log, names: list[str]) -> plain.Call:
     """A batch, each command of which is drawn after those before it. Most are accepted. In others the first refused
     command is at any place; some have too many commands."""
     length = chance.choice(LONGEST) if chance.random() < 0.03 else chance.randint(1, MOST_COMMANDS)
     is_good = chance.random() < 0.8
     rows = log.rows
-    commands = []
+    commands: list[plain.Call] = []
     for _ in range(8 * length):
         if len(commands) == length:
             break
@@ -221,7 +231,7 @@ def batch(chance, log, names):
     return ("batch", tuple(commands or [("new", names[0])]))
 
 
-def call(chance, log, names, mood):
+def call(chance: random.Random, log: plain.Log, names: list[str], mood: dict[str, int]) -> plain.Call:
     """A call on one of the names, whoever makes it."""
     word = chance.choices(list(mood), list(mood.values()))[0]
     if word in ("undo", "list"):
@@ -233,7 +243,7 @@ def call(chance, log, names, mood):
     return command(chance, log, names, word)
 
 
-def undo_by_number(chance, log, client):
+def undo_by_number(chance: random.Random, log: plain.Log, client: int) -> tuple[str, int]:
     """An undo by number, most often of what the client did and was not undone; also by a number that no entry has."""
     own = [number for number, whose, _ in log.live if whose == client]
     if own and chance.random() < 0.75:
@@ -241,7 +251,9 @@ def undo_by_number(chance, log, client):
     return ("undo", chance.randint(0, len(log.entries)))
 
 
-def call_of_client(chance, log, names, mood, client):
+def call_of_client(
+    chance: random.Random, log: plain.Log, names: list[str], mood: dict[str, int], client: int
+) -> plain.Call:
     """A call of this client; some of its undos are by number."""
     drawn = call(chance, log, names, mood)
     if drawn == ("undo",) and chance.random() < 0.4:
@@ -249,14 +261,16 @@ def call_of_client(chance, log, names, mood, client):
     return drawn
 
 
-def script(chance, trace_, length, clients=None):
+def script(
+    chance: random.Random, trace_: plain.Trace, length: int, clients: list[int] | None = None
+) -> tuple[list[Made], plain.Log]:
     """This many calls of several clients, each with its client, the line that it is answered by and the log before it;
     and the log after all."""
     clients = clients or chance.sample(range(1, 33), chance.randint(2, 5))
     names = chance.sample(SCHEDULES, chance.randint(2, 4))
     mood = chance.choice(MOODS)
     log = plain.Log(trace_)
-    calls = []
+    calls: list[Made] = []
     for _ in range(length):
         client = chance.choice(clients)
         drawn = call_of_client(chance, log, names, mood, client)

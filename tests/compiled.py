@@ -1,28 +1,32 @@
 """The lines of `triage --lines`, made of the objects of `triage --json` by docs/FORMATS.md."""
 
 import re
+from collections.abc import Iterable, Mapping
+from typing import Any
 
+# An object of JSON.
+Json = Mapping[str, Any]
 HEADS = {"race": "warning: data race", "undecided": "warning: undecided pair", "apart": "note: apart"}
 RULES = {"race": "data-race", "undecided": "undecided-pair", "apart": "apart"}
 VERBS = {"r": "reads", "w": "writes"}
 MOST_CALLS = 64
 
 
-def place_of(access):
-    return access["location"].split(" < ")[0] or "?"
+def place_of(access: Json) -> str:
+    return str(access["location"].split(" < ")[0] or "?")
 
 
-def use_of(access):
+def use_of(access: Json) -> str:
     return f"{access['thread']} {VERBS[access['operation']]}"
 
 
-def call_line(place, call):
+def call_line(place: str, call: str) -> str:
     own = re.fullmatch(r"(?s)(?:(.*) )?([^ ]+:[0-9]+)", call)
     function = (own[1] or "") if own else call
     return f"{own[2] if own else place}: note: " + (f"in {function}" if function else "called from here")
 
 
-def access_lines(access):
+def access_lines(access: Json) -> list[str]:
     place = place_of(access)
     calls = access["location"].split(" < ")[1 : MOST_CALLS + 1]
     return [
@@ -32,12 +36,12 @@ def access_lines(access):
     ]
 
 
-def counted(count, word):
+def counted(count: int, word: str) -> str:
     """A number and what is counted."""
     return f"{count} {word}" if count == 1 else f"{count} {word}s"
 
 
-def why(row):
+def why(row: Json) -> str:
     if row["kind"] == "race":
         return f"a schedule of {counted(row['events'], 'event')} of {counted(row['threads'], 'thread')} shows it"
     if row["kind"] == "undecided":
@@ -45,9 +49,9 @@ def why(row):
     return "every correct reordering of this trace keeps the two apart"
 
 
-def lines_of(objects):
+def lines_of(objects: Iterable[Json]) -> list[str]:
     """The lines for these objects."""
-    lines = []
+    lines: list[str] = []
     for row in objects:
         if row["kind"] not in HEADS:
             continue

@@ -12,6 +12,7 @@ something that must be seen was never met.
 
 import random
 import sys
+from collections import Counter
 
 if __name__ == "__main__":
     sys.dont_write_bytecode = True
@@ -38,7 +39,7 @@ REACHED = [
 ]
 
 
-def expected(events, start, most):
+def expected(events: list[plain.Event], start: int, most: int) -> tuple[str, list[plain.Event], int]:
     """The text of the window, and the number of events of its prologue."""
     end = min(start + most, len(events))
     name = plain.new_name(events)
@@ -48,10 +49,11 @@ def expected(events, start, most):
     return "".join(line + "\n" for line in lines), made, end
 
 
-def shown_from(trace, start, end):
+def shown_from(trace: plain.Trace, start: int, end: int) -> set[tuple[int, int]] | None:
     """The pairs that correct reorderings show that begin as recorded up to `start` and go on with events before `end`;
     None if there are too many."""
-    lists, shown = [tuple(range(start))], set()
+    lists: list[plain.Listed] = [tuple(range(start))]
+    shown: set[tuple[int, int]] = set()
     for listed in lists:
         if len(lists) > LISTS:
             return None
@@ -60,19 +62,21 @@ def shown_from(trace, start, end):
     return shown
 
 
-def judge_pairs(program, trace, start, end, size, seen):
+def judge_pairs(
+    program: str, trace: plain.Trace, start: int, end: int, made: list[plain.Event], seen: Counter[str]
+) -> None:
     """The verdicts on the pairs of the window in the file `window`."""
     shown = shown_from(trace, start, end)
     if shown is None:
         return
-    inner = plain.Trace(size + list(trace.events[start:end]))
+    inner = plain.Trace(made + list(trace.events[start:end]))
     for first, second in inner.conflicting():
         word = running.printed(program, ["explain", "window", str(first), str(second)]).split()[0].decode().rstrip(":")
-        if first < len(size) or second < len(size):
+        if first < len(made) or second < len(made):
             if word != "apart":
                 raise Wrong(f"{first} {second} has an event of the prologue, and is {word}")
             continue
-        pair = (start + first - len(size), start + second - len(size))
+        pair = (start + first - len(made), start + second - len(made))
         if word == "race" and pair not in shown or word == "apart" and pair in shown:
             raise Wrong(
                 f"{pair} is {word} in the window, and is {'' if pair in shown else 'not '}shown from {start} on"
@@ -80,7 +84,7 @@ def judge_pairs(program, trace, start, end, size, seen):
         seen[word] += 1
 
 
-def judge(program, seed, seen):
+def judge(program: str, seed: int, seen: Counter[str]) -> None:
     """A trace of this seed, and a window of it."""
     chance = random.Random(seed)
     drawn = (
@@ -115,7 +119,7 @@ def judge(program, seed, seen):
     judge_pairs(program, trace, start, end, made, seen)
 
 
-def judged(run):
+def judged(run: judging.Run) -> str:
     for seed in run.seeds():
         with judging.about(f"seed {seed}", "trace", "window"):
             judge(run.program, seed, run.tally)

@@ -10,6 +10,7 @@ import shutil
 import subprocess
 import sys
 import tty
+from collections import Counter
 
 if __name__ == "__main__":
     sys.dont_write_bytecode = True
@@ -28,7 +29,9 @@ LATE = "note: more locks are held there than a later window may begin with: pass
 WIDE = "note: a trace has at most 256 threads; `triage --windows` reads more, in windows of at most 256\n"
 CROWDED = "note: a window has at most 256 threads, and those that hold a lock where it begins count\n"
 # What is run, what comes on standard error in any case, and the notes after it.
-RUNS = [
+# A run's arguments, the line of its fault, and its notes.
+Case = tuple[list[str], str, str]
+RUNS: list[Case] = [
     (["info", "none"], "racebench: read failed\n", "note: none does not exist\n"),
     (["info", "bad"], "racebench: trace line 2: 1 no bar\n", "note: line 2 of bad is `T1 w(x)`\n"),
     (["explain", "good", "0", "0"], "racebench: no such pair\n", f"note: {TWICE}\n"),
@@ -98,9 +101,9 @@ USAGES = {
 }
 
 
-def runs():
+def runs() -> list[Case]:
     """All runs, with one for each word of a script that has no arguments, or too many."""
-    scripts = []
+    scripts: list[Case] = []
     for word, usage in USAGES.items():
         line = f"7 {word}" + " A 0 B 1" * (word in ("undo", "list"))
         running.write(f"script_{word}", f"\n{line}\n")
@@ -112,24 +115,24 @@ def runs():
     return RUNS + scripts
 
 
-def user_of(arguments):
-    """What makes a run on files that may not be read that of a user for whom it is so."""
+def user_of(arguments: list[str]) -> int | None:
+    """The user for whom files may not be read that are shut, and so are for root; else whoever runs this."""
     is_shut = any(word in SHUT for word in arguments)
-    return {"user": 65534, "group": 65534, "extra_groups": []} if is_shut and os.geteuid() == 0 else {}
+    return 65534 if is_shut and os.geteuid() == 0 else None
 
 
-def off_terminal(arguments, line, notes):
+def off_terminal(arguments: list[str], line: str, notes: str) -> str:
     """What is written off a terminal if the environment does not decide."""
     return line if not arguments or arguments[0] in QUIET else line + notes
 
 
-def environment(value):
+def environment(value: str | None) -> dict[str, str]:
     """The environment of a run, where RACEBENCH_NOTES has this value, or is not there."""
     kept = {name: text for name, text in os.environ.items() if name != "RACEBENCH_NOTES"}
     return kept if value is None else {**kept, "RACEBENCH_NOTES": value}
 
 
-def through_pipe(program, arguments, value):
+def through_pipe(program: str, arguments: list[str], value: str | None) -> str:
     done = subprocess.run(
         [program, *arguments],
         stdin=subprocess.DEVNULL,
@@ -137,12 +140,14 @@ def through_pipe(program, arguments, value):
         env=environment(value),
         timeout=running.PATIENCE,
         check=False,
-        **user_of(arguments),
+        user=user_of(arguments),
+        group=user_of(arguments),
+        extra_groups=[] if user_of(arguments) else None,
     )
     return done.stderr.decode("ascii")
 
 
-def on_terminal(program, arguments):
+def on_terminal(program: str, arguments: list[str]) -> str:
     mine, theirs = os.openpty()
     tty.setraw(theirs)
     with subprocess.Popen(
@@ -151,7 +156,9 @@ def on_terminal(program, arguments):
         stdout=subprocess.DEVNULL,
         stderr=theirs,
         env=environment(None),
-        **user_of(arguments),
+        user=user_of(arguments),
+        group=user_of(arguments),
+        extra_groups=[] if user_of(arguments) else None,
     ) as run:
         os.close(theirs)
         shown = b""
@@ -165,7 +172,7 @@ def on_terminal(program, arguments):
     return shown.decode("ascii")
 
 
-def output_of(how):
+def output_of(how: str) -> int | None:
     """A standard output of this kind, or None if it is to be a pipe that is read or closed."""
     if how == "a full device":
         return os.open("/dev/full", os.O_WRONLY)
@@ -176,7 +183,7 @@ def output_of(how):
     return None
 
 
-def through_output(program, arguments, how, value):
+def through_output(program: str, arguments: list[str], how: str, value: str | None) -> str:
     """Standard error, if standard output is of this kind."""
     output = output_of(how)
     done = subprocess.run(
@@ -188,14 +195,16 @@ def through_output(program, arguments, how, value):
         timeout=running.PATIENCE,
         check=False,
         preexec_fn=(lambda: os.close(1)) if how == "nothing" else None,
-        **user_of(arguments),
+        user=user_of(arguments),
+        group=user_of(arguments),
+        extra_groups=[] if user_of(arguments) else None,
     )
     if output is not None:
         os.close(output)
     return done.stderr.decode("ascii")
 
 
-def judge_unwritten(program, tally):
+def judge_unwritten(program: str, tally: Counter[str]) -> None:
     """Judges the notes on what was not written."""
     for arguments, how, note in UNWRITTEN:
         fault, noted = "racebench: write failed\n", f"note: {note}\n"
@@ -206,7 +215,7 @@ def judge_unwritten(program, tally):
         tally["unwritten"] += 1
 
 
-def make_files(program):
+def make_files(program: str) -> None:
     """Makes the files of the runs; some may not be read or written by the user of the run."""
     running.write("bad", "T1|w(x)|1\nT1 w(x)\n")
     running.write("good", "T1|w(x)|1\n")
@@ -226,25 +235,32 @@ def make_files(program):
         os.chmod(log, mode)
 
 
-def judge_reading(program):
+def judge_reading(program: str) -> None:
     """Judges the note on what is read from a terminal, before its end comes, and that it needs a terminal."""
     mine, theirs = os.openpty()
     os.write(mine, b"\x04")
-    options = {"stdout": subprocess.DEVNULL, "stderr": subprocess.PIPE, "timeout": running.PATIENCE, "check": False}
     for value, wanted in ((None, ""), ("1", READING + NO_SCRIPT)):
-        done = subprocess.run([program], stdin=theirs, env=environment(value), **options)
+        done = subprocess.run(
+            [program],
+            stdin=theirs,
+            stdout=subprocess.DEVNULL,
+            stderr=subprocess.PIPE,
+            env=environment(value),
+            timeout=running.PATIENCE,
+            check=False,
+        )
         judge([], f"on a terminal, with RACEBENCH_NOTES {value!r}", done.stderr.decode("ascii"), wanted)
         os.write(mine, b"\x04")
     os.close(mine)
     os.close(theirs)
 
 
-def judge(arguments, how, shown, wanted):
+def judge(arguments: list[str], how: str, shown: str, wanted: str) -> None:
     if shown != wanted:
         raise Wrong(f"{arguments} {how} writes {shown!r}, and not {wanted!r}")
 
 
-def judged(run):
+def judged(run: judging.Run) -> str:
     program = "./racebench"
     shutil.copy(run.program, program)
     os.chmod(program, 0o755)

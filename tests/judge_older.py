@@ -28,18 +28,18 @@ COMMANDS = [
 ]
 
 
-def ended(arguments):
+def ended(arguments: list[str]) -> tuple[int, bytes, bytes]:
     done = subprocess.run(arguments, capture_output=True, check=False, timeout=900)
     return done.returncode, done.stdout, done.stderr
 
 
-def needed(path):
+def needed(path: str) -> tuple[int, ...]:
     """The newest version of the C library that a file takes something of."""
     versions = subprocess.run(["readelf", "--version-info", "--wide", path], capture_output=True, check=True).stdout
     return max(tuple(map(int, found.split(b"."))) for found in re.findall(rb"GLIBC_([0-9.]+)", versions))
 
 
-def in_old_root(root, folder):
+def in_old_root(root: str, folder: str) -> list[str]:
     """The command before the program that runs it in the older system, on the files of this folder."""
     place = os.path.join(root, "older")
     shutil.rmtree(place, ignore_errors=True)
@@ -47,7 +47,7 @@ def in_old_root(root, folder):
     return ["chroot", root, "sh", "-c", 'cd older && exec older/bin/racebench "$@"', "sh"]
 
 
-def judged(run):
+def judged(run: judging.Run) -> str:
     for name in ["count", "pdsh", "two_pairs"]:
         shutil.copy(os.path.join(TOP, "examples", f"{name}.std"), ".")
     with open("empty", "w", encoding="ascii"):

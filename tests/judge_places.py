@@ -13,11 +13,13 @@ Says what is wrong, if something is, and ends with status 1 then, also if a kind
 
 import random
 import sys
+from collections import Counter
 
 if __name__ == "__main__":
     sys.dont_write_bytecode = True
 import by_chance
 import judging
+import plain
 import running
 from judging import Wrong
 
@@ -46,7 +48,7 @@ WORDS = [
     ":1",
     "+1",
 ]
-FORMS = [[], ["--script"], ["--std"]]
+FORMS: list[list[str]] = [[], ["--script"], ["--std"]]
 REACHED = [
     "whole",
     "path",
@@ -64,24 +66,24 @@ REACHED = [
 ]
 
 
-def is_word(byte):
+def is_word(byte: int) -> bool:
     """Whether words consist of such bytes: digits, letters, underscores, and those of other scripts."""
     return byte >= 128 or bytes([byte]).isalnum() or byte == ord("_")
 
 
-def is_edge(text, at):
+def is_edge(text: bytes, at: int) -> bool:
     return at == 0 or at >= len(text) or not (is_word(text[at - 1]) and is_word(text[at]))
 
 
-def is_tail(path, tail):
+def is_tail(path: bytes, tail: bytes) -> bool:
     return tail != b"" and path.endswith(b"/" + tail)
 
 
-def place_of(location):
+def place_of(location: bytes) -> bytes:
     return location.split(b" < ", 1)[0]
 
 
-def misfit(word, location):
+def misfit(word: bytes, location: bytes) -> int | None:
     """How well the word fits the location; None if it does not."""
     place = place_of(location)
     if word in (place, location):
@@ -97,15 +99,15 @@ def misfit(word, location):
 class Located:
     """A trace with a drawn location for each event."""
 
-    def __init__(self, trace, chance):
+    def __init__(self, trace: plain.Trace, chance: random.Random) -> None:
         self.trace = trace
         few = [place and place + chance.choice(CALLS) for place in chance.choices(PLACES, k=chance.randint(1, 5))]
         self.locations = [chance.choice(few) for _ in trace.events]
 
-    def text(self):
+    def text(self) -> str:
         return "".join(self.trace.line(event) + location + "\n" for event, location in enumerate(self.locations))
 
-    def named(self, word, tally):
+    def named(self, word: str, tally: Counter[str]) -> tuple[set[int], bool]:
         """The accesses that the word names, and whether it is the number of an event."""
         if word.isascii() and word.isdigit():
             tally["event"] += 1
@@ -122,12 +124,12 @@ class Located:
         tally[["whole", "path", "part"][best]] += 1
         return {event for event, how in fits.items() if how == best}, False
 
-    def pair(self, arguments, tally):
+    def pair(self, arguments: list[str], tally: Counter[str]) -> tuple[int, int] | None:
         """The pair of events that the arguments name, if they name one."""
         (ones, one_is_event), (others, other_is_event) = (self.named(word, tally) for word in arguments)
         if one_is_event and other_is_event:
-            found = tuple(sorted(ones | others))
-            return found if found in self.trace.conflicting() else None
+            found = sorted(ones | others)
+            return next((pair for pair in self.trace.conflicting() if [*pair] == found), None)
         for events, is_event in [(ones, one_is_event), (others, other_is_event)]:
             if not is_event and len({place_of(self.locations[event].encode()) for event in events}) > 1:
                 tally["several"] += 1
@@ -141,7 +143,7 @@ class Located:
             tally["two sets"] += 1
         return self.reported(ones, others, tally)
 
-    def reported(self, ones, others, tally):
+    def reported(self, ones: set[int], others: set[int], tally: Counter[str]) -> tuple[int, int] | None:
         """The pair that `triage` reports for these accesses: the least candidate, the first open pair that is shown,
         the least open one, the least one."""
         pairs = sorted(
@@ -166,9 +168,9 @@ class Located:
         return first, second
 
 
-def tries_of(trace, pairs):
+def tries_of(trace: plain.Trace, pairs: list[tuple[int, int, str]]) -> list[tuple[int, int]]:
     """The least open pair of each variable and two threads, in rising order."""
-    least = {}
+    least: dict[tuple[str, str, str], tuple[int, int]] = {}
     for second, first, kind in pairs:
         if kind == "open":
             least.setdefault((trace.events[first].name, trace.thread(first), trace.thread(second)), (second, first))
@@ -176,10 +178,10 @@ def tries_of(trace, pairs):
 
 
 class Judge:
-    def __init__(self, run):
+    def __init__(self, run: judging.Run) -> None:
         self.program, self.tally = run.program, run.tally
 
-    def judge_trace(self, located, chance):
+    def judge_trace(self, located: Located, chance: random.Random) -> None:
         running.write("trace", located.text())
         events = len(located.trace.events)
         for _ in range(QUESTIONS):
@@ -187,7 +189,7 @@ class Judge:
             self.judge_question(located, arguments, chance)
         self.tally["traces"] += 1
 
-    def word(self, located, chance, events):
+    def word(self, located: Located, chance: random.Random, events: int) -> str:
         drawn = chance.random()
         if drawn < 0.15:
             return str(chance.randint(0, events + 1))
@@ -196,10 +198,11 @@ class Judge:
             return location if chance.random() < 0.5 else location.split(" < ")[0]
         return chance.choice(WORDS)
 
-    def judge_question(self, located, arguments, chance):
+    def judge_question(self, located: Located, arguments: list[str], chance: random.Random) -> None:
         pair = located.pair(arguments, self.tally)
         form = chance.choice(FORMS)
-        for command, flags in [("explain", []), ("witness", form)]:
+        none: list[str] = []
+        for command, flags in [("explain", none), ("witness", form)]:
             answer = running.ended(self.program, [command, "trace", *flags, "--", *arguments])
             wanted = (1, b"", b"racebench: no such pair\n")
             if pair is not None:
@@ -210,7 +213,7 @@ class Judge:
         self.tally["pairs"] += pair is not None
 
 
-def judged(run):
+def judged(run: judging.Run) -> str:
     judge, tally = Judge(run), run.tally
     for seed in run.seeds():
         chance = random.Random(seed)

@@ -38,7 +38,7 @@ SHOWN = re.compile(r"\r(?:events (\d+)|pairs of places (\d+) of (\d+))")
 WIPED = re.compile(r"\r *\r")
 
 
-def trace(pairs):
+def trace(pairs: int) -> tuple[str, int]:
     """This many pairs of places, each shown by critical sections in another order alone, which is searched for."""
     lines = [f"T{i % 2}|r(y)|others" for i in range(OTHERS)]
     for i in range(pairs):
@@ -60,7 +60,7 @@ class TooFew(Exception):
 class Shown:
     """A run whose standard error is a terminal; without a named file its standard output is the same terminal."""
 
-    def __init__(self, program, arguments, output):
+    def __init__(self, program: str, arguments: list[str], output: str | None) -> None:
         mine, theirs = os.openpty()
         tty.setraw(theirs)
         with open(output, "wb") if output else os.fdopen(os.dup(theirs), "wb") as out:
@@ -70,7 +70,8 @@ class Shown:
                 [program, *arguments], stdin=subprocess.DEVNULL, stdout=out, stderr=theirs, env=environment
             )
         os.close(theirs)
-        self.quiet, sent = None, b""
+        self.quiet = 0.0
+        sent = b""
         try:
             while piece := os.read(mine, 65_536):
                 self.quiet = self.quiet or time.monotonic() - start
@@ -83,7 +84,7 @@ class Shown:
         self.sent = sent.decode("ascii")
 
 
-def judge_shown(run, events, pairs, rest=""):
+def judge_shown(run: Shown, events: int, pairs: int, rest: str = "") -> int:
     """Judges what a terminal was sent: lines of rising numbers, the wiping, and the rest. Answers how many lines told
     of more pairs of places."""
     at, longest, judged, rising = 0, 0, 0, 0
@@ -100,7 +101,7 @@ def judge_shown(run, events, pairs, rest=""):
     wiped = WIPED.match(run.sent, at)
     if longest and (not wiped or len(wiped[0]) - 2 < longest):
         raise Wrong(f"a line of {longest} characters was not wiped out: {run.sent[at : at + 100]!r}")
-    at = wiped.end() if longest else at
+    at = wiped.end() if wiped and longest else at
     if run.sent[at:] != rest:
         raise Wrong(f"{run.sent[at:][:300]!r} came behind the line, and not {rest[:300]!r}")
     if run.seconds >= LEAST_SECONDS and rising < LEAST_LINES:
@@ -110,19 +111,19 @@ def judge_shown(run, events, pairs, rest=""):
     return rising
 
 
-def judge_status(arguments, status, wanted):
+def judge_status(arguments: list[str], status: int, wanted: int) -> None:
     if status != wanted:
         raise Wrong(f"{arguments}: status {status} beside a terminal, and not {wanted}")
 
 
-def judge_output(arguments, wanted):
+def judge_output(arguments: list[str], wanted: bytes) -> None:
     """Compares standard output with that of a run without a terminal."""
     with open("out", "rb") as out:
         if out.read() != wanted:
             raise Wrong(f"{arguments}: another standard output beside a terminal")
 
 
-def judge_quick(program):
+def judge_quick(program: str) -> None:
     """What is quick shows nothing, whether it ends well or with a fault."""
     running.write("quick", "T1|w(x)|1\nT2|w(x)|2\n")
     for arguments in (["triage", "quick"], ["triage", "none"]):
@@ -134,7 +135,7 @@ def judge_quick(program):
             raise Wrong(f"{arguments} shows {run.sent!r}, and writes {err!r} where no terminal is")
 
 
-def judge_windows(program):
+def judge_windows(program: str) -> None:
     """With `--windows` a terminal gets a line for each window at once, as a pipe does with `--progress`."""
     running.write("quick", "T1|w(x)|1\nT2|w(x)|2\nT1|w(y)|3\nT2|w(y)|4\n")
     arguments = ["triage", "quick", "--windows=2"]
@@ -146,15 +147,15 @@ def judge_windows(program):
         raise Wrong(f"{arguments} shows {run.sent!r}, and writes {err!r} with --progress")
 
 
-def judge_requested(program, events, pairs, wanted):
+def judge_requested(program: str, events: int, pairs: int, wanted: bytes) -> None:
     """With `--progress` a pipe is sent lines of rising numbers, and standard output is as without it."""
     status, out, err = running.ended(program, ["triage", "trace", "--progress"])
     if (status, out) != (0, wanted):
         raise Wrong(f"status {status} with --progress, or another standard output")
-    matches = [
-        re.fullmatch(r"events (\d+)|pairs of places (\d+) of (\d+)", line) for line in err.decode("ascii").splitlines()
-    ]
-    if not all(matches):
+    lines = err.decode("ascii").splitlines()
+    found = [re.fullmatch(r"events (\d+)|pairs of places (\d+) of (\d+)", line) for line in lines]
+    matches = [line for line in found if line]
+    if len(matches) < len(lines):
         raise Wrong(f"with --progress a pipe is sent {err[:300]!r}")
     if len(matches) < LEAST_LINES:
         raise TooFew(f"with --progress a pipe is sent {err[:300]!r} only")
@@ -165,7 +166,7 @@ def judge_requested(program, events, pairs, wanted):
         raise Wrong(f"with --progress other numbers are sent: {err[:300]!r}")
 
 
-def long_run(program, pairs):
+def long_run(program: str, pairs: int) -> tuple[Shown, int, int]:
     """A run that takes long on this many pairs of places or more, and how many events and pairs its trace has."""
     while True:
         text, events = trace(pairs)
@@ -179,9 +180,9 @@ def long_run(program, pairs):
         pairs = min(int(pairs * 1.2 * LEAST_SECONDS / run.seconds) + 1, MOST_PAIRS)
 
 
-def judge_long(program):
+def judge_long(program: str) -> tuple[int, int]:
     """Judges what takes long, and more work where that told of too little; a machine that is busy gets that chance."""
-    pairs, why = FIRST_PAIRS, None
+    pairs, why = FIRST_PAIRS, TooFew()
     for _ in range(TRIES):
         run, events, pairs = long_run(program, pairs)
         try:
@@ -191,7 +192,7 @@ def judge_long(program):
     raise Wrong(f"{why}")
 
 
-def judge_lines(program, run, events, pairs):
+def judge_lines(program: str, run: Shown, events: int, pairs: int) -> int:
     """What takes long shows lines: beside a file, by a worker with all on one terminal, and before a fault. Answers
     how many told of more."""
     status, out, err = running.ended(program, ["triage", "trace"])
@@ -211,7 +212,7 @@ def judge_lines(program, run, events, pairs):
     return lines + judge_shown(run, events, pairs, f"racebench: write failed\n{note}")
 
 
-def judged(run):
+def judged(run: judging.Run) -> str:
     judge_quick(run.program)
     judge_windows(run.program)
     run.tally["lines"], pairs = judge_long(run.program)

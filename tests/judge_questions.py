@@ -11,6 +11,7 @@ import os
 import random
 import subprocess
 import sys
+from collections import Counter
 
 if __name__ == "__main__":
     sys.dont_write_bytecode = True
@@ -67,13 +68,13 @@ REACHED = [
 class Asked:
     """The questions of a log, and what they are answered."""
 
-    def __init__(self, log, chance, tally):
+    def __init__(self, log: plain.Log, chance: random.Random, tally: Counter[str]) -> None:
         self.log = log
         self.trace = log.trace
         self.chance = chance
         self.tally = tally
 
-    def cause(self, events, event):
+    def cause(self, events: plain.Listed, event: int) -> str:
         """The item of an event: its number, and why it may not come next."""
         answer = self.trace.cause(events, event)
         if answer is None:
@@ -90,7 +91,7 @@ class Asked:
         )
         return ":".join([str(event), fields[0], *more])
 
-    def next_events(self, events):
+    def next_events(self, events: plain.Listed) -> list[int]:
         """The first event of each thread that is not among these."""
         firsts = []
         for thread in self.trace.threads():
@@ -98,10 +99,10 @@ class Asked:
             firsts += left[:1]
         return firsts
 
-    def events_at(self, name):
-        return None if name not in self.log.rows else self.log.rows[name].events
+    def events_at(self, name: str) -> plain.Listed:
+        return self.log.rows[name].events
 
-    def next(self, name):
+    def next(self, name: str) -> str:
         events = self.events_at(name)
         self.tally["next"] += 1
         return " ".join(
@@ -113,7 +114,7 @@ class Asked:
             ]
         )
 
-    def run(self, name, event):
+    def run(self, name: str, event: int) -> str:
         events = self.events_at(name)
         if not self.trace.is_event(event):
             self.tally["21"] += 1
@@ -132,14 +133,14 @@ class Asked:
             events = events + (other,)
         return f"run {len(self.log.entries)} {len(left)}"
 
-    def part(self, name, start, count):
+    def part(self, name: str, start: int, count: int) -> str:
         events = self.events_at(name)
         self.tally["part"] += 1
         return " ".join(
             ["part", *map(str, (len(self.log.entries), len(events), start, *events[start : start + count]))]
         )
 
-    def rows(self):
+    def rows(self) -> str:
         self.tally["rows"] += 1
         listed = [(name, self.log.rows[name]) for name in self.log.names()]
         items = [
@@ -147,7 +148,7 @@ class Asked:
         ]
         return " ".join(["rows", str(len(self.log.entries)), *items])
 
-    def entry(self, number):
+    def entry(self, number: int) -> str:
         entries = self.log.entries
         if number >= len(entries):
             self.tally["57"] += 1
@@ -156,7 +157,7 @@ class Asked:
         self.tally["undone" if undo else "live"] += 1
         return f"entry {len(entries)} {number} {f'undone {undo[0]}' if undo else 'live'} {self.log.line(number)}"
 
-    def drawn(self, names):
+    def drawn(self, names: list[str]) -> tuple[str, str]:
         """A question drawn by chance, and its answer; None where only its form is judged."""
         word = self.chance.choice(["next", "run", "part", "rows", "entry", "entry", "next"])
         if word == "rows":
@@ -171,13 +172,13 @@ class Asked:
             "part": (self.chance.randint(0, 6), self.chance.randint(0, 6)),
         }[word]
         line = " ".join(["?", word, name, *map(str, about)])
-        if self.events_at(name) is None:
+        if name not in self.log.rows:
             self.tally["42"] += 1
             return line, "refused 42 no such schedule"
         return line, getattr(self, word)(name, *about)
 
 
-def judge_witness(trace, first, second, answer, tally):
+def judge_witness(trace: plain.Trace, first: int, second: int, answer: str, tally: Counter[str]) -> bool:
     """The answer to `? witness`: a schedule that shows the pair, or why no schedule does."""
     if not (trace.is_event(first) and trace.is_event(second) and trace.conflict(first, second)):
         wanted = "refused 98 no such pair"
@@ -199,7 +200,7 @@ def judge_witness(trace, first, second, answer, tally):
     )
 
 
-def session(program, lines):
+def session(program: str, lines: list[str]) -> list[str]:
     done = subprocess.run(
         [program, "session", "trace", "log"],
         input="".join(line + "\n" for line in lines).encode("ascii"),
@@ -212,15 +213,17 @@ def session(program, lines):
     return done.stdout.decode("ascii").split("\n")[:-1]
 
 
-def judge_session(program, seed, tally):
+def judge_session(program: str, seed: int, tally: Counter[str]) -> None:
     chance = random.Random(seed)
     trace = by_chance.trace(chance, EVENTS)
     calls, log = by_chance.script(chance, trace, CALLS)
     running.write("trace", trace.text())
     if os.path.exists("log"):
         os.remove("log")
-    lines, wanted, pairs = [], [], {}
-    for client, call, answers, before in [*calls, (None, None, None, log)]:
+    lines: list[str] = []
+    wanted: list[str | None] = []
+    pairs: dict[int, tuple[int, int]] = {}
+    for client, call, answered, before in [*calls, (0, (), "", log)]:
         for _ in range(2):
             question, answer = Asked(before, chance, tally).drawn(by_chance.SCHEDULES[:5])
             lines.append(question)
@@ -229,9 +232,9 @@ def judge_session(program, seed, tally):
             lines.append(chance.choice(FAULTY))
             wanted.append(f"line {len(lines)}: 87 bad question")
             tally["faulty"] += 1
-        if call is not None:
+        if call:
             lines.append(f"{client} {plain.call_text(call)}")
-            wanted.append(answers)
+            wanted.append(answered)
     for _ in range(6):
         first, second = (chance.randint(0, len(trace.events)) for _ in range(2))
         pairs[len(wanted)] = (first, second)
@@ -247,7 +250,7 @@ def judge_session(program, seed, tally):
         raise Wrong("a question has made a line of the log")
 
 
-def judged(run):
+def judged(run: judging.Run) -> str:
     for seed in range(run.numbers[0]):
         with judging.about(f"seed {seed}", "trace"):
             judge_session(run.program, seed, run.tally)

@@ -11,6 +11,9 @@ import itertools
 import random
 import re
 import sys
+from collections import Counter
+from collections.abc import Sequence
+from collections.abc import Iterable
 
 if __name__ == "__main__":
     sys.dont_write_bytecode = True
@@ -59,10 +62,10 @@ REACHED = """
 """.split()
 
 
-class Tally(collections.Counter):
+class Tally(collections.Counter[str]):
     """How often each kind of answer was compared."""
 
-    def note(self, log, client, call, answer):
+    def note(self, log: plain.Log, client: int, call: plain.Call, answer: str) -> None:
         word = call[0]
         parts = answer.split(" ")
         if parts[0] == "refused":
@@ -89,7 +92,7 @@ class Tally(collections.Counter):
         self["calls"] += 1
         self["refused"] += parts[0] == "refused"
 
-    def note_refusal(self, log, client, call, parts):
+    def note_refusal(self, log: plain.Log, client: int, call: plain.Call, parts: list[str]) -> None:
         if parts[2] == "24":
             needs, has = parts[6], parts[8]
             self["needs-none" if needs == "none" else "needs-missing" if has == "none" else "needs-other"] += 1
@@ -106,7 +109,7 @@ class Tally(collections.Counter):
         if parts[1] == "70":
             self["batch|70-first" if parts[3] == "0" else "batch|70-later"] += 1
 
-    def note_batch(self, commands):
+    def note_batch(self, commands: plain.Call) -> None:
         """What an accepted batch has."""
         kinds = [command[0] for command in commands]
         for at, name in enumerate(plain.written(command) for command in commands):
@@ -121,7 +124,7 @@ class Tally(collections.Counter):
         self["batch|alone"] += len(commands) == 1
         self["in batches"] += len(commands)
 
-    def note_undo(self, log, client, undone):
+    def note_undo(self, log: plain.Log, client: int, undone: int) -> None:
         what = log.entries[undone].what
         self[f"undo|{what[0]}"] += 1
         self["undone"] += 1
@@ -143,11 +146,11 @@ class Tally(collections.Counter):
 class Judge:
     """Runs the program in this folder, and compares."""
 
-    def __init__(self, program):
+    def __init__(self, program: str) -> None:
         self.program = program
         self.tally = Tally()
 
-    def compare(self, expected, *arguments):
+    def compare(self, expected: str, *arguments: str) -> None:
         """Ends with the first line that the program prints otherwise, if there is such a line, and with the program's
         input."""
         printed = running.printed(self.program, arguments)
@@ -157,14 +160,14 @@ class Judge:
         at, (wanted, found) = next((at, pair) for at, pair in enumerate(pairs, start=1) if pair[0] != pair[1])
         raise Wrong(f"{arguments[0]}, line {at}: {found!r}, and plainly {wanted!r}{judging.texts_of(arguments[1:])}")
 
-    def judge_info(self, trace):
+    def judge_info(self, trace: plain.Trace) -> None:
         running.write("trace", trace.text())
         expected = trace.info()
         self.compare(expected, "info", "trace")
         self.tally["candidates"] += expected.count("\ncandidate ")
         self.tally["traces"] += 1
 
-    def judge_script(self, trace, calls, log=None):
+    def judge_script(self, trace: plain.Trace, calls: list[by_chance.Made], log: plain.Log | None = None) -> None:
         """Judges the script by `replay`, or, if a log is expected, by `threads`."""
         running.write("trace", trace.text())
         running.write("script", "".join(f"{client} {plain.call_text(call)}\n" for client, call, _, _ in calls))
@@ -179,15 +182,15 @@ class Judge:
         self.tally["scripts"] += 1
 
 
-def seen(log):
+def seen(log: plain.Log) -> list[plain.Call]:
     """Calls that show all that the log has come to."""
     names = log.names()
-    return [("list",)] + [("show", name) for name in names] + [("races", name) for name in names]
+    return [("list",), *(("show", name) for name in names), *(("races", name) for name in names)]
 
 
-def looked_at(calls, log, chance):
+def looked_at(calls: list[by_chance.Made], log: plain.Log, chance: random.Random) -> list[by_chance.Made]:
     """The calls, and after some calls all that the log has come to then, seen by the same client."""
-    longer = []
+    longer: list[by_chance.Made] = []
     for (client, call, answer, before), after in zip(calls, [before for _, _, _, before in calls[1:]] + [log]):
         longer.append((client, call, answer, before))
         if call[0] == "undo" or chance.random() < 0.1:
@@ -195,7 +198,7 @@ def looked_at(calls, log, chance):
     return longer
 
 
-def probes(trace, log):
+def probes(trace: plain.Trace, log: plain.Log) -> list[by_chance.Made]:
     """Each event, and a number without an event, put to each schedule, and taken off if it could come next."""
     calls = []
     for name in log.names():
@@ -209,7 +212,7 @@ def probes(trace, log):
     return calls
 
 
-def judge_by_chance(judge):
+def judge_by_chance(judge: Judge) -> None:
     for seed in range(TRACES):
         chance = random.Random(seed)
         trace = by_chance.trace(chance, MOST_EVENTS)
@@ -220,7 +223,7 @@ def judge_by_chance(judge):
             judge.judge_script(trace, calls + probes(trace, log))
 
 
-def judge_idle(judge):
+def judge_idle(judge: Judge) -> None:
     """A thread's fork and join, by two others, without an event of the thread between them."""
     trace = plain.Trace(plain.Event(*event) for event in IDLE_THREAD)
     judge.judge_info(trace)
@@ -229,7 +232,7 @@ def judge_idle(judge):
         judge.judge_script(trace, by_chance.script(chance, trace, chance.randint(*CALLS))[0])
 
 
-def judge_probed(judge):
+def judge_probed(judge: Judge) -> None:
     for seed in range(PROBED):
         judge.judge_info(by_chance.probed(by_chance.trace(random.Random(seed), MOST_PROBED)))
     # More candidates than are printed.
@@ -237,7 +240,7 @@ def judge_probed(judge):
     judge.judge_info(plain.Trace([one] * 40 + [one._replace(thread="other")] * 40))
 
 
-def judge_logs(judge):
+def judge_logs(judge: Judge) -> None:
     """Scripts of client 1 alone, run by `threads`, which prints the log too."""
     for seed in range(LOGS):
         chance = random.Random(seed)
@@ -280,10 +283,10 @@ IN_BATCHES = [
 ]
 
 
-def drawn_commands(chance, trace, mood):
+def drawn_commands(chance: random.Random, trace: plain.Trace, mood: dict[str, int]) -> list[tuple[int, plain.Call]]:
     """Accepted commands of three clients on three schedules."""
     log = plain.Log(trace)
-    commands = []
+    commands: list[tuple[int, plain.Call]] = []
     while len(commands) < UNDOS:
         client = chance.randrange(UNDOING)
         command = by_chance.call(chance, log, ["A", "B", "C"], mood)
@@ -294,23 +297,25 @@ def drawn_commands(chance, trace, mood):
     return commands
 
 
-def with_names(renamed, call):
+def with_names(renamed: dict[str, str], call: plain.Call) -> plain.Call:
     """The command or batch with other names."""
     if call[0] == "batch":
         return (call[0], tuple(with_names(renamed, command) for command in call[1]))
     return tuple(renamed.get(part, part) for part in call)
 
 
-def in_order(log, group, commands, order):
+def in_order(
+    log: plain.Log, group: int, commands: Sequence[tuple[int, plain.Call]], order: Iterable[int]
+) -> tuple[list[by_chance.Made], plain.Log]:
     """The commands and then the undos of the clients, all with names and clients of this group alone; and the log
     after all."""
     names = sorted({name for _, command in commands for name in plain.touches(command)})
     renamed = {name: f"{name}.{group}" for name in names}
-    steps = [(client, with_names(renamed, command)) for client, command in commands]
+    steps: list[tuple[int, plain.Call]] = [(client, with_names(renamed, command)) for client, command in commands]
     for client in order:
         steps += [(client, ("undo",)), (client, ("list",))]
     steps += [(0, ("show", name)) for name in renamed.values()]
-    calls = []
+    calls: list[by_chance.Made] = []
     for client, call in steps:
         number = group * UNDOING + client + 1
         answer, after = log.answer(number, call)
@@ -319,12 +324,12 @@ def in_order(log, group, commands, order):
     return calls, log
 
 
-def judge_orders(judge, trace, commands, undos):
+def judge_orders(judge: Judge, trace: plain.Trace, commands: Sequence[tuple[int, plain.Call]], undos: int) -> None:
     """Each order in which the clients can undo so often."""
     orders = list(itertools.product(range(UNDOING), repeat=undos))
     for first in range(0, len(orders), ORDERS):
         log = plain.Log(trace)
-        all_calls = []
+        all_calls: list[by_chance.Made] = []
         for group, order in enumerate(orders[first : first + ORDERS]):
             calls, log = in_order(log, group, commands, order)
             all_calls += calls
@@ -332,7 +337,7 @@ def judge_orders(judge, trace, commands, undos):
     judge.tally["orders"] += len(orders)
 
 
-def judge_undo(judge):
+def judge_undo(judge: Judge) -> None:
     one_lock = plain.Trace(plain.Event(*event) for event in ONE_LOCK)
     judge_orders(judge, one_lock, COMMANDS, UNDOS)
     judge_orders(judge, one_lock, IN_BATCHES, UNDOS - 2)
@@ -343,9 +348,9 @@ def judge_undo(judge):
         judge_orders(judge, trace, drawn_commands(chance, trace, mood), UNDOS - 2)
 
 
-def summary(tally):
+def summary(tally: Counter[str]) -> str:
     """What was compared, with how often each refusal was, by its number and that of its cause."""
-    refusals = collections.Counter()
+    refusals: collections.Counter[str] = collections.Counter()
     for kind, count in tally.items():
         number = kind.partition("|")[2]
         if re.fullmatch(r"\d+(-\d+)?", number):
@@ -361,7 +366,7 @@ def summary(tally):
     )
 
 
-def judged(run):
+def judged(run: judging.Run) -> str:
     judge = Judge(run.program)
     for part in (judge_by_chance, judge_idle, judge_probed, judge_logs, judge_undo):
         part(judge)

@@ -20,6 +20,8 @@ import random
 import re
 import sys
 import urllib.parse
+from collections.abc import Mapping, Sequence
+from typing import Any
 
 if __name__ == "__main__":
     sys.dont_write_bytecode = True
@@ -30,7 +32,7 @@ import judging
 import plain_names
 import running
 import sarif_rules
-from sarif_rules import Wrong
+from judging import Wrong
 
 TRACES = 60
 MOST_EVENTS = [8, 16, 28]
@@ -105,13 +107,13 @@ REACHED = [
 ]
 
 
-def place_parts(place):
+def place_parts(place: str) -> tuple[str | None, int]:
     """The file and the line of a place, if it has them."""
     own = re.fullmatch(r"(?s)(.+):([0-9]+)", place)
     return (own[1], int(own[2])) if own else (None, 0)
 
 
-def calls_of(location):
+def calls_of(location: str) -> tuple[str, list[tuple[str, str]]]:
     """The function in which a location is, and the calls that led to it, each as a function and a place."""
     calls = []
     for call in location.split(" < ")[1:]:
@@ -125,37 +127,41 @@ def calls_of(location):
 class Event:
     """What a trace has of an event."""
 
-    def __init__(self, line):
+    def __init__(self, line: str) -> None:
         self.thread, operation, self.location = line.split("|", 2)
-        self.word, self.name = re.fullmatch(r"(?s)(\w+)\((.*)\)", operation).groups()
+        self.word, _, name = operation.partition("(")
+        self.name = name.removesuffix(")")
 
-    def place(self):
+    def place(self) -> str:
         return self.location.split(" < ")[0]
 
-    def text(self):
+    def text(self) -> str:
         return f"{self.thread} {VERBS[self.word]} {self.name} at {self.place() or '?'}"
 
 
-def coded_line(line, code):
+def coded_line(line: str, code: code_folders.CodeFolder | None) -> str:
     """A line for editors, with the paths of files in the folder of the code."""
-    place, kind, text = re.fullmatch(r"(.+?): (warning|note): (.*)", line).groups()
+    found = re.fullmatch(r"(.+?): (warning|note): (.*)", line)
+    if not found:
+        raise Wrong(f"a line for editors is {line}")
+    place, kind, text = found.groups()
     other = re.fullmatch(r"(.*, .* at )(.+)( \[[a-z-]+\])", text)
     if other:
         text = other[1] + coded_place(other[2], code) + other[3]
     return f"{coded_place(place, code)}: {kind}: {text}"
 
 
-def coded_place(place, code):
+def coded_place(place: str, code: code_folders.CodeFolder | None) -> str:
     file, _ = place_parts(place)
-    return code.path_of(file) + place[len(file) :] if file else place
+    return code.path_of(file) + place[len(file) :] if code and file else place
 
 
-def base_of(code):
+def base_of(code: code_folders.CodeFolder | None) -> dict[str, dict[str, str]]:
     """What a log says of the folder of the code, if there is one."""
     return {"SRCROOT": {"uri": code.uri()}} if code else {}
 
 
-def printed_without_code(pair):
+def printed_without_code(pair: Sequence[Event]) -> str:
     """The fingerprint of two accesses if no folder has their code: four lines each, the lesser four first."""
     lines = [
         "\n".join(
@@ -172,15 +178,22 @@ def printed_without_code(pair):
 
 
 class Judge:
-    def __init__(self, program):
+    def __init__(self, program: str) -> None:
         self.program = program
-        self.tally = collections.Counter()
+        self.tally: collections.Counter[str] = collections.Counter()
 
-    def equal(self, found, wanted, what):
+    def equal(
+        self,
+        found: object,
+        wanted: object,
+        what: str,
+    ) -> None:
         if found != wanted:
             raise Wrong(f"{what} is {found!r}, and not {wanted!r}")
 
-    def check_location(self, location, place, function, text, root):
+    def check_location(
+        self, location: dict[str, Any], place: str, function: str, text: str, root: code_folders.CodeFolder | None
+    ) -> None:
         """Judges that a location has the place, the function and the text. `root` is the folder of the code, if there
         is one."""
         self.equal(location["message"]["text"], text, "the message of a location")
@@ -211,10 +224,10 @@ class Judge:
             self.tally["no line"] += 1
             self.equal("region" in physical, False, "a line that is none")
 
-    def check_access(self, location, event, root):
+    def check_access(self, location: dict[str, Any], event: Event, root: code_folders.CodeFolder | None) -> None:
         self.check_location(location, event.place(), calls_of(event.location)[0], event.text(), root)
 
-    def check_stack(self, stack, event, root):
+    def check_stack(self, stack: dict[str, Any], event: Event, root: code_folders.CodeFolder | None) -> None:
         self.equal(stack["message"]["text"], event.text(), "the message of a stack")
         own, *frames = [frame["location"] for frame in stack["frames"]]
         self.check_access(own, event, root)
@@ -224,13 +237,19 @@ class Judge:
             self.tally["frame"] += 1
             self.check_location(frame, place, function, function or "a call", root)
 
-    def check_flow(self, flow, events, pair, root):
+    def check_flow(
+        self,
+        flow: dict[str, list[dict[str, Any]]],
+        events: Sequence[Event],
+        pair: Sequence[int],
+        root: code_folders.CodeFolder | None,
+    ) -> None:
         """Each step of the schedule is there once, but the first ones of a thread with many; at its end are the two
         accesses."""
         self.tally["flow"] += 1
         listed = running.printed(self.program, ["witness", "trace", *map(str, pair)]).decode("utf-8").splitlines()
         steps = [int(line.split(" ", 1)[0]) for line in listed if line[:1].isdigit()] + list(pair)
-        threads = {}
+        threads: dict[str, list[tuple[int, int]]] = {}
         for order, event in enumerate(steps, start=1):
             threads.setdefault(events[event].thread, []).append((order, event))
         self.equal({thread["id"] for thread in flow["threadFlows"]}, set(threads), "the threads of a flow")
@@ -257,7 +276,14 @@ class Judge:
                 )
                 self.check_access(step["location"], events[event], root)
 
-    def check_result(self, result, row, events, root, is_drawn):
+    def check_result(
+        self,
+        result: dict[str, Any],
+        row: dict[str, Any],
+        events: Sequence[Event],
+        root: code_folders.CodeFolder | None,
+        is_drawn: bool,
+    ) -> None:
         kind = row["kind"]
         self.tally[kind] += 1
         self.equal((result["ruleId"], result["kind"], result["level"]), RULES[kind], "the rule")
@@ -281,18 +307,18 @@ class Judge:
         else:
             self.equal("codeFlows" in result, False, "a code flow of what is not drawn")
 
-    def log_of(self, arguments):
+    def log_of(self, arguments: list[str]) -> dict[str, Any]:
         out = running.printed(self.program, ["triage", "trace", "--sarif", *arguments])
         if not out.endswith(b"\n") or out.count(b"\n") != 1:
             raise Wrong("the log is no line")
-        log = json.loads(out.decode("utf-8"))
+        log: dict[str, Any] = json.loads(out.decode("utf-8"))
         sarif_rules.check(log)
         rules = log["runs"][0]["tool"]["driver"]["rules"]
         found = [(rule["id"], rule["defaultConfiguration"]["level"]) for rule in rules]
         self.equal(found, [(rule, level) for rule, _, level in RULES.values()], "the rules, and the level of each")
         return log
 
-    def check_lines(self, folder):
+    def check_lines(self, folder: str) -> None:
         """Judges that `--lines` with the folder of the code has the lines that it has without, with the paths of files
         in the folder."""
         code = code_folders.CodeFolder(folder)
@@ -301,7 +327,7 @@ class Judge:
         self.equal(coded.splitlines(), [coded_line(line, code) for line in plain.splitlines()], "the lines")
         self.tally["other line"] += coded != plain
 
-    def check(self, lines, arguments, root=None):
+    def check(self, lines: list[str], arguments: list[str], root: str | None = None) -> list[str]:
         """Judges the log of a trace with these lines. Returns the fingerprints of its results."""
         with open("trace", "w", encoding="utf-8") as out:
             out.write("".join(line + "\n" for line in lines))
@@ -330,14 +356,14 @@ class Judge:
         return prints
 
 
-def drawn(chance, number):
+def drawn(chance: random.Random, number: int) -> list[str]:
     """The lines of a trace drawn by chance, with locations."""
     trace = chance.choice(DRAWS)(chance, chance.choice(MOST_EVENTS))
     few = [place and place + chance.choice(CALLS) for place in chance.choices(PLACES, k=chance.randint(1, 5))]
     return [trace.line(event) + chance.choice(few) for event in range(len(trace.events))] if number >= 0 else []
 
 
-def racy(gap, place, other):
+def racy(gap: int, place: str, other: str) -> list[str]:
     """A race between a writer and a reader, with this many events of the writer before."""
     return [
         "main|fork(T1)|m.c:1",
@@ -348,19 +374,19 @@ def racy(gap, place, other):
     ]
 
 
-def check_long(judge):
+def check_long(judge: Judge) -> None:
     """Schedules with up to, and more than, the steps that a thread may have."""
     # (the writer has the events before, and the access itself)
     for gap in (MOST_STEPS - 2, MOST_STEPS - 1, MOST_STEPS, 3 * MOST_STEPS):
         judge.check(racy(gap, "a.c:5", "b.c:6") + ["T2|w(own)|b.c:9"], [])
 
 
-def check_many(judge):
+def check_many(judge: Judge) -> None:
     """More races than there are code flows."""
     judge.check([f"T{1 + at % 2}|w(v{at // 2})|c.c:{at}" for at in range(2 * (MOST_FLOWS + 5))], [])
 
 
-def check_hostile(judge):
+def check_hostile(judge: Judge) -> None:
     """Names with quotes, braces, markup and line ends of other systems; calls without end."""
     for name in ['"', "\\", "{0}", "[a](http://b)", "\u2028", "</script>", "%s"]:
         lines = [f"T1|w({name})|a{name}.c:1 < f{name}", f"T2|w({name})|b.c:2 < g{name} < h a{name}.c:3"]
@@ -368,14 +394,14 @@ def check_hostile(judge):
     judge.check(["T1|w(x)|a.c:1" + " < f a.c:2" * 100, "T2|w(x)|b.c:1 < main" + " < g b.c:3" * 70], [])
 
 
-def write_code(texts):
+def write_code(texts: Mapping[str, Sequence[str]]) -> None:
     os.makedirs("code/sub", exist_ok=True)
     for name, lines in texts.items():
         with open(os.path.join("code", name), "w", encoding="utf-8") as out:
             out.write("".join(line + "\n" for line in lines))
 
 
-def check_moved(judge):
+def check_moved(judge: Judge) -> None:
     """A moved line keeps its fingerprint; another line, function, variable or file has another one. The order of the
     accesses does not matter."""
     code = {"p.c": ["int x;", "", "    x = 1;", "return x;"], "sub/p.c": ["", "x = 1;"]}
@@ -418,7 +444,7 @@ def check_moved(judge):
         judge.equal(gone, ["gone.c\n\nx\n\np.c\n\nx\n"], "the fingerprint of lines that are not there")
 
 
-def check_below(judge):
+def check_below(judge: Judge) -> None:
     """A file below the folder is found by the parts of its path. If two fit equally well, neither is written."""
     write_code({"p.c": ["int x;", "x = 1;"], "sub/p.c": ["int y;", "y = 1;"], "q.c": ["return x;"]})
     os.makedirs("tree/a/src", exist_ok=True)
@@ -440,7 +466,7 @@ def check_below(judge):
     judge.tally["uri of a folder"] += 1
 
 
-def write_links():
+def write_links() -> None:
     """Links in the folder `tree`: round it, out of it, and within it; and one to it."""
     links = {"tree/a/loop": "..", "tree/a/self": "self", "tree/out": "../code", "tree/out.c": "../code/q.c"}
     for link, target in {**links, "tree/in.c": "b/src/two.c", "linked": "tree"}.items():
@@ -450,11 +476,11 @@ def write_links():
         os.makedirs(raw, exist_ok=True)
 
 
-def check_bounds(judge):
+def check_bounds(judge: Judge) -> None:
     """A fingerprint has a line of code whole up to 256 bytes; files up to 16,777,216 bytes are read, and 65,536
     lines."""
 
-    def judged_as(lines, line):
+    def judged_as(lines: list[str], line: str) -> None:
         made = judge.check([*lines, "T1|w(x)|p.c:1", "T2|r(x)|q.c:1"], [], "code")
         judge.equal(made, [f"p.c\n\nx\n{line}\nq.c\n\nx\nint y;"], "the fingerprint at a bound")
         judge.tally["bound"] += 1
@@ -471,7 +497,7 @@ def check_bounds(judge):
     judged_as([f"T1|w(o)|o.c:{at}" for at in range(1, 65_535)], "int x;")
 
 
-def check_filters(judge):
+def check_filters(judge: Judge) -> None:
     judge.check(["T1|w(x)|a.c:1", "T2|w(x)|b.c:2", "T1|w(y)|a.c:3", "T2|w(y)|b.c:4"], ["--hide", "(y)"])
     judge.check(["T1|w(x)|a.c:1"], [])
     judge.check(
@@ -480,7 +506,7 @@ def check_filters(judge):
     )
 
 
-def judged(run):
+def judged(run: judging.Run) -> str:
     judge = Judge(run.program)
     for part in (check_filters, check_hostile, check_moved, check_below, check_bounds, check_long, check_many):
         with judging.about(part.__name__):

@@ -7,6 +7,7 @@ Takes the program's path. Says what is wrong, if something is, and ends with sta
 
 import random
 import sys
+from collections import Counter
 
 if __name__ == "__main__":
     sys.dont_write_bytecode = True
@@ -31,11 +32,11 @@ LEAST_MIXED = 100
 REACHED = ["add", "back", "swap", "branch", "drop", "adopt", "batch", "undo", "propose", "blocked", "later"]
 
 
-def scripts(chance, trace):
+def scripts(chance: random.Random, trace: plain.Trace) -> list[list[plain.Call]]:
     """A list of calls for each client. They are drawn after a log that has the calls of all, in some order; the order
     in which they come to be made is another."""
     lengths = [chance.randint(*CALLS) for _ in range(chance.randint(*CLIENTS))]
-    drawn = [[] for _ in lengths]
+    drawn: list[list[plain.Call]] = [[] for _ in lengths]
     names = chance.sample(by_chance.SCHEDULES, 2)
     mood = chance.choice(by_chance.MOODS)
     log = plain.Log(trace)
@@ -49,7 +50,9 @@ def scripts(chance, trace):
     return drawn
 
 
-def judge_run(program, tally, room, trace, drawn):
+def judge_run(
+    program: str, tally: Counter[str], room: list[str], trace: plain.Trace, drawn: list[list[plain.Call]]
+) -> None:
     arguments = ["threads", *room, "trace"] + [f"script{client}" for client in range(1, len(drawn) + 1)]
     running.write("trace", trace.text())
     for client, calls in enumerate(drawn, start=1):
@@ -65,7 +68,7 @@ def judge_run(program, tally, room, trace, drawn):
     tally.update(seen)
 
 
-def judged(run):
+def judged(run: judging.Run) -> str:
     tally, seed = run.tally, 0
     traces = [by_chance.trace(random.Random(number), MOST_EVENTS) for number in range(TRACES)]
     while seed < RUNS or (tally["mixed"] < LEAST_MIXED and seed < MOST_RUNS):

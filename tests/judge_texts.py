@@ -9,6 +9,7 @@ tests/plain.py. Takes the program's path. Says what is wrong, if something is, a
 import re
 import subprocess
 import sys
+from collections.abc import Sequence
 
 if __name__ == "__main__":
     sys.dont_write_bytecode = True
@@ -98,14 +99,14 @@ REFUSED = [
 ]
 
 
-def note_of(events):
+def note_of(events: str | Sequence[str]) -> str:
     """What is printed for a trace of these events; a text is printed as it is."""
     if isinstance(events, str):
         return events
     return plain.Trace(plain.Event(*event.split(" ")) for event in events).info()
 
 
-def judge(program, text, wanted):
+def judge(program: str, text: str, wanted: tuple[int, str, str]) -> None:
     """Whether the program ends so and prints this of the text."""
     running.write("trace", text)
     done = subprocess.run([program, "info", "trace"], capture_output=True, timeout=running.PATIENCE, check=False)
@@ -114,11 +115,11 @@ def judge(program, text, wanted):
         raise Wrong(f"{found}, and to be {wanted}, of {text[:200]!r}, a text of {len(text)} bytes")
 
 
-def judged(run):
-    rows = [(text, (0, note_of(events), "")) for events, *texts in ACCEPTED for text in texts]
+def judged(run: judging.Run) -> str:
+    rows = [(text, (0, note_of(row[0]), "")) for row in ACCEPTED for text in row[1:] if isinstance(text, str)]
     accepted = len(rows)
     rows += [(text, (1, "", f"racebench: trace {fault}\n")) for fault, *texts in REFUSED for text in texts]
-    missing = NUMBERS - {int(re.search(r": (\d+) ", fault)[1]) for fault, *_ in REFUSED}
+    missing = NUMBERS - {int(number) for fault, *_ in REFUSED for number in re.findall(r": (\d+) ", fault)[:1]}
     if missing or not accepted:
         raise Wrong(f"no text is refused for {missing}, or none is accepted")
     for text, wanted in rows:

@@ -8,6 +8,7 @@ what is wrong, if something is, and ends with status 1 then.
 
 import random
 import sys
+from collections import Counter
 
 if __name__ == "__main__":
     sys.dont_write_bytecode = True
@@ -45,7 +46,7 @@ REACHED = [
 ]
 
 
-def trace():
+def trace() -> plain.Trace:
     """Threads that write and read in turn under one lock, and outside it."""
     events = []
     for i in range(EVENTS // 4):
@@ -54,7 +55,7 @@ def trace():
     return plain.Trace(plain.Event(*event) for event in events)
 
 
-def call(chance, own):
+def call(chance: random.Random, own: str) -> str:
     """One call on a schedule of the client's own or on one that all clients change."""
     name = chance.choice([own] + SHARED)
     event = chance.randrange(EVENTS // 2)
@@ -82,12 +83,12 @@ def call(chance, own):
     return chance.choice(kinds)
 
 
-def swapping(name):
+def swapping(name: str) -> list[str]:
     """Calls that end in a swap that no other client's call can spoil, since no other names this schedule."""
     return [f"new {name}"] + [f"add {name} {event}" for event in range(5)] + [f"swap {name} 3"]
 
 
-def scripts():
+def scripts() -> list[list[str]]:
     """For each client the lines of its script, without its number."""
     texts = []
     for client in range(1, CLIENTS + 1):
@@ -96,7 +97,14 @@ def scripts():
     return texts
 
 
-def judge_run(program, tally, room, of, names, drawn):
+def judge_run(
+    program: str,
+    tally: Counter[str],
+    room: list[str],
+    of: plain.Trace,
+    names: list[str],
+    drawn: list[list[plain.Call]],
+) -> None:
     """Judges one run, and counts what was seen."""
     printed = running.printed(program, ["threads", *room, "trace", *names]).decode("ascii")
     try:
@@ -106,7 +114,7 @@ def judge_run(program, tally, room, of, names, drawn):
         raise Wrong(f"{what}\n--- printed\n{printed}") from what
 
 
-def judged(run):
+def judged(run: judging.Run) -> str:
     of, written, tally, runs = trace(), scripts(), run.tally, 0
     drawn = [[plain.call_of(line) for line in lines] for lines in written]
     running.write("trace", of.text())

@@ -16,6 +16,7 @@ import os
 import random
 import sys
 import tempfile
+from collections.abc import Iterable
 
 if __name__ == "__main__":
     sys.dont_write_bytecode = True
@@ -63,48 +64,51 @@ REACHED = [
 ]
 
 
+# A conflicting pair: its later event, its earlier one, and its kind.
+Pair = tuple[int, int, str]
+
+
 class Located:
     """A trace with a drawn location for each event."""
 
-    def __init__(self, trace, chance, places=None):
+    def __init__(self, trace: plain.Trace, chance: random.Random, places: list[str] | None = None) -> None:
         self.trace = trace
         drawn = [f"p{number}.c:{number}" + chance.choice(CALLS) for number in range(chance.randint(1, 6))]
         self.places = places or [chance.choice(drawn) for _ in trace.events]
 
-    def line(self, event):
+    def line(self, event: int) -> str:
         return self.trace.line(event) + self.places[event]
 
-    def text(self):
+    def text(self) -> str:
         return "".join(self.line(event) + "\n" for event in range(len(self.places)))
 
-    def groups(self):
+    def groups(self) -> dict[tuple[str, str], list[Pair]]:
         """The conflicting pairs by pair of places, each by its later event and then its earlier one, with its kind."""
-        groups = collections.defaultdict(list)
+        groups: dict[tuple[str, str], list[Pair]] = collections.defaultdict(list)
         for first, second in self.trace.conflicting():
-            groups[tuple(sorted((self.places[first], self.places[second])))].append(
-                (second, first, self.trace.kind(first, second))
-            )
+            one, other = sorted((self.places[first], self.places[second]))
+            groups[one, other].append((second, first, self.trace.kind(first, second)))
         return {places: sorted(pairs) for places, pairs in groups.items()}
 
 
-def tries_of(trace, pairs):
+def tries_of(trace: plain.Trace, pairs: list[Pair]) -> list[tuple[int, int]]:
     """The least open pair of each variable and two threads, in rising order."""
-    least = {}
+    least: dict[tuple[str, str, str], tuple[int, int]] = {}
     for second, first, kind in pairs:
         if kind == "open":
             least.setdefault((trace.events[first].name, trace.thread(first), trace.thread(second)), (second, first))
     return sorted(least.values())
 
 
-def size(trace, listed):
+def size(trace: plain.Trace, listed: plain.Listed) -> str:
     return f"events {len(listed)} threads {len({trace.thread(event) for event in listed})}"
 
 
-def variables(trace, pairs):
+def variables(trace: plain.Trace, pairs: list[Pair]) -> int:
     return len({trace.events[first].name for _, first, kind in pairs if kind in ("candidate", "open")})
 
 
-def verdict(trace, pairs, tries):
+def verdict(trace: plain.Trace, pairs: list[Pair], tries: int) -> tuple[int, tuple[int, int], str]:
     """The order of the block among others, its first line, and the two events. The size of a schedule in another
     order than the trace's is left out."""
     counted = collections.Counter(kind for _, _, kind in pairs)
@@ -115,7 +119,7 @@ def verdict(trace, pairs, tries):
             0,
             (second, first),
             f"race {first} {second} candidate pairs {counted['candidate']} {of_open} "
-            f"{size(trace, trace.in_order(first, second))}",
+            f"{size(trace, trace.in_order(first, second) or ())}",
         )
     if not counted["open"]:
         second, first, _ = pairs[0]
@@ -139,9 +143,9 @@ def verdict(trace, pairs, tries):
     )
 
 
-def text_of(objects):
+def text_of(objects: Iterable[str]) -> list[str]:
     """The lines of text that tell what these objects tell."""
-    lines = []
+    lines: list[str] = []
     for fields in map(json.loads, objects):
         kind = fields.pop("kind")
         if kind == "counts":
@@ -170,11 +174,11 @@ def text_of(objects):
 
 
 class Judge:
-    def __init__(self, program):
+    def __init__(self, program: str) -> None:
         self.program = program
-        self.tally = collections.Counter()
+        self.tally: collections.Counter[str] = collections.Counter()
 
-    def turned_size(self, trace, first, second):
+    def turned_size(self, trace: plain.Trace, first: int, second: int) -> str:
         """The size of the schedule that `witness` prints of the pair, which must be a correct reordering that shows
         it. The events are counted here."""
         lines = (
@@ -185,12 +189,12 @@ class Judge:
             raise Wrong(f"witness prints {listed}, which does not show {first} and {second}")
         return size(trace, listed)
 
-    def access(self, located, event):
+    def access(self, located: Located, event: int) -> list[str]:
         holds = [f"    holds {lock}" for lock in located.trace.locks_before(event)]
         self.tally["holds"] += len(holds)
         return ["  " + located.line(event), *holds]
 
-    def wanted(self, located, tries):
+    def wanted(self, located: Located, tries: int) -> tuple[list[str], list[list[str]]]:
         """The counts, and the blocks in their order, each as its lines."""
         trace = located.trace
         groups = located.groups()
@@ -222,7 +226,7 @@ class Judge:
             blocks.append([head, *self.access(located, first), *self.access(located, second)])
         return counts, blocks
 
-    def compare(self, wanted, out):
+    def compare(self, wanted: list[str], out: bytes) -> None:
         lines = out.decode("ascii").split("\n")[:-1]
         if len(lines) != len(wanted):
             raise Wrong(f"{len(lines)} lines are printed, and not {len(wanted)}: {lines}, and not {wanted}")
@@ -230,7 +234,7 @@ class Judge:
             if line != want:
                 raise Wrong(f"`{line}` is printed, and not `{want}`")
 
-    def judge_trace(self, located, chance, is_usual):
+    def judge_trace(self, located: Located, chance: random.Random, is_usual: bool) -> None:
         """Judges what is printed of the trace, with as many tries as are usual, or as are drawn."""
         running.write("trace", located.text())
         tries = 16 if is_usual else chance.choice(TRIES)
@@ -262,7 +266,8 @@ class Judge:
             self.judge_json(out, "--known", "known", *flag)
         self.tally["known"] += len(races)
         self.judge_filters(counts, rest, flag, chance)
-        arguments = ["triage", "trace", *chance.choice([[], ["--json"], ["--lines"], ["--page"], ["--sarif"]]), *flag]
+        forms: list[list[str]] = [[], ["--json"], ["--lines"], ["--page"], ["--sarif"]]
+        arguments = ["triage", "trace", *chance.choice(forms), *flag]
         status, out, err = running.ended(self.program, [*arguments, "--fail"])
         wanted = (3, b"") if races else (0, b"") if located.trace.events else (4, NO_EVENTS)
         if (status, err) != wanted or out != running.printed(self.program, arguments):
@@ -274,7 +279,9 @@ class Judge:
         self.tally["traces"] += 1
         self.tally["pairs"] += int(counts[2].split(" ")[1])
 
-    def judge_marks(self, located, races, arguments, out, chance):
+    def judge_marks(
+        self, located: Located, races: list[list[str]], arguments: list[str], out: bytes, chance: random.Random
+    ) -> None:
         """Judges the report on a recording of the trace with marks, whole or not, by the report without marks."""
         end, absent = chance.choice(missing.ENDS)
         running.write("trace", missing.BEGIN + located.text() + end)
@@ -292,7 +299,7 @@ class Judge:
         self.tally["not whole" if absent else "whole"] += 1
         self.tally["unjudged"] += status == 4 and has_events
 
-    def judge_json(self, out, *arguments):
+    def judge_json(self, out: bytes, *arguments: str) -> None:
         """Compares the objects that are printed with the text for the same words."""
         printed = running.printed(self.program, ["triage", "trace", "--json", *arguments]).decode("utf-8").splitlines()
         from_json = text_of(printed)
@@ -305,7 +312,7 @@ class Judge:
             raise Wrong(f"lines for editors tell {lines}, and not {wanted}")
         self.tally["called"] += sum(" note: in " in line for line in lines)
 
-    def judge_filters(self, counts, rest, flag, chance):
+    def judge_filters(self, counts: list[str], rest: list[list[str]], flag: list[str], chance: random.Random) -> None:
         text = chance.choice(["p0.c", "|w(", "|r(x)", "T1|", "p1.c:1"])
         word = chance.choice(["--only", "--hide"])
         has = [
@@ -320,11 +327,11 @@ class Judge:
         self.tally["hidden"] += len(rest) - len(kept)
 
 
-def made(*lines):
+def made(*lines: str) -> plain.Trace:
     return plain.Trace(plain.Event(*line.split(" ")) for line in lines)
 
 
-def undecided(variables):
+def undecided(variables: int) -> tuple[plain.Trace, list[str]]:
     """A trace and the places of its events: two places that have this many open pairs, of as many variables, none of
     which is shown."""
     names = range(variables)
@@ -344,7 +351,7 @@ MADE = [
 ]
 
 
-def judge_some(program, first, numbers):
+def judge_some(program: str, first: int, numbers: Iterable[int]) -> collections.Counter[str]:
     """Judges the traces with these numbers in its own folder, and returns what was seen."""
     judge = Judge(program)
     with tempfile.TemporaryDirectory() as folder:
@@ -358,7 +365,7 @@ def judge_some(program, first, numbers):
     return judge.tally
 
 
-def judged(run):
+def judged(run: judging.Run) -> str:
     traces, first = run.numbers
     processors = len(os.sched_getaffinity(0))
     shares = [range(-len(MADE) + share, traces, processors) for share in range(processors)]

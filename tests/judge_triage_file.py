@@ -22,6 +22,9 @@ import re
 import subprocess
 import sys
 import tomllib
+from collections import Counter
+from collections.abc import Callable
+from typing import Any
 
 if __name__ == "__main__":
     sys.dont_write_bytecode = True
@@ -90,7 +93,7 @@ WORDS = {
 }
 
 
-def drawn_trace(chance):
+def drawn_trace(chance: random.Random) -> list[str]:
     """Lines of a trace: three threads that access a few variables at a few locations."""
     lines = ["T0|fork(T1)|m.c:1 < main", "T0|fork(T2)|m.c:2 < main"]
     for _ in range(chance.choice([4, 8, 14])):
@@ -101,14 +104,14 @@ def drawn_trace(chance):
     return lines
 
 
-def parts(line):
+def parts(line: str) -> tuple[str, str | None, str]:
     """The thread, the variable (none if it is no access) and the location of a line."""
     thread, operation, location = line.split("|", 2)
     found = re.fullmatch(r"[rw]\((.*)\)", operation)
     return thread, found[1] if found else None, location
 
 
-def side_of(location):
+def side_of(location: str) -> tuple[str, str, str]:
     """The path, the line and the function of a location."""
     place, *calls = location.split(" < ")
     found = re.fullmatch(r"(.+):([0-9]+)", place, re.DOTALL)
@@ -120,11 +123,11 @@ def side_of(location):
     return path, line, function
 
 
-def pair_at(entry, key, at, missing):
+def pair_at(entry: dict[str, Any], key: str, at: int, missing: str | None) -> int | str | None:
     return entry[key][at] if key in entry else missing
 
 
-def fits(entry, at, location):
+def fits(entry: dict[str, Any], at: int, location: str) -> bool:
     path, line, function = side_of(location)
     named = pair_at(entry, "functions", at, "")
     if pair_at(entry, "paths", at, "") != path or (named and named != function):
@@ -135,7 +138,7 @@ def fits(entry, at, location):
     return line == "" if number is None or (number == 0 and line == "") else str(number) == line
 
 
-def is_about(entry, lines, first, second):
+def is_about(entry: dict[str, Any], lines: list[str], first: int, second: int) -> bool:
     one, other = (parts(lines[event])[2] for event in (first, second))
     if not (fits(entry, 0, one) and fits(entry, 1, other) or fits(entry, 0, other) and fits(entry, 1, one)):
         return False
@@ -151,24 +154,24 @@ def is_about(entry, lines, first, second):
     )
 
 
-def mistake_of(entry):
+def mistake_of(entry: dict[str, Any]) -> str | None:
     """The first mistake of an entry, in the order of the format."""
 
-    def texts(value):
+    def texts(value: object) -> bool:
         return isinstance(value, list) and all(isinstance(item, str) for item in value)
 
-    def numbers(value):
+    def numbers(value: object) -> bool:
         return isinstance(value, list) and len(value) == 2 and all(type(item) is int for item in value)
 
-    def two(value):
-        return texts(value) and len(value) == 2
+    def two(value: object) -> bool:
+        return isinstance(value, list) and texts(value) and len(value) == 2
 
-    tests = [
+    tests: list[tuple[str, Callable[[Any], bool]]] = [
         ("functions", two),
-        ("variables", lambda value: texts(value) and value),
+        ("variables", lambda value: texts(value) and bool(value)),
         ("lines", numbers),
     ]
-    last = [
+    last: list[tuple[str, Callable[[Any], bool]]] = [
         ("reason", lambda value: isinstance(value, str)),
         ("author", lambda value: isinstance(value, str)),
         ("expires", lambda value: type(value) is datetime.date),
@@ -177,7 +180,7 @@ def mistake_of(entry):
         return "table"
     if set(entry) - KEYS:
         return "unknown"
-    if not two(entry.get("paths")):
+    if not two(entry.get("paths", [])):
         return "paths"
     for key, test in tests:
         if key in entry and not test(entry[key]):
@@ -190,7 +193,11 @@ def mistake_of(entry):
     return None
 
 
-def refusal_of(text):
+def expired(entry: dict[str, Any]) -> str | None:
+    return "expired" if entry.get("expires", TODAY) < TODAY else None
+
+
+def refusal_of(text: str) -> str | None:
     """What standard error must begin with; the line alone if it is no TOML; nothing if the file is taken."""
     try:
         table = tomllib.loads(text)
@@ -202,7 +209,7 @@ def refusal_of(text):
         line = next((n for n, line in enumerate(lines) if re.match(rf"\[?\[?{key}(?![A-Za-z0-9_-])", line)), 0)
         return f"racebench: triage file line {line + 1} column 1: not a `[[race]]` entry"
     heads = [at for at, line in enumerate(lines) if line.startswith("[[")]
-    for wrong in (mistake_of, lambda entry: "expired" if entry.get("expires", TODAY) < TODAY else None):
+    for wrong in (mistake_of, expired):
         for at, entry in enumerate(table.get("race", [])):
             found = wrong(entry)
             if found:
@@ -216,10 +223,15 @@ def refusal_of(text):
     return None
 
 
-def entry_written(lines, first, second):
+# The two sides of an entry, each with path, line and function, and the variable if it has one.
+Written = tuple[tuple[str, str, str], tuple[str, str, str], str | None]
+
+
+def entry_written(lines: list[str], first: int, second: int) -> Written:
     """What `--init-triage` writes of a race, but for its line: the accesses in an order of their own, and the variable
     without its number if the source has it and one of the two locations accesses no other."""
-    used, one = parts(lines[first])[1:]
+    _, used, one = parts(lines[first])
+    assert used is not None
     other = parts(lines[second])[2]
     name = without_number(used)
     others = [
@@ -227,21 +239,24 @@ def entry_written(lines, first, second):
         for location in (one, other)
     ]
     is_alone = {name} in others and not used.startswith(("stack:", "memory:"))
-    return (*sorted(map(side_of, (one, other))), name if is_alone else None)
+    first_side, second_side = sorted(map(side_of, (one, other)))
+    return first_side, second_side, name if is_alone else None
 
 
-def entry_read(entry):
+def entry_read(entry: dict[str, Any]) -> Written:
     """The same of an entry that is read. A line that is no number of TOML is 0."""
     sides = zip(entry["paths"], map(str, entry["lines"]), entry["functions"], strict=True)
-    return (*sorted(sides), *entry.get("variables", [None]))
+    one, other = sorted(sides)
+    (variable,) = entry.get("variables", [None])
+    return one, other, variable
 
 
-def plain_line(side):
+def plain_line(side: tuple[str, str, str]) -> tuple[str, str, str]:
     path, line, function = side
     return path, line if re.fullmatch(r"[1-9][0-9]{0,17}", line) else "0", function
 
 
-def judge_written(lines, races, text):
+def judge_written(lines: list[str], races: list[tuple[int, int]], text: str) -> None:
     """Each race has an entry, no entry is there twice, and each is that of a race."""
     entries = list(map(entry_read, tomllib.loads(text).get("race", [])))
     wanted = {
@@ -252,7 +267,7 @@ def judge_written(lines, races, text):
     demand(set(entries) == wanted, f"the entries {set(entries) ^ wanted} are written, or are missing")
 
 
-def literal(value):
+def literal(value: datetime.date | int | list[int | str] | str) -> str:
     if isinstance(value, list):
         return "[" + ", ".join(map(literal, value)) + "]"
     if isinstance(value, str):
@@ -260,7 +275,7 @@ def literal(value):
     return str(value)
 
 
-def drawn_entry(chance, lines, races):
+def drawn_entry(chance: random.Random, lines: list[str], races: list[tuple[int, int]]) -> dict[str, Any]:
     """An entry that resembles a race, or anything."""
     locations = (
         [side_of(parts(lines[event])[2]) for event in chance.choice(races)]
@@ -269,7 +284,7 @@ def drawn_entry(chance, lines, races):
     )
     if chance.random() < 0.4:
         locations.reverse()
-    entry = {"paths": [path for path, _, _ in locations]}
+    entry: dict[str, Any] = {"paths": [path for path, _, _ in locations]}
     if chance.random() < 0.7:
         entry["functions"] = [function if chance.random() < 0.9 else "" for _, _, function in locations]
     if chance.random() < 0.6:
@@ -286,15 +301,15 @@ def drawn_entry(chance, lines, races):
     return entry
 
 
-def text_of(entries):
+def text_of(entries: list[dict[str, Any]]) -> str:
     return "\n".join(
         "[[race]]\n" + "".join(f"{key} = {literal(value)}\n" for key, value in entry.items()) for entry in entries
     )
 
 
-def spoiled(chance, text):
+def spoiled(chance: random.Random, text: str) -> str:
     """The text with a mistake, perhaps."""
-    changes = [
+    changes: list[Callable[[], str]] = [
         lambda: text.replace('verdict = "', 'verdict = "un', 1),
         lambda: text.replace("paths = [", "paths = [3, ", 1),
         lambda: text.replace("paths = ", "path = ", 1),
@@ -311,28 +326,28 @@ def spoiled(chance, text):
     return chance.choice(changes)()
 
 
-def run(program, folder, *args):
+def run(program: str, folder: str, *args: str) -> subprocess.CompletedProcess[bytes]:
     return subprocess.run(
         [program, "triage", "t.std", *args], cwd=folder, capture_output=True, timeout=running.PATIENCE
     )
 
 
-def blocks(output):
+def blocks(output: bytes) -> list[tuple[int, int]]:
     """Each race that is printed: its two events."""
-    return [tuple(map(int, found)) for found in re.findall(rb"^race (\d+) (\d+) ", output, re.MULTILINE)]
+    return [(int(one), int(two)) for one, two in re.findall(rb"^race (\d+) (\d+) ", output, re.MULTILINE)]
 
 
-def write(folder, name, text):
+def write(folder: str, name: str, text: str) -> None:
     with open(os.path.join(folder, name), "w", encoding="utf-8", newline="") as file:
         file.write(text)
 
 
-def demand(holds, what):
+def demand(holds: bool | re.Match[bytes], what: bytes | str) -> None:
     if not holds:
         raise Wrong(what)
 
 
-def judge_forms(program, folder, kept, races, notes):
+def judge_forms(program: str, folder: str, kept: list[tuple[int, int]], races: int, notes: bytes) -> None:
     """In each form the same races are left out and counted, and the same notes are written."""
     arguments = ["--triage", "f.toml", "--today", TODAY.isoformat()]
     made = {form: run(program, folder, form, *arguments) for form in ("--json", "--lines", "--page", "--sarif")}
@@ -350,7 +365,9 @@ def judge_forms(program, folder, kept, races, notes):
     demand([tuple(map(int, row)) for row in rows] == kept, f"the page has {rows}, and not {kept}")
 
 
-def judge_file(program, folder, lines, races, text, reached):
+def judge_file(
+    program: str, folder: str, lines: list[str], races: list[tuple[int, int]], text: str, reached: Counter[str]
+) -> None:
     """One run with a triage file."""
     write(folder, "f.toml", text)
     day = TODAY.isoformat()
@@ -359,8 +376,8 @@ def judge_file(program, folder, lines, races, text, reached):
     if refusal == "not TOML":
         demand(
             done.returncode == 1
-            and re.fullmatch(rb"racebench: triage file line \d+ column \d+: not TOML\n", done.stderr),
-            f"no TOML is taken: {done.stderr}",
+            and bool(re.fullmatch(rb"racebench: triage file line \d+ column \d+: not TOML\n", done.stderr)),
+            f"no TOML is taken: {done.stderr!r}",
         )
         reached["refused TOML"] += 1
         return
@@ -409,7 +426,7 @@ def judge_file(program, folder, lines, races, text, reached):
     reached["printed"] += len(kept)
 
 
-def judge_trace(program, folder, seed, reached):
+def judge_trace(program: str, folder: str, seed: int, reached: Counter[str]) -> None:
     """One trace, its written file, and some drawn files."""
     chance = random.Random(seed)
     lines = drawn_trace(chance)
@@ -437,7 +454,7 @@ def judge_trace(program, folder, seed, reached):
         judge_file(program, folder, lines, races, spoiled(chance, text), reached)
 
 
-def judge_columns(program, folder, chance, reached):
+def judge_columns(program: str, folder: str, chance: random.Random, reached: Counter[str]) -> None:
     """A text that stops to be TOML after a key and its value is refused at that character."""
     begin = text_of([{"paths": ["u.c", "u.c"], "verdict": "known"}] * chance.randint(0, 3))
     value = "".join(chance.choices("aä€\U0001f600", k=chance.randint(0, 9)))
@@ -445,14 +462,14 @@ def judge_columns(program, folder, chance, reached):
     place = f"line {begin.count(chr(10)) + 1} column {len(value) + 12}"
     done = run(program, folder, "--triage", "f.toml")
     wanted = (1, b"", f"racebench: triage file {place}: not TOML\n".encode())
-    demand((done.returncode, done.stdout, done.stderr) == wanted, f"{done.stderr} in place of {wanted[2]}")
+    demand((done.returncode, done.stdout, done.stderr) == wanted, f"{done.stderr!r} in place of {wanted[2]!r}")
     reached["no TOML at a column"] += 1
 
 
-def judge_clock(program, folder, reached):
+def judge_clock(program: str, folder: str, reached: Counter[str]) -> None:
     """Without `--today` an entry is in force up to its last day by the system's clock in UTC."""
 
-    def clock():
+    def clock() -> datetime.date:
         return datetime.datetime.now(datetime.timezone.utc).date()
 
     for days in (0, 1, 40, 400, -1, -2, -40, -400):
@@ -472,13 +489,13 @@ def judge_clock(program, folder, reached):
         reached["days of the clock"] += 1
 
 
-def at_clock(program, folder, clock, *arguments):
+def at_clock(program: str, folder: str, clock: int | str, *arguments: str) -> tuple[int, bytes, bytes]:
     """A run at these seconds of the clock of the day, by tools/clock.c."""
     path = os.path.abspath(os.path.join(folder, "clock.so"))
     return running.ended(program, ["triage", *arguments], {"LD_PRELOAD": path, "CLOCK_AT": str(clock)})
 
 
-def judge_day(program, folder, day, seconds, reached):
+def judge_day(program: str, folder: str, day: datetime.date, seconds: int, reached: Counter[str]) -> None:
     """At this many seconds of a day, an entry that expires on it is in force, and one of the day before is not."""
     clock = (day - datetime.date(1970, 1, 1)).days * 86400 + seconds
     for last in (day, day - DAY):
@@ -490,7 +507,7 @@ def judge_day(program, folder, day, seconds, reached):
     reached["days of other clocks"] += 1
 
 
-def judge_other_clocks(program, folder, reached):
+def judge_other_clocks(program: str, folder: str, reached: Counter[str]) -> None:
     """The first or the last second of the first and last days of months; and clocks that have no date."""
     running.library(os.path.join(folder, "clock.so"), os.path.join(TOOLS, "clock.c"))
     for year in YEARS:
@@ -499,14 +516,14 @@ def judge_other_clocks(program, folder, reached):
             for day in [first, first - DAY, *[first + 27 * DAY, first + 28 * DAY] * (month == 2)]:
                 if day >= datetime.date(1970, 1, 1):
                     judge_day(program, folder, day, 86399 * (month % 2), reached)
-    for clock, arguments in itertools.product(["none", -1, -86400], [["t.std"], ["t.std", "--windows=2"]]):
+    for clock, arguments in itertools.product(["none", "-1", "-86400"], [["t.std"], ["t.std", "--windows=2"]]):
         found = at_clock(program, folder, clock, *arguments, "--triage", "f.toml")
         wanted = (1, b"", b"racebench: the clock has no date: pass one with `--today`\n")
         demand(found == wanted, f"{arguments} with the clock at {clock}: {found}")
         reached["no day"] += 1
 
 
-def judged(run):
+def judged(run: judging.Run) -> str:
     for seed in run.seeds():
         with judging.about(f"seed {seed}"):
             judge_trace(run.program, ".", seed, run.tally)

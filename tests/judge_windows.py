@@ -23,6 +23,7 @@ import shutil
 import signal
 import subprocess
 import sys
+from typing import Any
 
 if __name__ == "__main__":
     sys.dont_write_bytecode = True
@@ -79,7 +80,7 @@ NO_PARTS = b"parts 0\nraces 0\nundecided 0\napart 0\n"
 SKIPPED = ["\n", " \t\n", "\r\n", "T1|begin(block)|\n", " T2 | end(block) | 7\n"]
 
 
-def blocks_of(lines, name):
+def blocks_of(lines: list[str], name: str) -> list[tuple[str, ...]]:
     """The parts of a prologue with this name in any order: what takes a lock, and what waits for that."""
     made = []
     at = 0
@@ -90,10 +91,10 @@ def blocks_of(lines, name):
     return sorted(made)
 
 
-def with_taken_name(chance, trace):
+def with_taken_name(chance: random.Random, trace: plain.Trace) -> plain.Trace:
     """The trace, whose variables or whose locks all have the name that a prologue takes if it may."""
     operations = chance.choice([("r", "w"), ("acq", "rel")])
-    events = []
+    events: list[plain.Event] = []
     for event in trace.events:
         event = event._replace(name="window") if event.word in operations else event
         if plain.breach(events, event) is None:
@@ -101,10 +102,10 @@ def with_taken_name(chance, trace):
     return plain.Trace(events)
 
 
-def crossed_trace(chance, most):
+def crossed_trace(chance: random.Random, most: int) -> plain.Trace:
     """A trace of writes around sections of one lock: many of its pairs are open, since only the order of the sections
     keeps them apart."""
-    events = []
+    events: list[plain.Event] = []
     while len(events) < most:
         one, other = chance.sample(["A", "B", "C"], 2)
         variable = chance.choice(["x", "y"])
@@ -113,12 +114,14 @@ def crossed_trace(chance, most):
     return plain.Trace(events)
 
 
-def coming_trace(chance, count):
+def coming_trace(chance: random.Random, count: int) -> plain.Trace:
     """A trace of this many threads that come and go: each may be forked, does a little, and may be joined. Some hold a
     lock for a while, and some for ever."""
-    events, here, holders = [], [], {}
+    events: list[plain.Event] = []
+    here: list[str] = []
+    holders: dict[str, list[str]] = {}
 
-    def work(thread):
+    def work(thread: str) -> None:
         word, name = chance.choice(
             [("r", "x"), ("w", "x"), ("w", "y"), ("acq", "l"), ("acq", "m"), ("rel", "l"), ("rel", "m")]
         )
@@ -129,7 +132,7 @@ def coming_trace(chance, count):
         if word in ("acq", "rel"):
             depth.append(thread) if word == "acq" else depth.pop()
 
-    def leave(thread):
+    def leave(thread: str) -> None:
         for lock, depth in holders.items():
             while depth and depth[-1] == thread and chance.random() < 0.99:
                 events.append(plain.Event(thread, "rel", lock))
@@ -148,7 +151,7 @@ def coming_trace(chance, count):
     return plain.Trace(events)
 
 
-def with_skipped(chance, lines):
+def with_skipped(chance: random.Random, lines: list[str]) -> list[str]:
     """The lines with some before, between and after them that are no events."""
     made = []
     for line in [*lines, ""]:
@@ -158,21 +161,22 @@ def with_skipped(chance, lines):
     return made[:-1]
 
 
-def wanted_blocks(events, start, end, name):
+def wanted_blocks(events: tuple[plain.Event, ...], start: int, end: int, name: str) -> list[tuple[str, ...]]:
     return blocks_of(
         [f"{thread}|{word}({what})|" for thread, word, what in plain.prologue(events, start, end, name)], name
     )
 
 
-def place_in(line):
+def place_in(line: str) -> tuple[int, int, int]:
     """Where a window lies, by its first line."""
     numbers = line.removeprefix("window|begin(").removesuffix(")|").split(" ")
     if numbers[::2] != ["FROM", "TO", "PROLOGUE"]:
         raise Wrong(f"the first line of a window is {line}")
-    return tuple(map(int, numbers[1::2]))
+    start, end, prologue = map(int, numbers[1::2])
+    return start, end, prologue
 
 
-def places_in(folder):
+def places_in(folder: str) -> dict[int, tuple[int, int, int]]:
     """Where each window in a folder lies, by its first event, in their order."""
     places = {}
     for name in sorted(os.listdir(folder)):
@@ -182,7 +186,7 @@ def places_in(folder):
     return places
 
 
-def moved(part, place):
+def moved(part: str, place: tuple[int, int, int]) -> str:
     """A part with the numbers that events have in the trace, and without pairs of events of the prologue."""
     start, _, prologue = place
     head, *rows = [json.loads(line) for line in part.splitlines()]
@@ -197,10 +201,10 @@ def moved(part, place):
 
 
 class Judge:
-    def __init__(self, run):
+    def __init__(self, run: judging.Run) -> None:
         self.program, self.seen = run.program, run.tally
 
-    def windows(self, located, most, folder):
+    def windows(self, located: Located, most: int, folder: str) -> dict[int, tuple[int, int, int]]:
         """The windows that are written, as texts by their first events; each must be that of the trace."""
         events, wanted = located.trace.events, plain.narrow_windows(located.trace.events, most)
         shutil.rmtree(folder, ignore_errors=True)
@@ -218,7 +222,7 @@ class Judge:
             raise Wrong(f"the folder has {sorted(os.listdir(folder))}, for windows {wanted}")
         return {start: self.window(located, start, end, f"{folder}/window-{start:09}.std") for start, end in wanted}
 
-    def window(self, located, start, end, path):
+    def window(self, located: Located, start: int, end: int, path: str) -> tuple[int, int, int]:
         """The place of the window in this file, which must be right."""
         with open(path, encoding="utf-8") as text:
             head, *lines = text.read().splitlines()
@@ -239,12 +243,22 @@ class Judge:
         self.seen["several holds"] += len(front) > 20
         return place
 
-    def report(self, places, most, flags, tries):
+    def report(
+        self, places: dict[int, tuple[int, int, int]], most: int, flags: list[str], tries: list[str]
+    ) -> list[bytes]:
         """What `merge` makes of the windows that were written: as JSON, as a page, as a log and as text."""
         forms = [["--json"], ["--page", *flags], ["--sarif", *flags], [*WITH_CODE, *flags], flags]
         return self.merged(places, most, [*flags, *tries], forms, "trace", "whole")
 
-    def merged(self, places, most, flags, forms, trace, folder):
+    def merged(
+        self,
+        places: dict[int, tuple[int, int, int]],
+        most: int,
+        flags: list[str],
+        forms: list[list[str]],
+        trace: str,
+        folder: str,
+    ) -> list[bytes]:
         """What `merge` makes, in each form, of the windows of a trace that are in a folder."""
         names = [f"{trace} --windows {most} --window {start:09}" for start in places]
         for name, (start, place) in zip(names, places.items()):
@@ -255,7 +269,7 @@ class Judge:
             os.remove(name)
         return made
 
-    def same(self, arguments, wanted, stdin=None):
+    def same(self, arguments: list[str], wanted: bytes, stdin: None = None) -> None:
         done = subprocess.run(
             [self.program, *arguments], capture_output=True, check=False, stdin=stdin, timeout=running.PATIENCE
         )
@@ -265,10 +279,13 @@ class Judge:
                 f"not\n{wanted.decode()}"
             )
 
-    def judge_report(self, chance, located, places, most):
+    def judge_report(
+        self, chance: random.Random, located: Located, places: dict[int, tuple[int, int, int]], most: int
+    ) -> tuple[list[dict[str, Any]], bool]:
         """The report of `triage --windows`, which is returned as objects."""
-        flags = chance.choice([[], ["--apart"]])
-        tries = chance.choice([[], [], ["--tries", "0"]])
+        none: list[str] = []
+        flags = chance.choice([none, ["--apart"]])
+        tries = chance.choice([none, none, ["--tries", "0"]])
         json_text, page, log, coded, text = self.report(places, most, flags, tries)
         events, threads = len(located.trace.events), len(located.trace.threads())
         head = f"windows {len(places)}\nshorter 0\nevents {events}\nthreads {threads}\n".encode()
@@ -295,7 +312,7 @@ class Judge:
         self.seen["one window" if len(places) == 1 else "many windows"] += 1
         return [json.loads(line) for line in json_text.splitlines()], bool(flags)
 
-    def judge_status(self, chance, arguments, wanted):
+    def judge_status(self, chance: random.Random, arguments: list[str], wanted: bytes) -> None:
         """`--fail` gives the status and `--progress` lines on standard error, beside the same output."""
         races = not wanted.split(b"\nraces ")[1].startswith(b"0\n")
         if running.ended(self.program, [*arguments, "--fail"]) != (3 if races else 0, wanted, b""):
@@ -304,11 +321,12 @@ class Judge:
         if chance.random() < 0.3:
             self.judge_progress(arguments, wanted)
 
-    def judge_progress(self, arguments, wanted):
+    def judge_progress(self, arguments: list[str], wanted: bytes) -> None:
         """`--progress` counts each window, and how many events come before the next one; at the end all."""
         status, out, err = running.ended(self.program, [*arguments, "--progress"])
-        matches = [re.fullmatch(rb"windows (\d+) events (\d+)", line) for line in err.splitlines()]
-        if (status, out) != (0, wanted) or not all(matches):
+        found = [re.fullmatch(rb"windows (\d+) events (\d+)", line) for line in err.splitlines()]
+        matches = [line for line in found if line]
+        if (status, out) != (0, wanted) or len(matches) < len(found):
             raise Wrong(f"{arguments} --progress ends with {status}, {err!r}, or prints something else")
         windows, events = ([int(line[at]) for line in matches] for at in (1, 2))
         counts = {line.split()[0]: int(line.split()[1]) for line in wanted.splitlines()[:4]}
@@ -318,12 +336,14 @@ class Judge:
             raise Wrong(f"{arguments} --progress tells of no more events behind a window: {err!r}")
         self.seen["progress"] += bool(err)
 
-    def rows(self, objects):
+    def rows(self, objects: list[dict[str, Any]]) -> dict[int, list[dict[str, Any]]]:
         """The rows of each part, by the first event of its window."""
         parts = {int(row["name"].rsplit(" ", 1)[1]): row["text"] for row in objects if row["kind"] == "part"}
         return {start: [json.loads(line) for line in text.splitlines()[1:]] for start, text in parts.items()}
 
-    def judge_races(self, located, places, objects):
+    def judge_races(
+        self, located: Located, places: dict[int, tuple[int, int, int]], objects: list[dict[str, Any]]
+    ) -> None:
         """Each race is one of the whole trace; what a reordering shows from a window on is a race or undecided."""
         for start, rows in self.rows(objects).items():
             shown = shown_from(located.trace, start, places[start][1])
@@ -346,7 +366,7 @@ class Judge:
                     raise Wrong(f"{pair} is shown from {start} on, and the window has no race there")
                 self.seen["shown"] += 1
 
-    def judge_one(self, places, most, chance):
+    def judge_one(self, places: dict[int, tuple[int, int, int]], most: int, chance: random.Random) -> None:
         """A window alone is the one that was written, or has the same events after a prologue in another order."""
         start = chance.choice(list(places))
         found = running.printed(
@@ -362,14 +382,14 @@ class Judge:
             raise Wrong(f"cut --window {start} prints\n{found}and not\n{wanted}")
         self.seen["one at a time"] += 1
 
-    def refused(self, arguments, fault):
+    def refused(self, arguments: list[str], fault: str) -> bytes:
         """What is printed before this fault."""
         status, out, err = running.ended(self.program, arguments)
         if (status, err) != (1, f"racebench: {fault}\n".encode()):
             raise Wrong(f"{arguments} ends with {status}, {err.decode()!r} and not with {fault!r}")
         return out
 
-    def judge_faults(self, chance, located, most):
+    def judge_faults(self, chance: random.Random, located: Located, most: int) -> None:
         """A trace with a refused line, or an event that breaks a rule, is judged up to there."""
         lines = with_skipped(chance, located.text().splitlines(keepends=True))
         at = chance.randint(0, len(lines))
@@ -402,7 +422,7 @@ class Judge:
         self.seen["many windows before a fault"] += races != [] and len(places) > 1
         self.seen[kind] += 1
 
-    def judge_threads(self, chance):
+    def judge_threads(self, chance: random.Random) -> None:
         """An event that needs a thread too many, beside those that hold a lock, is refused with its line; windows
         before it are written."""
         most, skipped = chance.randint(2, 40), chance.randint(0, 5)
@@ -416,7 +436,7 @@ class Judge:
             raise Wrong(f"windows before a thread too many end at {ends}")
         self.seen["many threads"] += 1
 
-    def judge_coming(self, chance):
+    def judge_coming(self, chance: random.Random) -> None:
         """A trace of more threads than one may have at once is cut into windows of as many as fit."""
         located = Located(coming_trace(chance, chance.randint(300, 2000)), chance)
         running.write("trace", located.text())
@@ -425,7 +445,7 @@ class Judge:
         self.judge_one(places, most, chance)
         self.seen["threads that come and go"] += 1
 
-    def judge_folder(self, most):
+    def judge_folder(self, most: int) -> None:
         """A folder with a file is refused, and stays as it was."""
         before = {name: os.stat(f"whole/{name}").st_mtime_ns for name in os.listdir("whole")}
         self.refused(["cut", "trace", "--windows", str(most), "--into", "whole"], "the folder has files: whole")
@@ -437,10 +457,10 @@ class Judge:
         self.refused(["cut", "trace", "--windows", str(most), "--into", "odd"], "the folder has files: odd")
         self.seen["full folder"] += 1
 
-    def judge_limit(self):
+    def judge_limit(self) -> None:
         """If the file of a window is not written whole, no part of it is left."""
 
-        def limit():
+        def limit() -> None:
             signal.signal(signal.SIGXFSZ, signal.SIG_IGN)
             resource.setrlimit(resource.RLIMIT_FSIZE, (60, 60))
 
@@ -452,7 +472,7 @@ class Judge:
             raise Wrong(f"a window whose file may not be so long ends with {found}")
         self.seen["file too long"] += 1
 
-    def judge_mark(self):
+    def judge_mark(self) -> None:
         """A byte order mark is part of the first thread's name, and no note is written."""
         text = "\ufeffA|w(x)|\nB|w(x)|\n"
         running.write("trace", text)
@@ -466,7 +486,7 @@ class Judge:
             raise Wrong(f"cut --into of a marked trace ends with {found}, and the window is\n{read_window}")
         self.seen["mark"] += 1
 
-    def write(self, chance, text):
+    def write(self, chance: random.Random, text: str) -> None:
         """Writes the trace, sometimes with other ends of lines."""
         if chance.random() < 0.2:
             text = text.removesuffix("\n")
@@ -477,7 +497,7 @@ class Judge:
         with open("trace", "w", encoding="ascii", newline="") as out:
             out.write(text)
 
-    def judge(self, seed):
+    def judge(self, seed: int) -> bool:
         chance = random.Random(seed)
         length = chance.choice([8, 14, 30, 60])
         draw = crossed_trace if seed % 5 == 0 else by_chance.locked_trace if seed % 2 else by_chance.trace
@@ -498,7 +518,7 @@ class Judge:
         self.judge_faults(chance, located, most)
         return has_apart
 
-    def judge_marks(self, chance, most):
+    def judge_marks(self, chance: random.Random, most: int) -> None:
         """Judges the windows of a recording with marks, whole or not, by those of the trace without marks."""
         with open("trace", encoding="ascii", newline="") as trace:
             text = trace.read()
@@ -518,14 +538,14 @@ class Judge:
         running.write("trace", text)
         self.seen["not whole" if absent else "whole"] += 1
 
-    def fed(self, arguments, text):
+    def fed(self, arguments: list[str], text: str) -> tuple[int, bytes, bytes]:
         """What the program answers if it is fed with this text."""
         done = subprocess.run(
             [self.program, *arguments], input=text.encode(), capture_output=True, timeout=running.PATIENCE, check=False
         )
         return done.returncode, done.stdout, done.stderr
 
-    def judge_marked_parts(self, arguments, absent, marked):
+    def judge_marked_parts(self, arguments: list[str], absent: str, marked: str) -> None:
         """Each part of the report says what is missing, and so the merged report does."""
         out = self.fed([*arguments[:3], "--json"], marked)[1]
         head, *objects = map(json.loads, out.splitlines())
@@ -533,7 +553,7 @@ class Judge:
         if {line.get("absent", "") for line in [head, *parts]} != {absent}:
             raise Wrong(f"{arguments} --json says of what is missing, {absent!r}: {out!r}")
 
-    def judge_marked_windows(self, chance, most, end, absent):
+    def judge_marked_windows(self, chance: random.Random, most: int, end: str, absent: str) -> None:
         """Each window of the recording has its marks, printed or in a file."""
         last = end.rstrip("\n") + "\n" if not absent or absent.startswith("left") else ""
         shutil.rmtree("marks", ignore_errors=True)
@@ -551,7 +571,7 @@ class Judge:
             if [LOCK.sub(b"(window)", text) for text in (out, marked.read())].count(LOCK.sub(b"(window)", out)) != 2:
                 raise Wrong(f"cut of a recording at {number} prints {out!r}")
 
-    def judge_empty(self, text):
+    def judge_empty(self, text: str) -> None:
         """A trace without events has no window, and nothing of it is judged."""
         running.write("trace", text)
         shutil.rmtree("none", ignore_errors=True)
@@ -567,14 +587,14 @@ class Judge:
         self.seen["no events"] += 1
 
 
-def write_code():
+def write_code() -> None:
     """Writes a folder with the code of which places of drawn traces name lines."""
     os.mkdir("code")
     for number in range(6):
         running.write(f"code/p{number}.c", "".join(f"  line {line} of {number};\n" for line in range(1, 7)))
 
 
-def judged(run):
+def judged(run: judging.Run) -> str:
     judge = Judge(run)
     write_code()
     for seed in run.seeds():

@@ -111,10 +111,10 @@ REACHED += ["counted", "taken", "usual"]
 
 
 class Judge:
-    def __init__(self, run):
+    def __init__(self, run: judging.Run) -> None:
         self.program, self.tally = run.program, run.tally
 
-    def ended(self, arguments):
+    def ended(self, arguments: list[str]) -> tuple[int, bytes, str]:
         """The status, and what is written on standard output and standard error; nothing is on standard input."""
         done = subprocess.run(
             [self.program, *arguments],
@@ -125,7 +125,7 @@ class Judge:
         )
         return done.returncode, done.stdout, done.stderr.decode()
 
-    def refused(self, arguments, kind):
+    def refused(self, arguments: list[str], kind: str) -> str:
         """The first line of why the arguments are refused."""
         status, out, err = self.ended(arguments)
         if status != 2 or out or not err.startswith("error: "):
@@ -133,14 +133,14 @@ class Judge:
         self.tally[kind] += 1
         return err.partition("\n")[0].removeprefix("error: ")
 
-    def taken(self, arguments, kind):
+    def taken(self, arguments: list[str], kind: str) -> None:
         """The arguments are accepted; what the command then does is not judged."""
         status, _, err = self.ended(arguments)
         if status not in (0, 1) or err.startswith("error: "):
             raise Wrong(f"{arguments} end with {status}: {err!r}")
         self.tally[kind] += 1
 
-    def judge_forms(self):
+    def judge_forms(self) -> None:
         for command, (arguments, forms) in FORMS.items():
             for form in forms:
                 self.taken([command, *arguments, form], "taken")
@@ -149,7 +149,7 @@ class Judge:
                 if set(re.findall(r"--[a-z-]+", reason)) != set(pair) or " cannot be used with " not in reason:
                     raise Wrong(f"{command} {pair} is refused since {reason!r}")
 
-    def judge_numbers(self):
+    def judge_numbers(self) -> None:
         for before, least, most in NUMBERS:
             for number, kind in [(least, "least"), (most, "most"), (f"000{most}", "most")]:
                 self.taken(f"{before}{number}".split(" "), kind)
@@ -161,7 +161,7 @@ class Judge:
             for number in [*[f"+{most}"] * ("--room" not in before), f"{most}x", "x", "0x1", "1.0"]:
                 self.refused(f"{before}{number}".split(" "), "signed")
 
-    def judge_days(self):
+    def judge_days(self) -> None:
         for command in ("triage t", "merge part", "triage t --windows"):
             arguments = [*command.split(" "), "--triage", "f", "--today"]
             for day in DAYS.split(" "):
@@ -171,7 +171,7 @@ class Judge:
                 if reason != "`--today` takes a date such as 2027-12-31":
                     raise Wrong(f"{command} of the day {day} is refused since {reason!r}")
 
-    def judge_tables(self):
+    def judge_tables(self) -> None:
         for arguments in TWICE:
             reason = self.refused(arguments.split(), "twice")
             if reason != "`-` is standard input, and may be given once":
@@ -185,7 +185,7 @@ class Judge:
         for arguments in TAKEN:
             self.taken(arguments.split(), "taken")
 
-    def judge_usual(self):
+    def judge_usual(self) -> None:
         """What is meant if a number is not given."""
         running.write("long", TRACE + "A|w(x)|\n" * 1_000_001)
         for arguments, usual, other in [
@@ -201,7 +201,7 @@ class Judge:
             self.tally["usual"] += 1
 
 
-def judged(run):
+def judged(run: judging.Run) -> str:
     judge = Judge(run)
     running.write("t", TRACE)
     running.write("s", "1 new A\n")

@@ -10,6 +10,7 @@ status 1 then.
 
 import random
 import sys
+from collections import Counter
 
 if __name__ == "__main__":
     sys.dont_write_bytecode = True
@@ -36,18 +37,18 @@ CALLS_OF_MANY = 8
 REACHED = ["adopted", "too early", "among", "more", "none", "events"]
 
 
-def crossing(writes):
+def crossing(writes: int) -> plain.Trace:
     """Two threads that write one variable in turn, this many times each, with nothing that orders them."""
     return plain.Trace(plain.Event(f"T{number % 2}", "w", "x") for number in range(2 * writes))
 
 
-def quiet():
+def quiet() -> plain.Trace:
     """Two threads whose writes are ordered by a fork and a join."""
     events = [("M", "w", "x"), ("M", "fork", "W"), ("W", "w", "x"), ("M", "join", "W"), ("M", "w", "x")]
     return plain.Trace(plain.Event(*event) for event in events)
 
 
-def script(chance, client, length):
+def script(chance: random.Random, client: int, length: int) -> list[str]:
     """Calls that adopt what workers propose, among some on a schedule of the client's own."""
     own = f"own{client}"
     kinds = [
@@ -62,7 +63,7 @@ def script(chance, client, length):
     return [f"new {own}"] + [chance.choice(kinds) for _ in range(length - 1)]
 
 
-def judge_proposals(tally, trace, entries, searcher):
+def judge_proposals(tally: Counter[str], trace: plain.Trace, entries: list[tuple[int, str]], searcher: int) -> None:
     """Counts what the client of this number has proposed, where it is right."""
     first = trace.candidates()[:SLICED]
     calls = [plain.call_of(call) for client, call in entries if client == searcher]
@@ -88,7 +89,9 @@ def judge_proposals(tally, trace, entries, searcher):
     tally["among"] += bool(places) and any(client != searcher for client in clients[places[0] : places[-1]])
 
 
-def judge_run(program, tally, arguments, trace, written):
+def judge_run(
+    program: str, tally: Counter[str], arguments: list[str], trace: plain.Trace, written: list[list[str]]
+) -> None:
     """Judges one run of these scripts, and counts what was seen."""
     drawn = [[plain.call_of(line) for line in lines] for lines in written]
     running.write("trace", trace.text())
@@ -110,7 +113,7 @@ def judge_run(program, tally, arguments, trace, written):
                 tally["too early"] += line == "refused 44 no such proposal"
 
 
-def judge_round(program, tally, number):
+def judge_round(program: str, tally: Counter[str], number: int) -> None:
     """Each number of workers with each number of scripts, on traces drawn by chance and on two of more and of no
     candidates."""
     chance = random.Random(number)
@@ -124,7 +127,7 @@ def judge_round(program, tally, number):
                 judge_run(program, tally, [*room, "--workers", str(workers)], trace, scripts)
 
 
-def judged(run):
+def judged(run: judging.Run) -> str:
     tally = run.tally
     for number in range(MOST_ROUNDS):
         judge_round(run.program, tally, number)

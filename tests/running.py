@@ -4,6 +4,7 @@ import os
 import pathlib
 import shutil
 import subprocess
+from collections.abc import Sequence
 
 from judging import Wrong, texts_of
 
@@ -11,12 +12,12 @@ from judging import Wrong, texts_of
 PATIENCE = 900
 
 
-def write(name, text):
+def write(name: str, text: str) -> None:
     with open(name, "w", encoding="utf-8") as out:
         out.write(text)
 
 
-def ended(program, arguments, more=None):
+def ended(program: str, arguments: Sequence[str], more: dict[str, str] | None = None) -> tuple[int, bytes, bytes]:
     """The status with which the program ends, and what it writes on standard output and on standard error; `more` is
     added to its environment."""
     done = subprocess.run(
@@ -25,7 +26,7 @@ def ended(program, arguments, more=None):
     return done.returncode, done.stdout, done.stderr
 
 
-def printed(program, arguments):
+def printed(program: str, arguments: Sequence[str]) -> bytes:
     """What the program writes, where it ends well."""
     status, out, err = ended(program, arguments)
     if status != 0 or err:
@@ -33,7 +34,7 @@ def printed(program, arguments):
     return out
 
 
-def library(made, *sources):
+def library(made: str, *sources: str) -> str:
     """The library at the path `made` for LD_PRELOAD, which is made of these C sources."""
     kit = pathlib.Path(
         subprocess.run(["rt", "doc"], capture_output=True, text=True, check=False).stdout.strip() or "/"
@@ -46,10 +47,10 @@ def library(made, *sources):
 # What `threads` is told beside its files: that each thread may queue for its turn at any time, so that clients change
 # at nearly each call; and nothing, as users run it, where one thread makes many calls before another comes.
 NO_DOOR = ["--room=32"]
-BEST_ROOM = []
+BEST_ROOM: list[str] = []
 
 
-def parts_of(lines, lengths):
+def parts_of(lines: list[str], lengths: list[int]) -> tuple[list[list[str]], list[tuple[int, str]]]:
     """The lines of each client, who made this many calls, and the log as pairs of a client and a call."""
     at = 0
     answers = []
@@ -62,8 +63,8 @@ def parts_of(lines, lengths):
         raise Wrong(f"line {at + 1} does not count the log: {lines[at : at + 1]}")
     log = []
     for number, line in enumerate(lines[at + 1 :]):
-        entry, client, call = line.split(" ", 2)
+        entry, whose, call = line.split(" ", 2)
         if int(entry) != number:
             raise Wrong(f"entry {number} of the log has another number: {line}")
-        log.append((int(client), call))
+        log.append((int(whose), call))
     return answers, log

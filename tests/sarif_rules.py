@@ -4,6 +4,8 @@ python3-sarif-python-om, which was made from the published schema; no Debian pac
 that is not in the tables is wrong, also if the standard has it."""
 
 import re
+from collections.abc import Iterator
+from typing import Any
 
 from judging import Wrong
 
@@ -11,9 +13,10 @@ TEXT, COUNT, LINE = "text", "count", "line"
 KINDS = ("notApplicable", "pass", "fail", "review", "open", "informational")
 LEVELS = ("none", "note", "warning", "error")
 IMPORTANCE = ("important", "essential", "unimportant")
-
+# What a value must be: the name of an object or of a text, one of several texts, a list of that, or texts with that.
+Kind = str | tuple[str, ...] | list[str] | dict[str, str]
 # Each object: its properties, with what they are; an exclamation mark is after those that are required.
-OBJECTS = {
+OBJECTS: dict[str, dict[str, Kind]] = {
     "log": {"$schema": "uri", "version!": ("2.1.0",), "runs!": ["run"]},
     "run": {"tool!": "tool", "results": ["result"], "originalUriBaseIds": {"": "artifact"}, "properties": "bag"},
     "tool": {"driver!": "driver"},
@@ -55,7 +58,7 @@ NOT_EMPTY = {"threadFlows", "locations"}
 URI = re.compile(r"(?:[A-Za-z][A-Za-z0-9+.-]*:)?(?:[A-Za-z0-9._~!$&'()*+,;=@/-]|%[0-9A-F]{2})*")
 
 
-def check_value(value, kind, where):
+def check_value(value: object, kind: Kind, where: str) -> None:
     """Judges a value by what it must be."""
     if isinstance(kind, list):
         if not isinstance(value, list):
@@ -72,7 +75,7 @@ def check_value(value, kind, where):
     elif isinstance(kind, tuple):
         if value not in kind:
             raise Wrong(f"{where} is {value!r}, and none of {kind}")
-    elif kind in OBJECTS:
+    elif isinstance(kind, str) and kind in OBJECTS:
         check_object(value, kind, where)
     elif kind == "bag":
         if not isinstance(value, dict):
@@ -86,7 +89,7 @@ def check_value(value, kind, where):
         raise Wrong(f"{where} is no URI: {value!r}")
 
 
-def check_object(value, kind, where):
+def check_object(value: object, kind: str, where: str) -> None:
     """Judges the properties of an object."""
     if not isinstance(value, dict):
         raise Wrong(f"{where} is no object")
@@ -100,7 +103,7 @@ def check_object(value, kind, where):
             raise Wrong(f"{where} has no {name}")
 
 
-def check_artifact(artifact, bases, where):
+def check_artifact(artifact: dict[str, str], bases: dict[str, dict[str, str]], where: str) -> None:
     """A path beside the name of a folder is relative; that of a folder ends with a slash."""
     base = artifact.get("uriBaseId")
     if base is None:
@@ -112,7 +115,7 @@ def check_artifact(artifact, bases, where):
         raise Wrong(f"{where}: {uri} is not relative")
 
 
-def locations_of(result):
+def locations_of(result: dict[str, Any]) -> Iterator[dict[str, Any]]:
     """Each location of a result."""
     yield from result.get("locations", [])
     yield from result.get("relatedLocations", [])
@@ -123,9 +126,9 @@ def locations_of(result):
             yield from (step["location"] for step in thread["locations"])
 
 
-def check_orders(flow, where):
+def check_orders(flow: dict[str, list[dict[str, Any]]], where: str) -> None:
     """In each thread the steps rise, and no two threads have one step."""
-    seen = set()
+    seen: set[int] = set()
     for at, thread in enumerate(flow["threadFlows"]):
         orders = [step["executionOrder"] for step in thread["locations"]]
         if orders != sorted(set(orders)):
@@ -135,7 +138,9 @@ def check_orders(flow, where):
         seen |= set(orders)
 
 
-def check_result(result, rules, bases, where):
+def check_result(
+    result: dict[str, Any], rules: list[dict[str, Any]], bases: dict[str, dict[str, str]], where: str
+) -> None:
     """What the standard says of more than one property of a result."""
     rule = rules[result["ruleIndex"]] if result["ruleIndex"] < len(rules) else {}
     if rule.get("id") != result["ruleId"]:
@@ -149,7 +154,7 @@ def check_result(result, rules, bases, where):
         check_orders(flow, where)
 
 
-def check(log):
+def check(log: dict[str, Any]) -> None:
     """Judges a log."""
     check_object(log, "log", "log")
     for number, run in enumerate(log["runs"]):

@@ -15,7 +15,7 @@ MANY_PROGRAMS = 100
 MANY_PLANTED = 20
 
 
-def main():
+def main() -> int:
     program, seeds = sys.argv[1], sys.argv[2:]
     if seeds:
         return recorded_chance.soak(program, int(seeds[0]), 1)
