@@ -19,7 +19,7 @@ struct library_call {
 };
 #define IN_LIBRARY(call) \
     ({ \
-        __attribute__((cleanup(end_library_call))) struct library_call before_ = library_call; \
+        __attribute__((cleanup(end_library_call), unused)) struct library_call before_ = library_call; \
         library_call = (struct library_call){PC, depth}; \
         (call); \
     })

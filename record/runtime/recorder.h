@@ -57,6 +57,10 @@ typedef unsigned __int128 u128;
 #define OTHERS static
 #else
 #define OTHERS extern
+/* A file does not use everything that it defines for the other files. all.c is compiled with these warnings. */
+#pragma GCC diagnostic ignored "-Wunused-function"
+#pragma GCC diagnostic ignored "-Wunused-variable"
+#pragma GCC diagnostic ignored "-Wunused-const-variable"
 #endif
 
 /* Threads beyond this number run, but free of the token and unrecorded. */

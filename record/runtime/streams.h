@@ -9,6 +9,10 @@
 #define SHARED OTHERS
 #endif
 
+#ifdef __clang__
+/* With -O stdio.h declares getchar, putchar and others inline. The definitions here are not inline. */
+#pragma clang diagnostic ignored "-Wstatic-in-inline"
+#endif
 #define WRITES_STREAM(name, s, given, passed_on) \
     int name given { \
         static int(*real) given; \
