@@ -11,6 +11,7 @@ import os
 import re
 import signal
 import subprocess
+import threading
 import time
 from collections.abc import Iterator
 
@@ -152,6 +153,20 @@ DEPARTURES = {
 }
 
 
+def kill_the_program() -> None:
+    """Kills the program once it has written its number into a file. If it made a process that kills it, the agent would
+    see the thread that waits for that."""
+    end = time.monotonic() + recorded_java.PATIENCE
+    while time.monotonic() < end:
+        if os.path.exists("pid"):
+            with open("pid", encoding="ascii") as file:
+                number = file.read()
+            if number.endswith("\n"):
+                os.kill(int(number), signal.SIGKILL)
+                return
+        time.sleep(0.05)
+
+
 def judge_departures(racebench: str) -> None:
     """A run that goes another way says at which event, and what it came to. So does one that ends, or is killed."""
     compiled("Followed")
@@ -159,7 +174,12 @@ def judge_departures(racebench: str) -> None:
     pair = races(racebench)[0]
     for way, wanted in DEPARTURES.items():
         surroundings = {**os.environ, "FOLLOWED_AS": way}
+        killer = threading.Thread(target=kill_the_program)
+        if way == "killed":
+            killer.start()
         notes = followed(racebench, pair, wanted=1 if wanted else 0, env=surroundings)
+        if way == "killed":
+            killer.join()
         if wanted and not re.search(f"^record/follow: {wanted}", notes, re.MULTILINE):
             raise Wrong(f"FOLLOWED_AS={way}: {notes[-1500:]}")
         if not wanted and "the race stands: " not in notes:

@@ -1,3 +1,5 @@
+import java.nio.file.Files;
+import java.nio.file.Path;
 import java.util.ArrayList;
 import java.util.List;
 import java.util.concurrent.ExecutorService;
@@ -147,7 +149,10 @@ public class Followed {
         Thread second = started(() -> {
             if (AS.equals("other")) isReady = true;
             if (AS.equals("ends")) Runtime.getRuntime().halt(9);
-            if (AS.equals("killed")) Runtime.getRuntime().exec("kill -9 " + ProcessHandle.current().pid()).waitFor();
+            if (AS.equals("killed")) {
+                Files.writeString(Path.of("pid"), ProcessHandle.current().pid() + "\n");
+                Thread.sleep(600_000);
+            }
             System.out.println(total > 1); // RACE changes
         });
         if (AS.equals("waits")) Thread.sleep(60_000);
