@@ -21,8 +21,8 @@ use std::io;
 /// The most bytes of a file of code. A larger file is not read.
 const MAX_CODE: u64 = 16_777_216;
 
-/// 94: a file of code, which is input 5, could not be read.
-const UNREAD: ReplayFault = ReplayFault::Read {
+/// 94: a file or a folder of code, which is input 5, could not be read.
+pub(crate) const UNREAD: ReplayFault = ReplayFault::Read {
     input: 5,
     why: ReadCause::Device,
 };

@@ -1,6 +1,7 @@
 //! Finds the files that locations name, in the folder that `--source` names.
 
 use crate::code_names::MAX_FILES;
+use crate::coding::UNREAD;
 use calls::triage::Folder;
 use client_scripts::ReplayFault;
 use explain_report::places::cut_at_last;
@@ -68,6 +69,17 @@ fn memory_fault(error: &io::Error) -> Result<(), ReplayFault> {
     match error.kind() {
         io::ErrorKind::OutOfMemory => Err(ReplayFault::OutOfMemory),
         _ => Ok(()),
+    }
+}
+
+/// The fault for an error at a folder. A folder that is gone or that may not be read counts as empty.
+fn folder_fault(error: &io::Error) -> Result<(), ReplayFault> {
+    match error.kind() {
+        io::ErrorKind::NotFound => Ok(()),
+        io::ErrorKind::NotADirectory => Ok(()),
+        io::ErrorKind::PermissionDenied => Ok(()),
+        io::ErrorKind::OutOfMemory => Err(ReplayFault::OutOfMemory),
+        _ => Err(UNREAD),
     }
 }
 
@@ -309,7 +321,7 @@ impl Search {
         };
         match read_dir(rt, path) {
             Ok(entries) => self.read(rt, folder, entries),
-            Err(error) => memory_fault(&error),
+            Err(error) => folder_fault(&error),
         }
     }
 
@@ -324,7 +336,7 @@ impl Search {
             match entries.next() {
                 None => return Ok(()),
                 Some(Ok(entry)) => self.add(rt, folder, &entry)?,
-                Some(Err(error)) => memory_fault(&error)?,
+                Some(Err(error)) => folder_fault(&error)?,
             }
             self.names = self.names.saturating_add(1);
             if self.names >= MAX_NAMES {
