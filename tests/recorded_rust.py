@@ -38,7 +38,7 @@ A_WHILE = 4
 SEEDS = 10
 BEGIN, WHOLE = "recording|begin(RECORDED)|", "recording|end(WHOLE)|"
 # The programs; each race has the name of its program as its label.
-RACES = "counter cell reader relaxed element dropped scoped".split()
+RACES = "counter cell reader relaxed element dropped".split()
 CLEAN = "mutex channel arc others downgraded polled timed printed".split()
 # Those that end badly, with the status of record/run --status.
 ENDS = (("panicked", 101, "status 101"), ("exits", 3, "status 3"), ("killed", 137, "signal 9"))
@@ -409,6 +409,8 @@ def judge_check(racebench: str) -> None:
 def all_cases(racebench: str, seeds: int) -> Iterator[Case]:
     for name in RACES + CLEAN:
         yield f"Rust: {name}", judge_program, (racebench, name, name if name in RACES else "", seeds)
+    # The end of one thread comes before the start of the other if the scope drops what both count in between.
+    yield "Rust: scoped", judge_some_seed, (racebench, "scoped", seeds)
     yield "Rust: tried", judge_some_seed, (racebench, "tried", 20)
     yield "Rust: a seed is a run", judge_seeds, ()
     yield "Rust: locks", judge_locks, ()

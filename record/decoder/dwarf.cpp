@@ -105,12 +105,13 @@ Unit::Unit(const Dwarf_Die &die, const Dwarf_Die &split) : die(die), top(split.a
     Dwarf_Attribute attribute;
     const char *found = dwarf_formstring(dwarf_attr(&this->die, DW_AT_comp_dir, &attribute));
     if (found) compiled_in = std::string(found) + "/";
+    if (dwarf_srclang(&this->die) != DW_LANG_Rust || text::in_library(compiled_in)) folder = compiled_in;
 }
 
 // A folder of a table of lines may begin where the compiler ran: so one source would have two paths.
 std::string Unit::whole(const char *path) const {
     if (!path) return "";
-    return path[0] == '/' ? path : compiled_in + path;
+    return path[0] == '/' ? path : folder + path;
 }
 
 std::vector<std::string> Unit::files() const {

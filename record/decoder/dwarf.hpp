@@ -66,8 +66,9 @@ private:
     std::vector<const Body *> bodies_at(Dwarf_Addr place);
     Dwarf_Line *row_at(Dwarf_Addr place, const std::vector<const Body *> &chain);
     Dwarf_Die top;
-    // The folder where it was compiled.
-    std::string compiled_in;
+    // Where it was compiled, and the folder in which its own paths begin. That is empty for a crate of Rust: its paths
+    // from there, as src/lib.rs, are those that its programmer knows.
+    std::string compiled_in, folder;
     blocks::Names known_types;
     bool was_read = false;
     // The functions, and where their code begins and ends, by its start.
