@@ -336,7 +336,7 @@ impl Search {
             match entries.next() {
                 None => return Ok(()),
                 Some(Ok(entry)) => self.add(rt, folder, &entry)?,
-                Some(Err(error)) => folder_fault(&error)?,
+                Some(Err(error)) => memory_fault(&error)?,
             }
             self.names = self.names.saturating_add(1);
             if self.names >= MAX_NAMES {
