@@ -110,7 +110,7 @@ AreFew b pairs old new =
     (k : Part) (p q : ℕ) → p ≤ q
     → count_at k new p q ≤ count_at k old p q + pairs (keeps b.classes.now.lists.keys k) (upper_of b.indexed.now.events k) p q
 
--- There are more than `limit` rows, and none of them grew by more pairs than thread u's events have.
+-- There are more than `limit` rows, and no row grew by more pairs than thread u's events have.
 abbrev pub AreMoreThan : {S : Type 0} → ℕ → Basis → ℕ → IndexMap (ℕ × ℕ) Sums S → IndexMap (ℕ × ℕ) Sums S → Type 0
 AreMoreThan limit b u old new = AreMore limit new × AreFew b (thread_of b u) old new
 

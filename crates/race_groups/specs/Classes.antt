@@ -39,7 +39,7 @@ is_writing (Some i) = is_writing_op i.op
 abbrev pub writers_of : List Class → ℕ → List ℕ
 writers_of infos x = filter (λ c. is_writing (slice_get infos c)) (members_of infos x)
 
--- These are the classes of the variable; or, if the operation only reads, those of them that write it.
+-- These are the classes of the variable; or, if the operation only reads, the classes that write the variable.
 abbrev pub AreConflicting : List Class → ℕ → Op → List ℕ → Type 0
 AreConflicting infos x op cs = (cs ≡ members_of infos x) ⊎ ((is_writing_op op ≡ false) × (cs ≡ writers_of infos x))
 
@@ -63,7 +63,7 @@ abbrev pub AreLocks : List Event → List (Vec ℕ Global) → List ℕ → List
 AreLocks T lists classes infos =
     (e x : ℕ) (i : Class) → e < length T → slice_get infos (slice_index classes e) ≡ Some i → is_access x i.op ≡ true → AreLocksOf T lists e i.held
 
--- whether pairs of these two classes are kept
+-- whether pairs of the two classes are kept
 abbrev pub keeps_by : (Class → Class → Bool) → Option Class → Option Class → Bool
 keeps_by keeps (Some i) (Some j) = keeps i j
 keeps_by keeps i j = false

@@ -23,7 +23,7 @@ is_counted of_candidates shared = true
 is_counted of_ordered shared = true
 is_counted of_guarded shared = shared
 
--- whether the part counts pairs of these classes
+-- whether the part counts pairs of the two classes
 abbrev pub keeps : List (Vec ℕ Global) → Part → Class → Class → Bool
 keeps lists k i j = is_counted k (is_sharing lists i.held j.held)
 

@@ -9,7 +9,7 @@ use Rattle.race_groups.specs.declared.kinds.Row.{Row}
 use Rattle.race_groups.specs.declared.rows.RowsRefusal.{RowsRefusal}
 use Rattle.race_groups.specs.declared.rows.RowsRefusal.TheVariants.{TooMany}
 
--- two events of these places conflict
+-- two events of the two places conflict
 pub record HaveConflict (T : List Event) (place : ℕ → ℕ) (places : ℕ × ℕ) : Type 0 where
   pub first : ℕ
   pub second : ℕ
@@ -17,7 +17,7 @@ pub record HaveConflict (T : List Event) (place : ℕ → ℕ) (places : ℕ × 
   pub conflict : IsConflicting T first second
   pub between : is_between places.0 places.1 (place first) (place second) ≡ true
 
--- a row with the places of these two events
+-- a row with the places of the events a and b
 pub record IsFound (place : ℕ → ℕ) (rows : List Row) (a b : ℕ) : Type 0 where
   pub at : ℕ
   pub row : Row
@@ -32,8 +32,8 @@ AreComplete T place rows = (a b : ℕ) → a < b → IsConflicting T a b → IsF
 abbrev pub AreOnce : List Row → Type 0
 AreOnce rows = (i k : ℕ) (v w : Row) → slice_get rows i ≡ Some v → slice_get rows k ≡ Some w → v.places ≡ w.places → i ≡ k
 
--- More than `limit` pairs of places have a conflicting pair of events: a list of them, the lesser place first, none
--- twice.
+-- More than `limit` pairs of places have a conflicting pair of events: a list of such pairs of places, each with the
+-- lesser place first, and no pair twice.
 pub record AreTooMany (T : List Event) (place : ℕ → ℕ) (limit : ℕ) : Type 0 where
   pub places : List (ℕ × ℕ)
   pub more : limit < length places

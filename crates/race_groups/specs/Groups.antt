@@ -24,11 +24,11 @@ is_between p q c d = (c == p && d == q) || (c == q && d == p)
 abbrev pub group_of : List Event → (ℕ → ℕ) → ℕ → ℕ → List (ℕ × ℕ)
 group_of T place p q = filter (λ e. is_between p q (place e.0) (place e.1)) (conflicts T)
 
--- the number of these pairs that pass the test
+-- the number of conflicting pairs of the places p and q that pass the test
 abbrev pub count_of : List Event → (ℕ → ℕ) → (ℕ × ℕ → Bool) → ℕ → ℕ → ℕ
 count_of T place test p q = count_by test (group_of T place p q)
 
--- the least of these pairs that passes: by the later event, and then by the earlier
+-- the least conflicting pair of the places p and q that passes: by the later event, and then by the earlier
 abbrev pub least_of : List Event → (ℕ → ℕ) → (ℕ × ℕ → Bool) → ℕ → ℕ → Option (ℕ × ℕ)
 least_of T place test p q = find test (group_of T place p q)
 

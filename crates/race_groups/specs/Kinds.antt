@@ -35,7 +35,7 @@ pub record IsRowAt (r : Recording) (place : ℕ → ℕ) (places : ℕ × ℕ) (
 abbrev pub IsRow : Recording → (ℕ → ℕ) → Row → Type 0
 IsRow r place row = IsRowAt r place row.places row.counts
 
--- no correct reordering shows a pair of events of these places
+-- no correct reordering shows a pair of events of the places p and q
 abbrev pub IsNeverShownBetween : List Event → (ℕ → ℕ) → ℕ → ℕ → Type 0
 IsNeverShownBetween T place p q =
     (a b : ℕ) (P : List ℕ) → is_between p q (place a) (place b) ≡ true → IsCorrectReordering T P → ¬ Shows T P a b

@@ -22,7 +22,7 @@ entries_at spread c = items_of (slice_get spread c)
 abbrev pub weighed_sum : (ℕ → ℕ) → List (ℕ × ℕ) → ℕ
 weighed_sum w entries = sum_by (λ e. e.1 * w e.0) entries
 
--- the weighed sum of these entries grows by one event of thread t
+-- from the old entries to the new, the weighed sum grows by one event of thread t
 abbrev pub IsOneNoted : ℕ → List (ℕ × ℕ) → List (ℕ × ℕ) → Type 0
 IsOneNoted t old new = (w : ℕ → ℕ) → weighed_sum w new ≡ weighed_sum w old + w t
 

@@ -11,7 +11,7 @@ use must_order::apart_is_never_shown;
 pub fn is_apart(indexed: &Indexed, places: &[u32], row: Row) -> bool
     requires { IsRow indexed.now (slice_index places.now) row }
     ensures counts { IsTrue result ↔ ((row.counts.candidates ≡ 0) × (row.counts.open_pairs ≡ 0)) }
-    // Then no correct reordering shows a pair of events of these places.
+    // Then no correct reordering shows a pair of events of the row's places.
     ensures never { result ≡ true → IsRowNeverShown indexed.now.events (slice_index places.now) row }
 {
     apart_is_never_shown();

@@ -14,8 +14,8 @@ const MOST: usize = 262_144;
 // The key of a class: its place and its locks, the kind of operation, and its operand.
 type Key = ((u32, u32), (u32, u32));
 
-/// The keys of the known classes, and the numbers that were found last. A guess counts only if its class is the one that
-/// is asked for, so a wrong guess costs a look-up and nothing else.
+/// The keys of the known classes, and the numbers that were found last. A guess counts only if its class has the wanted
+/// key, so a wrong guess costs a look-up and nothing else.
 #[derive(Drop)]
 pub(crate) struct ClassKeys {
     keys: IndexSet<Key, TextKeyed>,

@@ -108,7 +108,7 @@ fn add_thread(
     ensures ok { OnOk result (AreAdded basis.entry (thread_of basis.entry thread) rows.old rows.new) }
     ensures rows { OnOk result (AreRows rows.new) }
     ensures kept { OnOk result (index_map_len rows.new ≤ limit) }
-    // If there are too many rows, none of them counts more pairs than exist.
+    // If there are too many rows, no row counts more pairs than exist.
     ensures too_many { IfTooMany result (AreMoreThan limit basis.entry thread rows.old rows.new) }
 {
     let flags = heavies(alloc, basis, thread)?;

@@ -39,7 +39,7 @@ pub(crate) struct Later {
     pub(crate) thread: u32,
 }
 
-/// The number of each thread's events before a cut, and how many of these are of each class.
+/// The number of each thread's events before a cut, and how many events of each class are before it.
 #[derive(Drop)]
 pub(crate) struct Front {
     pub(crate) fronts: Vec<u32>,
@@ -107,7 +107,7 @@ fn move_on(counts: &mut [u64], fronts: &mut [u32], classed: Classed<'_>, thread:
     fronts[thread as usize] = to;
 }
 
-// Moves the fronts of all other threads to the ends of a later event. Most of them are there already.
+// Moves the fronts of all other threads to the ends of a later event. Most fronts are there already.
 fn advance<C: Cut>(
     counts: &mut [u64],
     fronts: &mut [u32],

@@ -8,7 +8,7 @@ use crate::rows::{ordered, row_at};
 impl Groups {
     /// The index of the row of two places, which are given in either order; None if they have no row.
     pub fn row_of(&self, first: u32, second: u32) -> Option<usize>
-        // The row has these places; None means that there is no such row.
+        // The row has these places; None means that no row has them.
         ensures found { IfSome result (IsRowAt self.now first second) }
         ensures none { result ≡ None → HasNoRow self.now first second }
     {

@@ -1,4 +1,4 @@
-//! Counts the pairs of many later events of one class together. It visits each earlier event once for all of them,
+//! Counts the pairs of many later events of one class together. It visits each earlier event once for all later ones,
 //! however many there are.
 ghost use Rattle.std.specs.Prelude.{◌≡◌, ℕ, ◌<◌, ◌≤◌, length, true, IfOk, OnOk, sum_by};
 ghost use Rattle.indexmap.specs.IndexMap.{index_map_len};
@@ -119,7 +119,7 @@ pub(crate) fn add_classes(
     Ok(())
 }
 
-/// Flags with 1 each class that has so many events in the thread that counting them together takes fewer steps.
+/// Flags with 1 each class with enough events in the thread that counting them together takes fewer steps.
 pub(crate) fn heavies(alloc: Global, basis: Basis<'_>, thread: u32) -> Result<Vec<u32>, OutOfMemory>
     requires basis { IsBasis basis }
     requires thread { thread < length basis.indexed.now.threads }
@@ -153,7 +153,7 @@ fn flag(flags: &mut [u32], basis: Basis<'_>, thread: u32)
     }
 }
 
-// 1 if counting so many events together saves steps, otherwise 0.
+// 1 if counting `count` events together saves steps, otherwise 0.
 fn flag_of(basis: Basis<'_>, op: Op, count: u32, thread: u32) -> u32
     requires basis { IsBasis basis }
     requires op { (x : ℕ) → is_access x op ≡ true → x < length basis.classes.now.members.items }

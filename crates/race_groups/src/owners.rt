@@ -1,4 +1,4 @@
-//! Finds the classes whose events are all of one thread. No event is in a pair with one of its own thread.
+//! Finds the classes whose events are all of one thread. No event is in a pair with an event of its thread.
 ghost use Rattle.std.specs.Prelude.{◌≡◌, ◌+◌, ◌<◌, length, All, IfOk, IfSome, slice_index};
 ghost use Rattle.race_groups.specs.Owners.{AreOwnersBelow, AreClassOwners};
 

@@ -9,7 +9,7 @@ use event_index::Indexed;
 use rapid_text::OutOfMemory;
 use std::alloc::Global;
 
-/// The number of events passed, and how many of them are of each class, without the thread's own.
+/// The number of events passed, and how many events of each class, without the thread's own.
 #[derive(Drop)]
 pub(crate) struct Passed {
     pub(crate) upto: u32,
@@ -45,7 +45,7 @@ impl Passed {
         self.upto = event + 1;
     }
 
-    // Counts one event for each of these classes.
+    // Counts one event for each class of the list.
     fn count(&mut self, classes: &[u32])
         requires classes { All (λ c. c < length self.old.counts.items) classes.now }
         requires room { (c : ℕ) → c < length self.old.counts.items → slice_index self.old.counts.items c + length classes.now < 2 ^ 32 }

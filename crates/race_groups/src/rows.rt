@@ -22,7 +22,7 @@ pub(crate) struct Sums {
     pub(crate) candidates: u64,
     /// Those that SHB orders and must-before does not.
     pub(crate) ordered: u64,
-    /// The part of those whose threads both hold one lock.
+    /// Those that `ordered` counts and whose threads both hold one lock.
     pub(crate) guarded: u64,
 }
 
@@ -59,7 +59,7 @@ impl Model for GrowingRows {
 }
 
 impl GrowingRows {
-    /// No rows, with guesses for the places of these classes. Fails if memory runs out.
+    /// No rows, with guesses for the places of the classes. Fails if memory runs out.
     pub(crate) fn new(alloc: Global, classes: &Classes) -> Result<GrowingRows, OutOfMemory>
         ensures empty { IfOk result IsEmpty }
         ensures len { IfOk result (λ rows. index_map_len rows ≡ 0) }

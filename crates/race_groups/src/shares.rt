@@ -26,7 +26,7 @@ impl Share {
         self.candidates == 0 && self.ordered == 0 && self.all == 0
     }
 
-    /// The sums of these pairs, whose threads both hold one lock or do not.
+    /// The sums of the pairs, whose threads both hold one lock or do not.
     pub(crate) fn sums(self, is_shared: bool) -> Sums
         ensures { (k : Part) → part k result ≡ (if is_counted k is_shared then amount k self else 0) }
     {
@@ -63,9 +63,9 @@ pub(crate) trait Shares {
 pub(crate) struct Loose<'a> {
     /// The number of events that are earlier in the trace.
     pub(crate) earlier: &'a [u64],
-    /// How many of these SHB keeps before.
+    /// How many of the earlier events SHB keeps before.
     pub(crate) known: &'a [u64],
-    /// How many of those are must-before.
+    /// How many of the events that `known` counts are must-before.
     pub(crate) forced: &'a [u64],
 }
 
@@ -103,7 +103,7 @@ impl Shares for Loose<'_> {
 pub(crate) struct Total<'a> {
     /// The number of events of each class.
     pub(crate) totals: &'a [u64],
-    /// The threads of these events.
+    /// The threads of the events of each class.
     pub(crate) spread: &'a [Vec<(u32, u32)>],
     /// The number of events of the class in each thread.
     pub(crate) weights: &'a [u64],

@@ -59,7 +59,7 @@ fn meet_rising(first: &[u32], second: &[u32]) -> bool
     false
 }
 
-// The first index from `from` on whose element is not below the lock; the length of the list if there is none.
+// The first index from `from` on whose element is not below the lock; the length of the list if all are below it.
 fn place_from(list: &[u32], from: usize, lock: u32) -> usize
     requires from { from ≤ length list.now }
     ensures within { result ≤ length list.now }

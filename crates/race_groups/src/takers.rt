@@ -55,7 +55,7 @@ fn part(takers: &mut [u32], indexed: &Indexed, many: u32, event: u32)
     }
 }
 
-/// Keeps those of these locks that more than one of `threads` threads acquires.
+/// Keeps the locks of the list that more than one of `threads` threads acquires.
 pub(crate) fn keep_lent(
     kept: &mut Vec<u32>,
     locks: &[u32],

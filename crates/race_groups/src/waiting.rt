@@ -10,7 +10,7 @@ use crate::rows::Sums;
 use rapid_text::OutOfMemory;
 use std::alloc::Global;
 
-// With up to this many places, there is a number for each two of them, in either order.
+// With up to this many places, there is a number for each two places, in either order.
 const MOST: usize = 1_448;
 
 /// The number of candidates that wait for each row.

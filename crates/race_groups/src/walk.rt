@@ -15,7 +15,7 @@ use crate::sharing::are_sharing;
 use crate::writers::Walk;
 use rapid_text::{Op, OutOfMemory};
 
-// The sums of pairs of two classes. A common lock of these matters only if SHB orders some of the pairs.
+// The sums of pairs of two classes. A common lock of the two matters only if SHB orders some of the pairs.
 fn sums_of(lists: &LockLists, earlier: Class, later: Class, share: Share) -> Sums
     ensures { (k : Part) → part k result ≡ kept_share lists.now.keys earlier later share k }
 {
@@ -25,8 +25,8 @@ fn sums_of(lists: &LockLists, earlier: Class, later: Class, share: Share) -> Sum
     share.sums(are_sharing(lists, earlier.held, later.held))
 }
 
-// Adds the pairs of the events of one class with one event of another. Only few classes get here, so the walk over
-// all of them stays short.
+// Adds the pairs of the events of one class with one event of another. Only few classes get here, so the walk over them
+// all stays short.
 #[inline(never)]
 fn add_pairs(
     rows: &mut GrowingRows,
@@ -83,7 +83,7 @@ fn clash(first: Op, second: Op) -> bool
     }
 }
 
-// The same for each of these classes, which are not the thread's own.
+// The same for each class of `members`, none of which is the thread's own.
 fn add_run<A: Shares>(
     rows: &mut GrowingRows,
     shares: &A,

@@ -1,5 +1,5 @@
-//! Weighs the events before cuts. If many later events of a thread are of one class, an event is not counted for each
-//! of them. Its weight is the number of these that are still to come when it first comes before their cut.
+//! Weighs the events before cuts. If a thread has many later events of one class, an event is not counted for each
+//! later one. Its weight is the number of later events still to come when it first comes before their cut.
 ghost use Rattle.std.specs.Prelude.{◌≡◌, ◌≢◌, ℕ, ◌+◌, ◌^◌, ◌<◌, ◌≤◌, length, All, sum_by, slice_index, slice_set};
 ghost use Rattle.rapid_text.specs.Recording.{IsWellFormed};
 ghost use Rattle.event_index.specs.Lookups.{events_of};

@@ -31,7 +31,7 @@ pub(crate) struct Conflicts {
     pub(crate) writer_runs: Vec<Vec<usize>>,
     /// The number of events of each class.
     pub(crate) totals: Vec<u64>,
-    /// The threads of these events, class by class.
+    /// The threads of the events of each class.
     pub(crate) spread: Spread,
 }
 

@@ -147,7 +147,7 @@ AreFoundBelow s x leasts = AreSoFar s.indexed.now (slice_index s.places.now) s.g
 abbrev pub AreAllTakenOf : Search → ℕ → List Least → Type 0
 AreAllTakenOf s = AreAllTaken s.indexed.now (slice_index s.places.now) s.groups.now.rows.items s.most
 
--- The same while x, one of these variables, is visited.
+-- The same while the variable x, whose turn it is, is visited.
 pub record AreFound (s : Search) (x : ℕ) (leasts : List Least) : Type 0 where
   pub so_far : AreFoundBelow s x leasts
   pub own : IsOwn s x

@@ -33,7 +33,7 @@ IsInLane T x l e = slice_get T e ≡ Some (record { thread = l.thread; op = acce
 abbrev pub IsRising : List ℕ → Type 0
 IsRising xs = (i k : ℕ) → i < k → k < length xs → slice_index xs i < slice_index xs k
 
--- Some of these events, in rising order, all of one class.
+-- Some events of the list, in rising order, all of one class.
 pub record IsBunch (numbers events : List ℕ) (g : Bunch) : Type 0 where
   pub rising : IsRising g.events.items
   pub among : All (Contains events) g.events.items

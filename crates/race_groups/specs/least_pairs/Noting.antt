@@ -18,7 +18,7 @@ pub record IsNothing (l : Least) : Type 0 where
   pub tries : l.tries.items ≡ []
   pub last : l.last ≡ None
 
--- the variable has P, and has a candidate or an open pair of these places
+-- the variable has P, and has a candidate or an open pair of the two places
 abbrev pub HasOwn : (ℕ → Type 0) → Recording → (ℕ → ℕ) → ℕ × ℕ → ℕ → Type 0
 HasOwn P r place places x = P x × HasPair r place places x
 

@@ -66,13 +66,13 @@ IsWanted r a b AnyKind = ⊤
 abbrev pub AreAt : (ℕ → ℕ) → ℕ × ℕ → ℕ → ℕ → Type 0
 AreAt place places a b = is_between places.0 places.1 (place a) (place b) ≡ true
 
--- a conflicting pair of these two places, of the wanted kind
+-- a conflicting pair of the two places, of the wanted kind
 pub record IsFit (r : Recording) (place : ℕ → ℕ) (places : ℕ × ℕ) (wanted : Wanted) (a b : ℕ) : Type 0 where
   pub pair : IsPair r.events a b
   pub at : AreAt place places a b
   pub kind : IsWanted r a b wanted
 
--- the least pair of these places of the wanted kind, or None if there is none
+-- the least pair of the two places of the wanted kind, or None if no pair is of that kind
 abbrev pub IsLeastPair : Recording → (ℕ → ℕ) → ℕ × ℕ → Wanted → Option (ℕ × ℕ) → Type 0
 IsLeastPair r place places wanted None = (a b : ℕ) → ¬ IsFit r place places wanted a b
 IsLeastPair r place places wanted (Some p) =
@@ -95,12 +95,12 @@ pub record IsOf (T : List Event) (of : Between) (a b : ℕ) : Type 0 where
   pub earlier : thread_at T a ≡ Some of.earlier
   pub later : thread_at T b ≡ Some of.later
 
--- an open pair of these places that is of this variable and these two threads
+-- an open pair of the two places that is of the given variable and the given two threads
 pub record IsOpenOf (r : Recording) (place : ℕ → ℕ) (places : ℕ × ℕ) (of : Between) (a b : ℕ) : Type 0 where
   pub fit : IsFit r place places Open a b
   pub of_these : IsOf r.events of a b
 
--- The least open pair of these places for each variable and two threads; of these pairs the first `most`, in rising
+-- The least open pair of the two places for each variable and two threads: the first `most` such pairs, in rising
 -- order.
 pub record AreFirstTries (r : Recording) (place : ℕ → ℕ) (places : ℕ × ℕ) (most : ℕ) (tries : List Try) : Type 0 where
   pub each : All (λ (t : Try). IsOpenOf r place places t.between t.pair.1 t.pair.0) tries
@@ -113,15 +113,15 @@ pub record AreFirstTries (r : Recording) (place : ℕ → ℕ) (places : ℕ × 
       (of : Between) (a b : ℕ) → IsOpenOf r place places of a b
       → Any (λ (t : Try). t.between ≡ of) tries ⊎ ((length tries ≡ most) × All (λ (t : Try). IsUpTo t.pair (b, a)) tries)
 
--- the variable has a candidate or an open pair of these places
+-- the variable has a candidate or an open pair of the two places
 pub record HasPair (r : Recording) (place : ℕ → ℕ) (places : ℕ × ℕ) (x : ℕ) : Type 0 where
   pub first : ℕ
   pub second : ℕ
   pub fit : IsFit r place places Candidate first second ⊎ IsFit r place places Open first second
   pub access : is_access_at r.events x first ≡ true
 
--- The findings on a pair of places: the least candidate; if there is none, the open pairs to be tried; and the number
--- of variables with a candidate or an open pair.
+-- The findings on a pair of places: the least candidate; without a candidate, the open pairs to be tried; and the
+-- number of variables with a candidate or an open pair.
 pub record AreLeasts (r : Recording) (place : ℕ → ℕ) (places : ℕ × ℕ) (most : ℕ) (found : Least) : Type 0 where
   pub candidate : IsLeastPair r place places Candidate found.candidate
   pub tries : found.candidate ≡ None → AreFirstTries r place places most found.tries.items

@@ -1,5 +1,5 @@
--- The first accesses of each place, which represent all of them, and what each row keeps while they are visited. No
--- public clause cites this module. `T` is the events of a trace, `r` is its recording; `place` has the place of each
+-- The first accesses of each place, which represent all its accesses, and what each row keeps while they are visited.
+-- No public clause cites this module. `T` is the events of a trace, `r` is its recording; `place` has the place of each
 -- event.
 use Rattle.std.specs.Prelude.{◌≡◌, ◌≢◌, ◌⊎◌, ℕ, ◌<◌, ◌≤◌, true, Bool, List, [], ◌∷◌, ◌++◌, length, All, Option, Some, slice_get, slice_index, slice_set}
 use Rattle.rapid_text.specs.Recording.{Recording}
@@ -50,19 +50,19 @@ pub record IsUsed (T : List Event) (place : ℕ → ℕ) (x : ℕ) (uses : List 
   pub is : slice_get uses at ≡ Some found
   pub of_use : IsOfUse T place x found e thread
 
--- The uses of these accesses of the variable x.
+-- The uses of the accesses `es` of the variable x.
 pub record AreUses (T : List Event) (place : ℕ → ℕ) (x : ℕ) (es : List ℕ) (uses : List Use) : Type 0 where
   pub each : All (IsUse T place x) uses
   pub used : All (IsUsed T place x uses) es
 
--- the same for the trace and the places that are asked for
+-- the same for the trace and the places of a call
 abbrev pub IsUseOf : Places → ℕ → Use → Type 0
 IsUseOf s = IsUse s.indexed.now.events (slice_index s.places.now)
 
 abbrev pub AreUsesOf : Places → ℕ → List ℕ → List Use → Type 0
 AreUsesOf s = AreUses s.indexed.now.events (slice_index s.places.now)
 
--- the uses of these accesses become those with one more access
+-- the uses of a list of accesses become the uses of that list and one more access
 abbrev pub IsAccessNoted : Places → ℕ → ℕ → List Use → List Use → Type 0
 IsAccessNoted s x e old new = (es : List ℕ) → AreUsesOf s x es old → AreUsesOf s x (es ++ e ∷ []) new
 
@@ -117,7 +117,7 @@ pub record AreRuns (uses : List Use) (runs : List ℕ) : Type 0 where
   pub len : length runs ≡ length uses
   pub each : (i : ℕ) → i < length uses → IsRun uses i (slice_index runs i)
 
--- p is the pair of these two events, which are of different threads
+-- p is the pair of the two events, which are of different threads
 pub record IsPairOf (f g : Of) (p : ℕ × ℕ) : Type 0 where
   pub threads : f.thread ≢ g.thread
   pub either : ((p.0 ≡ f.event) × (p.1 ≡ g.event) × (g.event ≤ f.event)) ⊎ ((p.0 ≡ g.event) × (p.1 ≡ f.event) × (f.event ≤ g.event))
@@ -175,7 +175,7 @@ pub record AreUsesHeld (T : List Event) (place : ℕ → ℕ) (x : ℕ) (rows : 
 abbrev pub AreFirstsHeld : List Event → (ℕ → ℕ) → List Row → ℕ → List (Option (ℕ × ℕ)) → Type 0
 AreFirstsHeld T place rows x firsts = (a b : ℕ) → IsPair T a b → is_access_at T x a ≡ true → IsFirstHeld place rows firsts a b
 
--- the same for the trace and the rows that are asked for
+-- the same for the trace, the places and the rows of a call
 abbrev pub HasFirsts : Places → List (Option (ℕ × ℕ)) → Type 0
 HasFirsts s = AreFirsts s.indexed.now (slice_index s.places.now) s.groups.now.rows.items
 

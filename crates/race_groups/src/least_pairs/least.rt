@@ -61,7 +61,7 @@ impl Least {
         self.candidate = Some(lesser_pair(self.candidate, pair));
     }
 
-    /// Adds an open pair. At most `most` of them are kept.
+    /// Adds an open pair. At most `most` open pairs are kept.
     pub(crate) fn note_open(&mut self, most: usize, new: Try) -> Result<(), OutOfMemory>
         requires variables { self.old.variables < 4294967295 }
         requires tries { AreTries most self.old.tries.items }

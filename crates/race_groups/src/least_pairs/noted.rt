@@ -32,7 +32,7 @@ const NOTHING: Note = Note {
 #[derive(Drop)]
 pub(crate) struct Noted {
     pub(crate) notes: Vec<Note>,
-    // The number of places, if each two of them have a slot for themselves; otherwise 0.
+    // The number of places, if each two places have a slot for themselves; otherwise 0.
     width: usize,
 }
 
@@ -79,7 +79,7 @@ impl Noted {
     }
 }
 
-// The number of places, if `slots` slots are enough for each two of them; otherwise 0.
+// The number of places, if `slots` slots are enough for each two places; otherwise 0.
 fn width_of(places: &[u32], slots: usize) -> usize {
     let mut last = 0;
     for place in places {

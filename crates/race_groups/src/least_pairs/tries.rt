@@ -62,7 +62,7 @@ pub(crate) fn join_tries(tries: &mut Vec<Try>, most: usize, part: &[Try]) -> Res
     Ok(())
 }
 
-/// Adds an open pair. The least pair of each variable and two threads stays, and of these the first `most`.
+/// Adds an open pair. Keeps the least pair of each variable and two threads: the first `most` such pairs.
 pub(crate) fn note_try(tries: &mut Vec<Try>, most: usize, new: Try) -> Result<(), OutOfMemory>
     requires tries { AreTries most tries.old.items }
     requires most { 0 < most }
