@@ -53,8 +53,8 @@ pub trait Device {
     /// What stood in the file each time that its lock was taken, the last time first; `None` if it ended before the place that was known.
     ghost found: { Self → List (Option (List ℕ)) };
 
-    /// Waits for the file's lock, and reads the bytes from a place on. The premise on others: meanwhile they
-    /// changed nothing before that place. A read under the lock is what is seen from then on.
+    /// Waits for the file's lock, and reads the bytes from a place on. The premise on others: until then they changed
+    /// nothing before that place. A read under the lock is what is seen from then on.
     fn take_over(&mut self, alloc: Global, gate: usize) -> Result<Vec<u8>, DeviceError>
         requires { gate ≤ length (seen self.old) }
         ensures bytes { IfOk result (λ bytes. drop gate (seen self.new) ≡ bytes.items) }
@@ -96,7 +96,7 @@ pub trait Device {
         ensures cause { HasCause (faults self.old) (faults self.new) result }
         ensures not_shorter { IfErr result (λ why. why ≢ Shorter) }
 
-        // Where a growth was refused, nothing was written.
+        // If memory ran out, nothing was written.
         ensures memory { IsErrOf result Memory → seen self.new ≡ seen self.old };
 
     /// Cuts the file to a length. A failed call shows some length between.
@@ -123,7 +123,7 @@ pub trait Device {
         ensures cause { HasCause (faults self.old) (faults self.new) result }
         ensures only { IfErr result (λ why. why ≡ Failed) };
 
-    /// This moment is one of those since an earlier one.
+    /// What a crash may leave now counts as left since each earlier moment.
     ghost counts_now: { (file : Self) (t : ℕ) (c : List ℕ) → t ≤ moment file → may_leave file c → left_since file t c };
 
     /// Since this moment there is no other.

@@ -27,7 +27,7 @@ pub(crate) fn lines_end(text: &[u8]) -> usize
     end
 }
 
-/// The first line that counts in a text, without its gate and its end, and what stands behind it.
+/// The first line that counts in a text, without its gate and its end, and the text after it.
 pub fn first_line(text: &[u8]) -> Option<(&[u8], &[u8])>
     ensures none { IfNone result (kept_lines text.now ≡ []) }
     ensures line { IfSome result (λ parts. IsLine parts.0.now) }

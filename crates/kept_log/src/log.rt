@@ -52,7 +52,7 @@ pub fn create<D: Device>(alloc: Global, device: &mut D, head: &[u8]) -> Result<(
     ensures made { OnOk result (D.seen device.new ≡ at_rest head.now []) }
     ensures durable { OnOk result (Only (D.seen device.new) (D.may_leave device.new)) }
 
-    // A crash at any moment leaves what it might have left before, or a file of no lines, whatever its head is.
+    // A crash at any moment leaves what it might have left before, or a file of no lines with any head.
     ensures any_moment { LeavesAlso D.Device device.old device.new (HasNoLine head.now) }
     ensures held { D.is_held device.new ≡ true }
     ensures found { D.found device.new ≡ D.found device.old }
@@ -85,7 +85,7 @@ impl From<DeviceError> for OpenError {
     }
 }
 
-/// How long the text of the lines behind a head is, of a file that begins with it.
+/// The length of the text of the lines after a head, in a file that begins with the head.
 fn find<D: Device>(device: &mut D, head: &[u8], bytes: &[u8]) -> Result<usize, OpenError>
     requires held { D.is_held device.old ≡ true }
     requires bytes { bytes.now ≡ D.seen device.old }
@@ -125,7 +125,7 @@ fn find<D: Device>(device: &mut D, head: &[u8], bytes: &[u8]) -> Result<usize, O
     }
 }
 
-/// The text of a block with a closed gate behind it, for a log that ends at this place.
+/// The text of a block with a closed gate after it, for a log that ends at this place.
 fn closed_text(end: usize, block: Block) -> Result<Vec<u8>, AppendError>
     ensures text { IfOk result (λ text. text.items ≡ lines_text block ++ 33 ∷ []) }
     ensures are_lines { All IsLine block }
@@ -144,8 +144,8 @@ fn closed_text(end: usize, block: Block) -> Result<Vec<u8>, AppendError>
 }
 
 impl<D: Device> KeptLog<D> {
-    /// Opens a file that begins with a head. Its lock is held, and `bytes` is all of it. It tells how long the text
-    /// of the lines is, which stands behind the head.
+    /// Opens a file that begins with a head. Its lock is held, and `bytes` is all of it. Returns also the length of the
+    /// text of the lines, which comes after the head.
     pub fn open(
         mut device: D,
         head: &[u8],
@@ -189,7 +189,7 @@ impl<D: Device> KeptLog<D> {
         }
     }
 
-    /// Waits for the file's lock, and reads what stands from the gate on that this log knows.
+    /// Waits for the file's lock, and reads the file from the gate on that this log knows.
     pub fn take_over(&mut self, alloc: Global) -> Result<Vec<u8>, DeviceError>
         requires known { IsKnown D.Device self.old }
 
@@ -208,7 +208,7 @@ impl<D: Device> KeptLog<D> {
         self.device.take_over(alloc, self.end)
     }
 
-    /// Lets the file's lock go. From then on, whatever others do, each crash leaves a file whose lines begin with
+    /// Lets the file's lock go. From then on, no matter what others do, each crash leaves a file whose lines begin with
     /// those of this log.
     pub fn release(&mut self) -> Result<(), DeviceError>
         requires at_rest { IsAtRest D.Device self.old }
@@ -226,8 +226,8 @@ impl<D: Device> KeptLog<D> {
         self.device.release(self.end)
     }
 
-    /// Takes in what others added. The file's lock is held, and `text` is all that stands from the gate on that this
-    /// log knows. It tells how long the text of the further lines is.
+    /// Takes in what others added. The file's lock is held, and `text` is the whole file from the gate on that this log
+    /// knows. Returns the length of the text of the further lines.
     pub fn catch_up(&mut self, text: &[u8]) -> Result<usize, DeviceError>
         requires held { D.is_held self.old.device ≡ true }
         requires known { IsKnown D.Device self.old }
@@ -243,7 +243,7 @@ impl<D: Device> KeptLog<D> {
         ensures head { OnOk result (head_of D.Device self.new ≡ head_of D.Device self.old) }
 
         // A crash at any moment leaves what it might have left before, or the lines that are seen. A failed call
-        // changes none of them.
+        // changes no line.
         ensures view { StandsForLog D.Device self.old (D.seen self.new.device) }
         ensures any_moment { LeavesAlso D.Device self.old.device self.new.device (StandsForLog D.Device self.old) }
         ensures cause { HasCause (D.faults self.old.device) (D.faults self.new.device) result }

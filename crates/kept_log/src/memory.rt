@@ -19,7 +19,7 @@ pub struct Memory {
 impl Memory {
     ghost use Rattle.kept_log.specs.Memory.{memory_bytes, memory_past, memory_found};
 
-    /// A file with these bytes, all of them on the disk.
+    /// A file with these bytes, all on the disk.
     pub fn new(alloc: Global, bytes: Vec<u8>) -> Self
         ensures { memory_bytes result ≡ bytes.items }
     {
@@ -53,7 +53,7 @@ impl Memory {
     }
 }
 
-// Puts other bytes in the place of those that are there, which it keeps.
+// Replaces the bytes, and keeps the old ones.
 fn replace(
     alloc: Global,
     bytes: &mut Vec<u8>,

@@ -1,4 +1,4 @@
-//! What stands behind a place of the file: lines that count, and a closed gate.
+//! What comes after a place of the file: lines that count, and a closed gate.
 ghost use Rattle.std.specs.Prelude.{◌≡◌, ◌≢◌, ◌≤◌, ◌<◌, ◌+◌, ◌++◌, [], ◌∷◌, All, length, take, drop, IfOk, OnOk, IfErr, ◌^◌, true};
 ghost use Rattle.kept_log.specs.Device.{Only, HasCause};
 ghost use Rattle.kept_log.specs.declared.device.DeviceError.{DeviceError};
@@ -11,7 +11,7 @@ use crate::lines::lines_end;
 use crate::steps::{cut_through, write_through};
 use crate::{Device, DeviceError};
 
-/// Cuts what stands behind a place, where no line counts, and closes the gate there.
+/// Cuts the file at a place after which no line counts, and closes the gate there.
 fn repair<D: Device>(device: &mut D, at: usize) -> Result<(), DeviceError>
     requires within { at ≤ length (D.seen device.old) }
     requires held { D.is_held device.old ≡ true }
@@ -27,13 +27,13 @@ fn repair<D: Device>(device: &mut D, at: usize) -> Result<(), DeviceError>
     ensures cause { HasCause (D.faults device.old) (D.faults device.new) result }
     ensures not_shorter { IfErr result (λ why. why ≢ Shorter) }
 {
-    // The cut has to be on the disk first: behind a gate that is torn open, what was there would count.
+    // The cut must be on the disk first: after a gate that is torn open, what was there would count.
     cut_through(device, at)?;
     write_through(device, at, b"!")
 }
 
-/// How long the text of the lines is that count behind a place. Behind them a closed gate stands, if need be by a
-/// repair. `text` is all that stands behind the place.
+/// The length of the text of the lines that count after a place. A closed gate follows them, if need be by a repair.
+/// `text` is the whole file from the place on.
 pub(crate) fn settle<D: Device>(
     device: &mut D,
     at: usize,

@@ -27,7 +27,7 @@ pub(crate) fn write_through<D: Device>(
     ensures cause { HasCause (D.faults device.old) (D.faults device.new) result }
     ensures not_shorter { IfErr result (λ why. why ≢ Shorter) }
 
-    // Where a growth was refused, nothing was written.
+    // If memory ran out, nothing was written.
     ensures memory { IsErrOf result Memory → D.seen device.new ≡ D.seen device.old }
 {
     device.write_at(at, bytes)?;

@@ -19,8 +19,8 @@ pub enum EnterError {
 }
 
 impl<D: Device> KeptLog<D> {
-    /// Begins a turn: waits for the file's lock, and takes in what others added, which is on the disk then. It tells the text that
-    /// stood behind the lines that were known; those of its lines that count are the further ones.
+    /// Begins a turn: waits for the file's lock, and takes in what others added, which is on the disk then. Returns the
+    /// text after the lines that were known; the lines of it that count are the further ones.
     pub fn enter(&mut self, alloc: Global) -> Result<Vec<u8>, EnterError>
         requires left { IsLeft D.Device self.old }
 
