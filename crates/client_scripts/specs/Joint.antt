@@ -22,10 +22,10 @@ abbrev pub script_by : List ℕ → Option ℕ → List ℕ
 script_by text None = []
 script_by text (Some k) = join_with_byte 10 (drop (k + 1) (lines_of text))
 
--- the trace: the lines before the first divider, or the whole text if there is none
+-- the trace: the lines before the first divider, or the whole text if it has no divider
 unfoldable pub trace_part : List ℕ → List ℕ
 trace_part text = trace_by text (position is_divider (lines_of text))
 
--- the script: the text after the first divider; empty if there is none
+-- the script: the text after the first divider; empty if the text has no divider
 unfoldable pub script_part : List ℕ → List ℕ
 script_part text = script_by text (position is_divider (lines_of text))

@@ -30,7 +30,7 @@ answers_behind trace log [] = []
 answers_behind trace log (asked ∷ more) =
     answer_of trace log asked.client asked.call ∷ answers_behind trace (log_after trace log asked.client asked.call) more
 
--- the lines of these answers, in order
+-- the lines of the answers, in order
 abbrev pub answers_text : Recording → List (Result Reply Refusal) → List ℕ
 answers_text trace answers = flat_map (answer_text trace) answers
 
@@ -98,11 +98,11 @@ IsFault t (Read input why) = IsUnread t input why
 IsFault t (Script refusal) = IsAccepted t × IsShort t.second × IsScript t.script (Err refusal)
 IsFault t fault = ⊥
 
--- the known bytes grow by a beginning of these
+-- the known bytes grow by a beginning of `bytes`
 abbrev pub AppendsPart : Option (List ℕ) → Option (List ℕ) → List ℕ → Type 0
 AppendsPart old new bytes = (n : ℕ) × Appends old new (take n bytes)
 
--- the known bytes grow by a beginning of these, but not by all
+-- the known bytes grow by a beginning of `bytes`, but not by all
 abbrev pub AppendsFewer : Option (List ℕ) → Option (List ℕ) → List ℕ → Type 0
 AppendsFewer old new bytes = (n : ℕ) × (n < length bytes) × Appends old new (take n bytes)
 

@@ -16,7 +16,7 @@ abbrev pub seat_text : Recording → Result Reply SeatRefusal → List ℕ
 seat_text trace (Ok reply) = reply_text reply
 seat_text trace (Err why) = seat_refusal_text trace why
 
--- the lines of these answers, in order
+-- the lines of the answers, in order
 abbrev pub seat_texts : Recording → List (Result Reply SeatRefusal) → List ℕ
 seat_texts trace answers = flat_map (seat_text trace) answers
 

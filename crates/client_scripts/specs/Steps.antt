@@ -29,7 +29,7 @@ use Rattle.script_language.specs.declared.refusal.ScriptRefusal.{ScriptRefusal}
 use Rattle.client_scripts.specs.declared.fault.Tally.{Tally}
 use Rattle.client_scripts.specs.declared.fault.TheConstants.{LIMIT}
 
--- the faults for refusals of the text, of the rules and of the script; running out of memory is a fault of its own
+-- the faults for refusals of the text, of the rules and of the script; running out of memory has a separate fault
 abbrev pub text_fault : TextRefusal → TextCause → ReplayFault
 text_fault refusal NoTextMemory = OutOfMemory
 text_fault refusal why = Text refusal
@@ -77,8 +77,8 @@ abbrev pub MakesCallOn : List Asked → ℕ → Benched → Benched → List ℕ
 MakesCallOn script at old new out_old out_new accepted =
     MakesCall old.trace script at old.log accepted out_old new.log out_new
 
--- The line comes after the bytes that were kept before. The writer has taken a beginning of these bytes, and the rest
--- is kept.
+-- The line comes after the bytes that were kept before. The writer has taken a beginning of the kept bytes and the
+-- line, and the rest is kept.
 abbrev pub HandsOn : Option (List ℕ) → Option (List ℕ) → List ℕ → List ℕ → List ℕ → Type 0
 HandsOn old new kept kept_now line = (out : List ℕ) × Appends old new out × (out ++ kept_now ≡ kept ++ line)
 

@@ -16,7 +16,7 @@ use trace_rules::RuleCause;
 pub(crate) enum Message {
     /// Words alone.
     Plain(&'static str),
-    /// The kind of place, its number, and the words.
+    /// The kind of place, its number, and words.
     At(&'static str, u64, &'static str),
 }
 
@@ -29,7 +29,7 @@ impl fmt::Display for Message {
     }
 }
 
-/// The number and the words of what is wrong with a trace line. Returns None if memory ran out.
+/// The number and the text for what is wrong with a trace line. Returns None if memory ran out.
 fn text_words(why: TextCause) -> Option<&'static str>
     ensures { words_in result ≡ text_cause_words why }
 {
@@ -46,7 +46,7 @@ fn text_words(why: TextCause) -> Option<&'static str>
     }
 }
 
-/// The number and the words of the rule that an event breaks. Returns None if memory ran out.
+/// The number and the text of the rule that an event breaks. Returns None if memory ran out.
 fn rule_words(why: RuleCause) -> Option<&'static str>
     ensures { words_in result ≡ rule_cause_words why }
 {
@@ -61,8 +61,8 @@ fn rule_words(why: RuleCause) -> Option<&'static str>
     }
 }
 
-/// Returns the number and the words of what is wrong with a script line, such as `81 bad word`. Returns None if
-/// memory ran out.
+/// Returns the number and the text for what is wrong with a script line, such as `81 bad word`. Returns None if memory
+/// ran out.
 pub fn script_words(why: ScriptCause) -> Option<&'static str>
     ensures { words_in result ≡ script_cause_words why }
 {

@@ -70,7 +70,7 @@ cell_key c = record {
   number = c.number;
 }
 
--- for each key the cell with its number; `other` if there is none
+-- for each key the cell with its number; `other` if no cell has that number
 abbrev pub cells_by : List Cell → Cell → List Quick → List Cell
 cells_by cells other keys = map (λ k. slice_index_or cells k.number other) keys
 

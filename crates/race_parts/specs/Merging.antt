@@ -162,7 +162,7 @@ IsLineRefused text number Version = ⊥
 IsLineRefused text number (Clash file) = ⊤
 IsLineRefused text number OutOfMemory = ⊤
 
--- This is the first of these lines whose text is not a part. The lines begin with the second line of the file, and the
+-- This is the first line in `lines` whose text is not a part. The lines begin with the second line of the file, and the
 -- index is the one in the file.
 pub record IsNoPartIn (lines : List Value) (line : ℕ) : Type 0 where
   pub done : List Value
@@ -227,7 +227,7 @@ Lists name text given =
     ((d : Data) × IsSound text d × (is_merged_head d ≡ false) × (given ≡ (name, text) ∷ []))
     ⊎ ListsReport text given
 
--- The file with this number gives these names with texts. One of them is a part whose name has another text. That
+-- The file with this number gives these names with texts. One text is a part whose name has another text. That other
 -- text was there before, or comes earlier in the list, and came from the file `file`.
 pub record IsClash (old : BTreeMap (Vec ℕ Global) Part) (number : ℕ) (given : List (List ℕ × List ℕ)) (file : ℕ) : Type 0 where
   pub done : List (List ℕ × List ℕ)

@@ -56,7 +56,7 @@ AreMergedFrom file old new added = (q : Vec ℕ Global) → held_at new q ≡ op
 abbrev pub HasPart : BTreeMap (Vec ℕ Global) Part → List ℕ × List ℕ → Type 0
 HasPart parts p = (key : Vec ℕ Global) → key.items ≡ p.0 → text_at parts key ≡ Some p.1
 
--- each of these names has its text among the parts
+-- each name of the list has its text among the parts
 abbrev pub AreThere : BTreeMap (Vec ℕ Global) Part → List (List ℕ × List ℕ) → Type 0
 AreThere parts given = All (HasPart parts) given
 
@@ -78,7 +78,7 @@ abbrev pub AddsOnly : BTreeMap (Vec ℕ Global) Part → BTreeMap (Vec ℕ Globa
 AddsOnly old new name =
     (has_name old name ≡ true → IsUnchanged old new) × (has_name old name ≡ false → without name new.entries ≡ old.entries)
 
--- the texts of these byte vectors
+-- the texts of the byte vectors
 abbrev pub names_in : Vec (Vec ℕ Global) Global → List (List ℕ)
 names_in names = map (λ name. name.items) names.items
 

@@ -68,7 +68,7 @@ mark_of d = record {
 abbrev pub HasMark : (Data → Type 0) → Mark → Type 0
 HasMark P mark = (d : Data) × P d × (mark ≡ mark_of d)
 
--- The counts agree with these numbers of rows. If there are no apart rows, any count of them is right.
+-- The counts agree with these numbers of rows. If there are no apart rows, any count of apart rows is right.
 abbrev pub is_whole : Data → ℕ → ℕ → ℕ → Bool
 is_whole d races undecided apart =
     nat_eq (said_number (codes "races") d) races

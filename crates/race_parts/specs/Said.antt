@@ -1,4 +1,4 @@
--- The values of a row that decide where it is sorted. All notions here are this project's own.
+-- The values of a row by which it is sorted. All notions here are this project's own.
 use Rattle.std.specs.Prelude.{◌≡◌, ℕ, List}
 use Rattle.serde_json.specs.Data.{Data}
 use Rattle.serde_json.specs.View.{view}

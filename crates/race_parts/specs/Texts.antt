@@ -141,7 +141,7 @@ block_text parts rows c cs =
     ++ tallies_text parts c cs
     ++ part_text c.part.now
 
--- the cell before it is of another pair of locations, or there is none
+-- the cell before it is of another pair of locations, or no cell is before it
 abbrev pub is_new : Option Cell → Cell → Bool
 is_new None c = true
 is_new (Some before) c = not (is_same before c)

@@ -8,7 +8,7 @@ use itoa::Buffer;
 use rapid_text::OutOfMemory;
 use serde_json::Value;
 
-/// Appends the words.
+/// Appends `words`.
 pub(crate) fn append_words(out: &mut Vec<u8>, words: &[u8]) -> Result<(), OutOfMemory>
     ensures { Appended result out.old out.new words.now }
 {

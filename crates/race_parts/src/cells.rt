@@ -103,7 +103,7 @@ fn row_kept<'a>(name: &'a [u8], text: &'a [u8], row: KeptRow) -> Row<'a>
     }
 }
 
-/// The text after the first line feed; empty if there is none.
+/// The text after the first line feed; empty if the text has no line feed.
 fn after_first(text: &[u8]) -> &[u8]
     ensures { lines_of result.now ≡ drop 1 (lines_of text.now) }
 {
@@ -136,7 +136,7 @@ fn row_in<'a>(alloc: Global, part: &'a [u8], line: &'a [u8]) -> Result<Row<'a>, 
     }
 }
 
-/// The location of the access with this index, 0 or 1; empty if there is none.
+/// The location of the access with this index, 0 or 1; empty if the row lacks the access.
 fn location_in(value: &Value, place: usize) -> &[u8]
     ensures { result.now ≡ location_in place (view value.now) }
 {
@@ -146,7 +146,7 @@ fn location_in(value: &Value, place: usize) -> &[u8]
     }
 }
 
-/// The event number of the access with this index, 0 or 1; 0 if there is none.
+/// The event number of the access with this index, 0 or 1; 0 if the row lacks the access.
 pub fn event_in(value: &Value, place: usize) -> u64
     ensures { result ≡ event_in place (view value.now) }
 {
@@ -215,7 +215,7 @@ fn known_in_row<'b>(row: &'b Row<'_>) -> Known<'b>
     }
 }
 
-/// The cell of the row with this number. Rows with equal locations share one copy of them.
+/// The cell of the row with this number. Rows with equal locations share one copy of the locations.
 fn cell_of<'b>(
     shares: &mut Shares<'b>,
     row: &'b Row<'_>,

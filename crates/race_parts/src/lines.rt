@@ -93,7 +93,7 @@ pub(crate) fn lines_in(
 pub(crate) struct ReadRows {
     /// Their marks.
     pub(crate) marks: Vec<Mark>,
-    /// What to keep of them; None unless each line is a row in the form that `triage` prints.
+    /// What to keep of the lines; None unless each line is a row in the form that `triage` prints.
     pub(crate) rows: Option<Vec<KeptRow>>,
 }
 
@@ -162,7 +162,7 @@ fn is_kept(all: bool, row: Option<KeptRow>) -> bool
     }
 }
 
-/// The rows, if all of them can be kept.
+/// The rows, if all rows can be kept.
 fn kept_if(all: bool, rows: Vec<KeptRow>) -> Option<Vec<KeptRow>>
     ensures { IfSome result (λ kept. (all ≡ true) × (kept ≡ rows)) }
 {

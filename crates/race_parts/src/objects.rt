@@ -197,7 +197,7 @@ fn append_parts(out: &mut Vec<u8>, parts: &Parts) -> Result<(), OutOfMemory>
     Ok(())
 }
 
-/// Whether the cell before it is of another pair of locations, or there is none.
+/// Whether the cell before it is of another pair of locations, or no cell is before it.
 fn is_new(before: Option<Cell<'_>>, cell: Cell<'_>) -> bool
     ensures { result ≡ is_new before.entry cell.entry }
 {

@@ -96,7 +96,7 @@ fn pair_of<'a>(rows: &'a [Row<'_>], cell: Cell<'a>, cells: &[Cell<'a>], at: usiz
     }
 }
 
-/// The line of the row with this number; empty if there is none.
+/// The line of the row with this number; empty if no row has this number.
 fn line_at<'a>(rows: &'a [Row<'_>], number: usize) -> &'a [u8]
     ensures { result.now ≡ line_by (slice_get rows.now number) }
 {

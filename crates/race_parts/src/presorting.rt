@@ -60,7 +60,7 @@ fn sort_keys(keys: &mut Vec<Quick>)
     keys.sort_unstable();
 }
 
-/// The cell with this number; `other` if there is none.
+/// The cell with this number; `other` if no cell has this number.
 fn cell_or<'a>(cells: &[Cell<'a>], number: usize, other: Cell<'a>) -> Cell<'a>
     ensures { result ≡ slice_index_or cells.now number other.entry }
 {

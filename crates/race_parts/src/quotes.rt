@@ -81,7 +81,7 @@ fn plain_runs(text: &[u8]) -> usize
     at
 }
 
-/// The index of the first quote, backslash or control character; the text's length if there is none.
+/// The index of the first quote, backslash or control character; the text's length if it has no such byte.
 #[inline(always)]
 pub(crate) fn plain_end(text: &[u8]) -> usize
     ensures inside { result ≤ length text.now }

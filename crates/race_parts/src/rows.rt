@@ -118,7 +118,7 @@ pub(crate) fn is_row(value: &Value) -> bool
     is_race(value) || is_undecided(value) || is_apart(value)
 }
 
-/// Whether the counts agree with these numbers of rows. If there are no apart rows, any count of them is right: a
+/// Whether the counts agree with these numbers of rows. If there are no apart rows, any count of apart rows is right: a
 /// report may leave them out.
 fn is_whole(head: &Value, races: u64, undecided: u64, apart: u64) -> bool
     ensures { result ≡ is_whole (view head.now) races undecided apart }

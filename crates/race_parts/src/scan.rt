@@ -49,8 +49,7 @@ struct Access<'a> {
     left: usize,
 }
 
-/// The text after these words, if it begins with them. The words are constant, so each call compiles to a compare or
-/// two.
+/// The text after `words`, if the text begins with it. `words` is constant, so each call compiles to a compare or two.
 #[inline(always)]
 fn strip<'a>(text: &'a [u8], words: &[u8]) -> Option<&'a [u8]>
     ensures { IfSome result (λ behind. text.now ≡ words.now ++ behind.now) }

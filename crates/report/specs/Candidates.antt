@@ -23,7 +23,7 @@ abbrev pub candidate_line : Recording → ℕ × ℕ → List ℕ
 candidate_line r (a, b) =
     codes "candidate " ++ decimal a ++ codes " " ++ decimal b ++ codes " " ++ variable_words r a ++ codes "\n"
 
--- the lines of these pairs, in order
+-- the lines of the pairs, in order
 abbrev pub candidate_lines : Recording → List (ℕ × ℕ) → List ℕ
 candidate_lines r pairs = flat_map (candidate_line r) pairs
 

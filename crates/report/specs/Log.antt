@@ -8,7 +8,7 @@ use Rattle.report.specs.Commands.{command_words, commands_words}
 use Rattle.report.specs.Info.{count_line}
 use Rattle.report.specs.Pieces.{spaced}
 
--- the words of a proposal
+-- the text of a proposal
 abbrev pub proposed_words : ℕ → ℕ → List ℕ → List ℕ
 proposed_words first second events =
     codes "propose " ++ decimal first ++ codes " " ++ decimal second ++ spaced events

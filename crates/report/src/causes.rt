@@ -66,8 +66,8 @@ pub(crate) fn append_words(out: &mut Vec<u8>, why: &[u8]) -> Result<(), OutOfMem
     Ok(())
 }
 
-/// Appends the number and the words of the refusal of an event that is not enabled. If memory runs out, `out` stays
-/// as it was.
+/// Appends the number and the text of the refusal of an event that is not enabled. If memory runs out, `out` stays as
+/// it was.
 pub(crate) fn append_disabled(
     out: &mut Vec<u8>,
     indexed: &Indexed,
@@ -104,8 +104,8 @@ pub(crate) fn append_disabled(
     }
 }
 
-/// Appends the number and the words of the refusal of two neighbours that cannot be exchanged. If memory runs out,
-/// `out` stays as it was.
+/// Appends the number and the text of the refusal of two neighbours that cannot be exchanged. If memory runs out, `out`
+/// stays as it was.
 pub(crate) fn append_swap(out: &mut Vec<u8>, why: SwapRefusal) -> Result<(), OutOfMemory>
     ensures ok { Appended result out.old out.new (codes "47 " ++ swap_words why) }
     ensures err { OnErr result (out.new.items ≡ out.old.items) }

@@ -38,7 +38,7 @@ fn append_numbered<'a>(
     Ok(())
 }
 
-/// Appends the words of a branch. If memory runs out, `out` stays as it was.
+/// Appends the text of a branch. If memory runs out, `out` stays as it was.
 fn append_branch<'a>(
     out: &mut Vec<u8>,
     name: &'a Name,

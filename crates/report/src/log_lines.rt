@@ -135,7 +135,7 @@ fn append_entry_words(out: &mut Vec<u8>, entry: &Entry) -> Result<(), OutOfMemor
     }
 }
 
-/// Appends the words of an undo.
+/// Appends the text of an undo.
 fn append_undone(out: &mut Vec<u8>, entry: u64) -> Result<(), OutOfMemory>
     ensures ok { Appended result out.old out.new (codes "undo " ++ decimal entry) }
     ensures err { OnErr result (out.new.items ≡ out.old.items) }
@@ -144,7 +144,7 @@ fn append_undone(out: &mut Vec<u8>, entry: u64) -> Result<(), OutOfMemory>
     Ok(())
 }
 
-/// Appends the words of a proposal.
+/// Appends the text of a proposal.
 fn append_proposed(
     out: &mut Vec<u8>,
     first: u32,

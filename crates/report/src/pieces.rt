@@ -94,7 +94,7 @@ fn put_numbers(out: &mut Vec<u8>, numbers: &[u32])
     }
 }
 
-/// Appends each number after a blank. Makes room for all of them once.
+/// Appends each number after a blank. Makes room for all numbers once.
 fn append_numbers(out: &mut Vec<u8>, numbers: &[u32]) -> Result<(), OutOfMemory>
     ensures ok { Appended result out.old out.new (spaced numbers.now) }
     ensures err { OnErr result (out.new.items ≡ out.old.items) }
@@ -104,8 +104,8 @@ fn append_numbers(out: &mut Vec<u8>, numbers: &[u32]) -> Result<(), OutOfMemory>
     Ok(())
 }
 
-/// Appends a line with words, and numbers with a blank before each. Makes room for the line once. The compiler
-/// inlines this function, so it knows the length of the words, and no call copies them.
+/// Appends a line with words, and numbers with a blank before each. Makes room for the line once. The compiler inlines
+/// this function, so it knows how long `words` is, and no call copies it.
 #[inline(always)]
 pub(crate) fn append_numbers_line(
     out: &mut Vec<u8>,

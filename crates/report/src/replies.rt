@@ -22,8 +22,8 @@ fn append_done(out: &mut Vec<u8>, number: u64) -> Result<(), OutOfMemory>
     Ok(())
 }
 
-/// Appends a line with a number, words and a second number. The compiler inlines this function, so it knows the
-/// length of the words, and no call copies them.
+/// Appends a line with a number, words and a second number. The compiler inlines this function, so it knows how long
+/// `words` is, and no call copies it.
 #[inline(always)]
 fn append_numbered(
     out: &mut Vec<u8>,

@@ -1,4 +1,4 @@
--- How a script keeps its calls: each in few bytes, and for all of them the bytes of their names and the calls that
+-- How a script keeps its calls: each in few bytes, and once for all calls the bytes of their names and the calls that
 -- own memory. No public clause cites this module.
 use Rattle.std.specs.Prelude.{◌≡◌, ℕ, ◌+◌, ◌<◌, ◌≤◌, true, List, ◌++◌, map, length, take, drop, get_or, All, ⊤}
 use Rattle.moves.specs.Names.{is_name}

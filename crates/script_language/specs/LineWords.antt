@@ -1,10 +1,10 @@
--- The words of a line, and which of them are numbers.
+-- How a line is split into words, and which words are numbers.
 use Rattle.std.specs.Prelude.{ℕ, ◌+◌, ◌-◌, ◌*◌, nat_lt, nat_le, Bool, ◌&&◌, if◌then◌else◌, List, length, filter, fold, Option, Some, None, codes, bytes_eq}
 use Rattle.std.specs.List.{list_all, slice_split}
 use Rattle.rapid_text.specs.Reading.{is_blank}
 use Rattle.script_language.specs.Limits.{number_limit}
 
--- the words of a line: the bytes between blanks
+-- a line as words: the bytes between blanks
 abbrev pub words_of : List ℕ → List (List ℕ)
 words_of line = filter (λ word. nat_lt 0 (length word)) (slice_split is_blank line)
 

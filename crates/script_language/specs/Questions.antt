@@ -54,12 +54,12 @@ abbrev pub question_with : Option QuestionWord → List (List ℕ) → Result Qu
 question_with None words = Err BadWord
 question_with (Some kind) words = question_arguments kind words
 
--- the words after `?`
+-- what follows `?`, word by word
 abbrev pub question_by : List (List ℕ) → Result Question ScriptCause
 question_by [] = Err BadWord
 question_by (word ∷ words) = question_with (question_word_of word) words
 
--- the words of a line: a question, if the first of them is `?`
+-- a line as words: a question, if its first word is `?`
 abbrev pub question_in : List (List ℕ) → Option (Result Question ScriptCause)
 question_in [] = None
 question_in (word ∷ words) = if bytes_eq word (codes "?") then Some (question_by words) else None

@@ -50,7 +50,7 @@ name_reading word = if is_name word then Ok word else Err BadName
 abbrev pub number_reading : List ℕ → Result ℕ ScriptCause
 number_reading word = ok_or (written_number word) BadNumber
 
--- the words as numbers
+-- words as numbers
 abbrev pub numbers_reading : List (List ℕ) → Result (List ℕ) ScriptCause
 numbers_reading words =
     if list_all (λ word. is_some (written_number word)) words then Ok (filter_map written_number words) else Err BadNumber
@@ -146,7 +146,7 @@ arguments_reading (Some ShowWord) words = then_read (one_name_reading words) (λ
 arguments_reading (Some ListWord) words = then_read (nothing_reading words) (λ _. Ok ListNames)
 arguments_reading (Some RacesWord) words = then_read (one_name_reading words) (λ n. Ok (Races n))
 
--- the words after the client's number
+-- what follows the client's number, word by word
 abbrev pub call_reading : List (List ℕ) → Result Call ScriptCause
 call_reading [] = Err BadWord
 call_reading (word ∷ words) = arguments_reading (verb_of word) words
@@ -163,7 +163,7 @@ client_by (Some n) = if is_client n then Ok n else Err BadClient
 abbrev pub client_reading : List ℕ → Result ℕ ScriptCause
 client_reading word = client_by (written_number word)
 
--- the words of a line: a client, which is checked first, and a call
+-- a line as words: a client, which is checked first, and a call
 abbrev pub words_reading : List (List ℕ) → Result (ℕ × Call) ScriptCause
 words_reading [] = Err BadClient
 words_reading (word ∷ words) =

@@ -16,11 +16,11 @@ use Rattle.script_language.specs.Scripts.{Asked, arguments_reading, asked, then_
 abbrev pub simple_call : Simple → Call → Call
 simple_call s own = call_in s.form s.name.now s.to.now s.number own
 
--- the words of a call of this kind read as the call
+-- these words read as the call, for a call of this kind
 abbrev pub ReadsAs : Option Verb → List (List ℕ) → Simple → Type 0
 ReadsAs verb words s = (own : Call) → arguments_reading verb words ≡ Ok (simple_call s own)
 
--- what is kept is the call with its line and its client, whatever calls own memory
+-- what is kept is the call with its line and its client, for any list of calls that own memory
 abbrev pub KeepsSimple : List ℕ → Kept → ℕ → ℕ → Simple → Type 0
 KeepsSimple names k line client s =
     (owned : List Call) → asked_of names owned k ≡ asked line client (simple_call s (get_or owned k.at Undo))
@@ -36,7 +36,7 @@ pub record IsSimple (s : Simple) : Type 0 where
   pub to : length s.to.now ≤ 64
   pub named : HasNames s.form s.name.now s.to.now
 
--- what is found is what the words of a call read as
+-- what is found is the call that its words read as
 abbrev pub AsksCall : Found → Result Call ScriptCause → Type 0
 AsksCall (FoundSimple s) reading = IsSimple s × ((own : Call) → reading ≡ Ok (simple_call s own))
 AsksCall (FoundBatch words) reading = reading ≡ batch_reading words

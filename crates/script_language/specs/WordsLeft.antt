@@ -9,7 +9,7 @@ abbrev pub up_to : Bool → List (List ℕ) → List (List ℕ)
 up_to true words = before_first is_separator words
 up_to false words = words
 
--- the words that are left
+-- what is left, word by word
 abbrev pub words_left : Inside → List (List ℕ)
 words_left w = up_to w.is_part (words_of w.rest.now)
 

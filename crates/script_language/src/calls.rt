@@ -39,7 +39,7 @@ pub(crate) fn read_number(word: &[u8]) -> Result<u32, ScriptCause>
     number(word).ok_or(ScriptCause::BadNumber)
 }
 
-/// The words as numbers.
+/// Reads all words as numbers.
 fn read_numbers(alloc: Global, words: &mut Words<'_>) -> Result<EventList, ScriptCause>
     ensures { (result ≡ Err OutOfMemory) ⊎ (result ≡ numbers_reading words.old) }
 {
@@ -206,7 +206,7 @@ fn read_arguments(alloc: Global, verb: Verb, words: &mut Words<'_>) -> Result<Ca
     }
 }
 
-/// The words after the client's number.
+/// Reads what follows the client's number.
 fn read_call(alloc: Global, words: &mut Words<'_>) -> Result<Call, ScriptCause>
     ensures { (result ≡ Err OutOfMemory) ⊎ (result ≡ call_reading words.old) }
 {
@@ -226,7 +226,7 @@ pub(crate) fn read_client(word: &[u8]) -> Result<u32, ScriptCause>
     }
 }
 
-/// The words of a line: a client's number and a call.
+/// Reads a line: a client's number and a call.
 fn read_words(alloc: Global, words: &mut Words<'_>) -> Result<(u32, Call), ScriptCause>
     ensures reading { (result ≡ Err OutOfMemory) ⊎ (result ≡ words_reading words.old) }
     ensures client { IfOk result (λ pair. (1 ≤ pair.0) × (pair.0 ≤ client_limit)) }

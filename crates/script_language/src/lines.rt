@@ -1,4 +1,4 @@
-//! The lines of a text, and the words of a line.
+//! The lines of a text, and each line as words.
 ghost use Rattle.std.specs.Prelude.{◌≡◌, ◌≤◌, [], ◌∷◌, length, IfSome, IfNone, Some};
 ghost use Rattle.std.specs.List.{slice_split, join_with_byte, position_or_len, before_first};
 ghost use Rattle.rapid_text.specs.Reading.{is_blank, is_line_feed};
@@ -36,11 +36,11 @@ pub(crate) fn is_separator(word: &[u8]) -> bool
     word == b";".as_slice()
 }
 
-/// The words of a line, or of a part of it, that were not taken yet. Contracts see it as the list of these words.
+/// The part of a line that was not taken yet, word by word. Contracts see it as the list of its words.
 #[derive(Drop)]
 pub(crate) struct Words<'a> {
     rest: &'a [u8],
-    // whether the first word `;` of the rest ends the words
+    // whether the part ends at the first word `;` of the rest
     is_part: bool,
 }
 
@@ -74,7 +74,7 @@ impl<'a> Words<'a> {
         }
     }
 
-    /// The words before the first `;`, or all words.
+    /// What comes before the first `;`, or all.
     pub(crate) fn before_separator(&self) -> Words<'a>
         ensures { result ≡ before_first is_separator self.now }
     {
@@ -84,7 +84,7 @@ impl<'a> Words<'a> {
         }
     }
 
-    /// The words after the first `;`, if there is one.
+    /// What comes after the first `;`, if there is one.
     pub(crate) fn behind_separator(&self) -> Option<Words<'a>>
         ensures { parts_left (Some self.now) ≡ before_first is_separator self.now ∷ parts_left result }
     {
@@ -111,7 +111,7 @@ impl<'a> Words<'a> {
     }
 }
 
-/// The lines of a text that were not taken yet. Contracts see it as the list of these lines.
+/// The lines of a text that were not taken yet. Contracts see it as the list of its lines.
 #[derive(Drop)]
 pub struct Lines<'a> {
     // None after the last line was taken, which has no line feed.

@@ -11,7 +11,7 @@ use std::marker::Model;
 
 /// A call that owns no memory, in the form in which its script keeps it. Contracts see it as the call.
 ///
-/// A call has some 140 bytes. So it is made only once, where it is used, and is not moved.
+/// A call has some 140 bytes. So it is made only once, at the place that uses it, and is not moved.
 #[derive(Drop)]
 pub struct PlainCall<'a> {
     // the bytes of all names

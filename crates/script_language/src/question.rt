@@ -160,7 +160,7 @@ fn read_arguments(kind: QuestionWord, words: &mut Words<'_>) -> Result<Question,
     }
 }
 
-/// The words after `?`.
+/// Reads what follows `?`.
 fn read_asked(words: &mut Words<'_>) -> Result<Question, ScriptCause>
     ensures { result ≡ question_by words.old }
 {

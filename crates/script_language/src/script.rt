@@ -13,7 +13,7 @@ use rapid_text::OutOfMemory;
 use std::alloc::Global;
 use std::marker::Model;
 
-/// The calls of a script, each with its client and its line. Contracts see it as the list of these.
+/// The calls of a script, each with its client and its line. Contracts see it as the list of its calls.
 ///
 /// It keeps 24 bytes for each call, and the names in it. It keeps a call that owns memory as it was read.
 #[derive(Drop)]

@@ -33,7 +33,7 @@ pub(crate) struct Simple<'a> {
 pub(crate) enum Found<'a> {
     /// A call that owns no memory.
     Simple(Simple<'a>),
-    /// The words of a batch, not read yet.
+    /// A batch, not read yet.
     Batch(Words<'a>),
 }
 
@@ -183,7 +183,7 @@ fn arguments<'a>(verb: Verb, words: &mut Words<'a>) -> Option<Simple<'a>>
     }
 }
 
-/// The words after the client's number.
+/// Reads what follows the client's number.
 fn call<'a>(words: &mut Words<'a>) -> Option<Found<'a>>
     ensures { IfSome result (λ found. AsksCall found (call_reading words.old)) }
 {
@@ -196,7 +196,7 @@ fn call<'a>(words: &mut Words<'a>) -> Option<Found<'a>>
     Some(Found::Simple(simple))
 }
 
-/// The words of a line.
+/// Reads a line.
 fn words_of<'a>(words: &mut Words<'a>) -> Option<(u32, Found<'a>)>
     ensures asks { IfSome result (λ pair. AsksWords pair.0 pair.1 (words_reading words.old)) }
     ensures client { IfSome result (λ pair. (1 ≤ pair.0) × (pair.0 ≤ client_limit)) }

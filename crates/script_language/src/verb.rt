@@ -1,4 +1,4 @@
-//! The words of calls and commands.
+//! Which word names which call or command.
 ghost use Rattle.std.specs.Prelude.{◌≡◌};
 ghost use Rattle.script_language.specs.Scripts.{verb_of};
 
