@@ -55,7 +55,7 @@ abbrev pub wait_by : ℕ → Waits → Option ℕ → Waits
 wait_by d w None = w
 wait_by d w (Some i) = cond (slice_index_or w.0 i true) w (slice_set w.0 i true, w.1 ++ (i, d) ∷ [])
 
--- the causes of these steps wait too; the cause of the first step is next
+-- the causes of the steps wait too; the cause of the first step is next
 unfoldable pub waits_for : List Chain → ℕ → List Step → Waits → Waits
 waits_for cs d [] w = w
 waits_for cs d (s ∷ ss) w = wait_by d (waits_for cs d ss w) (cause_of cs s.to s.reason)

@@ -1,4 +1,4 @@
--- The text of the chains that show why a pair is apart, and which links of them race. `r` is a recording, `T` its
+-- The text of the chains that show why a pair is apart, and which of their links race. `r` is a recording, `T` its
 -- events, `d` the depth of a chain. All notions here are this project's own.
 use Rattle.std.specs.Prelude.{◌≡◌, ◌↔◌, ℕ, nat_lt, zero, suc, Bool, true, false, not, ◌&&◌, cond, List, [], ◌∷◌, ◌++◌, find, flat_map, slice_get, Option, Some, None, codes, decimal}
 use Rattle.rapid_text.specs.Canonical.{name_at}
@@ -42,7 +42,7 @@ is_written _ = false
 abbrev pub is_raced : List Event → Step → Bool
 is_raced T s = is_written s.reason && is_candidate T s.from s.to
 
--- the steps of these chains
+-- the steps of the chains
 abbrev pub steps_of : List Chain → List Step
 steps_of cs = flat_map (λ (c : Chain). c.steps.items) cs
 
@@ -105,8 +105,8 @@ abbrev pub is_later : Reason → Bool
 is_later Later = true
 is_later _ = false
 
--- The lines of steps, after some along one thread that wait to be printed; the last of these leads to `later`. Steps
--- along one thread are printed as one.
+-- The lines of steps, after some along one thread that wait to be printed; the last waiting step leads to `later`.
+-- Steps along one thread are printed as one.
 unfoldable pub steps_text : Recording → ℕ → Option ℕ → List Step → List ℕ
 steps_text r d later [] = later_text r d later
 steps_text r d later (s ∷ ss) =

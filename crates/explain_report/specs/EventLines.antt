@@ -16,7 +16,7 @@ event_line r e = event_line_by r (slice_get r.events e) (slice_index_or r.locati
 abbrev pub numbered_line : Recording → ℕ → List ℕ
 numbered_line r e = decimal e ++ codes "  " ++ event_line r e
 
--- the canonical lines of these events
+-- the canonical lines of the events
 abbrev pub event_lines : Recording → List ℕ → List ℕ
 event_lines r es = flat_map (event_line r) es
 

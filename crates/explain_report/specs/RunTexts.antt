@@ -1,5 +1,5 @@
--- The printed runs of a schedule. `r` is a recording, `es` the events of the schedule, `ws` for each of them an event
--- that waits for it. All notions here are this project's own.
+-- The printed runs of a schedule. `r` is a recording, `es` the events of the schedule, `ws` for each event of `es` an
+-- event that waits for it. All notions here are this project's own.
 use Rattle.std.specs.Prelude.{◌≡◌, ℕ, ◌+◌, ◌-◌, min, nat_le, nat_lt, ◌==◌, Bool, ◌||◌, cond, List, [], ◌∷◌, ◌++◌, length, take, drop, replicate, flat_map, slice_get, slice_index_or, Option, Some, None, codes, decimal}
 use Rattle.std.specs.List.{slice_set}
 use Rattle.rapid_text.specs.Canonical.{name_at}
@@ -80,7 +80,7 @@ unfoldable pub tallies_after : List Event → List Tally → List ℕ → List T
 tallies_after T tallies [] = tallies
 tallies_after T tallies (e ∷ es) = tallies_after T (tallied T tallies e) es
 
--- for each thread, how many of these events it has, and its last
+-- for each thread, how many events of the list it has, and its last
 abbrev pub tallies_of : Recording → List ℕ → List Tally
 tallies_of r es = tallies_after r.events (replicate (length r.threads) no_event) es
 
@@ -89,7 +89,7 @@ abbrev pub tally_line : Recording → Tally → List ℕ
 tally_line r tally =
     cond (tally.count == 0) [] (codes "  " ++ count_text tally.count (codes "event") ++ codes " to " ++ line_at r tally.last)
 
--- the lines of these threads
+-- the lines of the threads
 abbrev pub tally_lines : Recording → List Tally → List ℕ
 tally_lines r tallies = flat_map (tally_line r) tallies
 

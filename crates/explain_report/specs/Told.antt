@@ -17,8 +17,8 @@ use Rattle.explain_report.specs.declared.verdict.Verdict.TheVariants.{Race, Forc
 abbrev pub race_words : Recording → How → ℕ → ℕ → ℕ → ℕ → List ℕ
 race_words r how n runs a b = race_head how n ++ count_text runs (codes "run") ++ codes " both are next\n" ++ pair_text r a b
 
--- a race that the schedule of these events shows: the same, with the number of its runs, and then its runs: all, or
--- the first ones of many as one block
+-- a race that the schedule `events` shows: the same, with the number of its runs, and then its runs: all, or the first
+-- ones of many as one block
 abbrev pub IsRaceTold : Recording → How → List ℕ → Bool → ℕ → ℕ → List ℕ → Type 0
 IsRaceTold r how events all a b text =
     (told : List ℕ) × AreRunsTold r events all told × (text ≡ race_words r how (length events) (run_total r events) a b ++ told)

@@ -11,7 +11,7 @@ use Rattle.explain_report.specs.declared.verdict.Verdict.TheVariants.{Race, Forc
 abbrev pub plural : ℕ → List ℕ
 plural n = cond (n == 1) [] (codes "s")
 
--- n and the words, in the plural unless n is 1
+-- n and `words`, in the plural unless n is 1
 abbrev pub count_text : ℕ → List ℕ → List ℕ
 count_text n words = decimal n ++ codes " " ++ words ++ plural n
 

@@ -1,4 +1,4 @@
--- Which event of a schedule waits for another, and the words for the reason. `T` is the events of a trace, `es` a list
+-- Which event of a schedule waits for another, and the phrase for the reason. `T` is the events of a trace, `es` a list
 -- of events. All notions here are this project's own.
 use Rattle.std.specs.Prelude.{◌≡◌, ℕ, ◌<◌, nat_eq, ◌==◌, Bool, true, false, not, ◌&&◌, ◌||◌, cond, List, length, slice_get, Option, Some, codes}
 use Rattle.std.specs.Option.{option_eq}
@@ -9,8 +9,8 @@ use Rattle.rapid_text.specs.declared.event.Op.TheVariants.{Read, Write, Release,
 use Rattle.event_index.specs.Events.{op_at, thread_at}
 use Rattle.event_index.specs.Relations.{is_access, pass_both}
 
--- whether the second operation may wait for the first, whatever their threads: one of two accesses writes, an acquire
--- follows a release, and a join follows a fork
+-- whether the second operation may wait for the first, no matter in which threads: one of two accesses writes, an
+-- acquire follows a release, and a join follows a fork
 abbrev pub is_handed : Op → Op → Bool
 is_handed (Read x) op = is_write x op
 is_handed (Write x) op = is_access x op
@@ -68,6 +68,6 @@ words_by (Some (Write x)) other t = write_words other
 words_by (Some (Read x)) other t = join_words other (codes "reads before")
 words_by _ other t = join_words other (codes "lets the lock go that is taken by")
 
--- why event b waits for event a, as the words between the two
+-- why event b waits for event a, as the phrase between the two
 abbrev pub words_between : List Event → ℕ → ℕ → List ℕ
 words_between T a b = words_by (op_at T a) (op_at T b) (thread_at T b)

@@ -21,7 +21,7 @@ pub(crate) struct Waiting {
     left: Vec<(usize, u32)>,
 }
 
-/// The causes of these steps wait, at depth 1.
+/// The causes of the steps wait, at depth 1.
 pub(crate) fn waiting_for(
     alloc: Global,
     chains: &[Chain],

@@ -13,7 +13,7 @@ use event_index::Indexed;
 use must_order::{Analysis, Chain, Reason, Step};
 use rapid_text::OutOfMemory;
 
-/// Appends the first chain, and below it the chains that show why a section began before another. Each of these is
+/// Appends the first chain, and below it the chains that show why a section began before another. Each such chain is
 /// printed once, one step deeper than the chain that needs it.
 pub(crate) fn append_chains(
     out: &mut Vec<u8>,

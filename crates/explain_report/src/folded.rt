@@ -10,7 +10,7 @@ use event_index::Indexed;
 use rapid_text::OutOfMemory;
 use std::alloc::Global;
 
-/// A thread's number of events, and the last of them.
+/// A thread's number of events, and its last event.
 #[derive(Clone, Copy)]
 pub(crate) struct Tally {
     count: u32,
@@ -70,7 +70,7 @@ fn append_block_line(out: &mut Vec<u8>, size: u64, events: u32) -> Result<(), Ou
     Ok(())
 }
 
-/// Appends for each thread its number of events in the list, and the last of them.
+/// Appends for each thread its number of events in the list, and its last event there.
 fn append_tallies(out: &mut Vec<u8>, indexed: &Indexed, list: &[u32]) -> Result<(), OutOfMemory>
     ensures { Appended result out.old out.new (tally_lines indexed.now (tallies_of indexed.now list.now)) }
 {
@@ -80,7 +80,7 @@ fn append_tallies(out: &mut Vec<u8>, indexed: &Indexed, list: &[u32]) -> Result<
     }
 }
 
-/// For each thread, its number of events in the list, and the last of them.
+/// For each thread, its number of events in the list, and its last event there.
 fn tallies_of(alloc: Global, indexed: &Indexed, list: &[u32]) -> Result<Vec<Tally>, OutOfMemory>
     ensures { IfOk result (λ tallies. tallies.items ≡ tallies_of indexed.now list.now) }
 {
@@ -137,7 +137,7 @@ fn append_each_tally(
     Ok(())
 }
 
-/// Appends the number of a thread's events and the last of them, if there is one.
+/// Appends a thread's number of events and its last event; nothing if the number is 0.
 fn append_tally(out: &mut Vec<u8>, indexed: &Indexed, tally: Tally) -> Result<(), OutOfMemory>
     ensures { Appended result out.old out.new (tally_line indexed.now tally) }
 {

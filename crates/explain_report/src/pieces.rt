@@ -7,7 +7,7 @@ ghost use Rattle.rapid_text.specs.Appended.{Appended};
 use itoa::Buffer;
 use rapid_text::OutOfMemory;
 
-/// Appends the words.
+/// Appends `words`.
 pub(crate) fn append_words(out: &mut Vec<u8>, words: &[u8]) -> Result<(), OutOfMemory>
     ensures { Appended result out.old out.new words.now }
 {
@@ -24,7 +24,7 @@ pub fn append_number(out: &mut Vec<u8>, number: u64) -> Result<(), OutOfMemory>
     Ok(())
 }
 
-/// Appends the number and the words, in the plural unless the number is 1.
+/// Appends the number and `words`, in the plural unless the number is 1.
 pub fn append_count(out: &mut Vec<u8>, number: u64, words: &[u8]) -> Result<(), OutOfMemory>
     ensures { Appended result out.old out.new (count_text number words.now) }
 {

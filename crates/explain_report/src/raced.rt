@@ -54,7 +54,7 @@ pub fn first_raced(analysis: &Analysis<'_>, chains: &[Chain]) -> Option<Step>
     None
 }
 
-/// The first such step of these steps.
+/// The same for the steps of one chain.
 fn raced_of(analysis: &Analysis<'_>, steps: &[Step]) -> Option<Step>
     ensures { result ≡ find (is_raced analysis.now.events) steps.now }
 {

@@ -31,7 +31,7 @@ pub enum How {
 /// The verdict on a pair, with the reason.
 #[derive(Clone, Copy)]
 pub enum Verdict<'a> {
-    /// A race, which the schedule of these events shows.
+    /// A race, which the schedule `events` shows.
     Race {
         /// How the schedule shows it.
         how: How,
@@ -40,8 +40,8 @@ pub enum Verdict<'a> {
         /// Whether all its runs are printed. If not, and there are more than eleven, the first ones are one block.
         all: bool,
     },
-    /// The first event comes before the second in every correct reordering. The first of these chains leads from one
-    /// to the other. If it ends a section, a later chain shows why that section began first.
+    /// The first event comes before the second in every correct reordering. The first chain leads from one to the
+    /// other. If it ends a section, a later chain shows why that section began first.
     Forced {
         /// The chains.
         chains: &'a [Chain],
@@ -97,8 +97,8 @@ fn append_told(
     }
 }
 
-/// Appends the first words of the verdict, with which `explain_text` begins. If memory runs out, part of them may
-/// already be appended.
+/// Appends the first words of the verdict, with which `explain_text` begins. If memory runs out, a part may already be
+/// appended.
 pub fn append_head(
     out: &mut Vec<u8>,
     indexed: &Indexed,

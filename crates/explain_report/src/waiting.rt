@@ -112,7 +112,7 @@ fn is_awaited(first: Event, second: Event) -> bool
             || is_handed(first.op, second.op))
 }
 
-/// Whether the second operation may wait for the first, whatever their threads.
+/// Whether the second operation may wait for the first, no matter in which threads.
 fn is_handed(first: Op, second: Op) -> bool
     ensures { result ≡ is_handed first second }
 {
@@ -158,7 +158,7 @@ fn joins(op: Op, thread: u32) -> bool
     matches!(op, Op::Join(joined) if joined == thread)
 }
 
-/// Why the second event waits for the first, as the words that are printed between them.
+/// Why the second event waits for the first, as the phrase that is printed between the two.
 pub fn words_between(indexed: &Indexed, first: u32, second: u32) -> &'static [u8]
     ensures { result.now ≡ words_between indexed.now.events first second }
 {
@@ -171,7 +171,7 @@ pub fn words_between(indexed: &Indexed, first: u32, second: u32) -> &'static [u8
     }
 }
 
-/// The words between a fork and an operation of this thread.
+/// The phrase between a fork and an operation of this thread.
 fn fork_words(forked: u32, thread: Option<u32>, other: Option<Op>) -> &'static [u8]
     ensures { result.now ≡ fork_words forked thread other }
 {
@@ -181,7 +181,7 @@ fn fork_words(forked: u32, thread: Option<u32>, other: Option<Op>) -> &'static [
     }
 }
 
-/// The words between a fork and a join by this thread.
+/// The phrase between a fork and a join by this thread.
 fn fork_join_words(forked: u32, joined: u32, thread: Option<u32>) -> &'static [u8]
     ensures { result.now ≡ fork_join_words forked joined thread }
 {
@@ -192,7 +192,7 @@ fn fork_join_words(forked: u32, joined: u32, thread: Option<u32>) -> &'static [u
     }
 }
 
-/// The words between a write and an operation.
+/// The phrase between a write and an operation.
 fn write_words(other: Option<Op>) -> &'static [u8]
     ensures { result.now ≡ write_words other }
 {

@@ -19,7 +19,7 @@ pub enum Form {
     Trace,
 }
 
-/// Appends the schedule of these events, which shows the pair. If memory runs out, `out` stays as it was.
+/// Appends the schedule `events`, which shows the pair. If memory runs out, `out` stays as it was.
 pub fn witness_text(
     indexed: &Indexed,
     events: &[u32],

@@ -1,5 +1,5 @@
--- What a picture draws of a schedule, in which order, and with which words. Where each shape stands is presentation. `r`
--- is a recording, P the events of the schedule. All notions here are this project's own.
+-- What a picture draws of a schedule, in which order, and with which words. The position of each shape is presentation.
+-- `r` is a recording, P the events of the schedule. All notions here are this project's own.
 use Rattle.std.specs.Prelude.{◌≡◌, ℕ, ◌+◌, ◌-◌, ◌<◌, ◌≤◌, nat_lt, Bool, true, false, List, [], ◌∷◌, ◌++◌, length, take, replicate, slice_get, slice_index_or, Option, Some, None, Result, OnOk, codes, decimal}
 use Rattle.rapid_text.specs.Canonical.{name_at, op_text}
 use Rattle.rapid_text.specs.Recording.{Recording}
@@ -33,7 +33,7 @@ abbrev pub If : Bool → (List ℕ → Type 0) → List ℕ → Type 0
 If true P text = P text
 If false P text = text ≡ []
 
--- a text with a part for each of these
+-- a text with a part for each element of the list
 pub data Each {A : Type 0} (P : A → List ℕ → Type 0) : List A → List ℕ → Type 0 where
   none : Each P [] []
   more : (xs : List A) (x : A) (text part : List ℕ) → Each P xs text → P x part → Each P (xs ++ x ∷ []) (text ++ part)
@@ -68,7 +68,7 @@ IsLine class words text = (shown : List ℕ) × IsCut words shown × IsWhole cla
 abbrev pub IsArrow : List ℕ → Type 0
 IsArrow text = (from_x : ℕ) × (from_y : ℕ) × (below : ℕ) × (to_x : ℕ) × (to_y : ℕ) × (above : ℕ) × (text ≡ arrow_text from_x from_y below to_x to_y above)
 
--- the bar of a box: its edge, and the parts where a lock is held
+-- the bar of a box: its edge, and the parts with a lock held
 abbrev pub AreBars : List ℕ → Type 0
 AreBars = Then (IsRect Edge) (Many (IsRect Held))
 
@@ -82,7 +82,7 @@ top_text n m a b =
 abbrev pub top_words : Recording → List ℕ → ℕ → ℕ → List ℕ
 top_words r P a b = top_text (length (runs_of r.events P)) (length P) a b
 
--- the names above the columns: one for each of these threads, and one for a column that others share
+-- the names above the columns: one for each thread of the list, and one for a column that others share
 abbrev pub AreNames : Recording → List ℕ → Bool → List ℕ → Type 0
 AreNames r threads is_shared =
     Then (Each (λ t. IsLine Name (name_at r.threads t)) threads) (If is_shared (IsLine Name (codes "other threads")))
@@ -91,12 +91,12 @@ AreNames r threads is_shared =
 abbrev pub HasNames : Recording → List ℕ → Type 0
 HasNames r text = (threads : List ℕ) × (is_shared : Bool) × AreNames r threads is_shared text
 
--- the words of run n: its number, its number of events, and its thread
+-- the label of run n: its number, its number of events, and its thread
 abbrev pub count_words : Recording → ℕ → Run → List ℕ
 count_words r n run =
     codes "run " ++ decimal n ++ codes ", " ++ count_text (event_total run) (codes "event") ++ codes " of " ++ name_at r.threads run.thread
 
--- the words of an event: its number, operation and location
+-- the label of an event: its number, operation and location
 abbrev pub words_of : Recording → ℕ → Op → List ℕ → List ℕ
 words_of r e op location = decimal e ++ codes "  " ++ op_text r op ++ codes " " ++ location
 
@@ -104,7 +104,7 @@ abbrev pub label_by : Recording → ℕ → Option Event → List ℕ
 label_by r e None = []
 label_by r e (Some v) = words_of r e v.op (slice_index_or r.locations e [])
 
--- the words of event e, if there is such an event
+-- the label of event e, if there is such an event
 abbrev pub label_words : Recording → ℕ → List ℕ
 label_words r e = label_by r e (slice_get r.events e)
 
@@ -122,7 +122,7 @@ abbrev pub IsReason : Recording → Option ℕ → Option ℕ → List ℕ → T
 IsReason r (Some e) (Some w) text = IsLine Note (reason_words r e w) text
 IsReason r _ _ text = text ≡ []
 
--- what the box of a run tells: the run's number, the run, and an event that waits for its last
+-- the contents of a run's box: the run's number, the run, and an event that waits for its last
 pub record Box : Type 0 where
   pub number : ℕ
   pub run : Run
@@ -144,11 +144,11 @@ abbrev pub box_if : Bool → Box → List Box
 box_if true box = box ∷ []
 box_if false box = []
 
--- what the box of this run tells
+-- the contents of this run's box
 abbrev pub told_of : ℕ → Run → List (Option ℕ) → Box
 told_of n run ws = record { number = n; run = run; waiter = slice_index_or ws (run.end - 1) None }
 
--- the boxes of these runs after n others, of those that are drawn
+-- the boxes of the drawn runs of a list, which comes after n other runs
 unfoldable pub boxes_after : List (Option ℕ) → List Bool → ℕ → List Run → List Box
 boxes_after ws drawn n [] = []
 boxes_after ws drawn n (run ∷ runs) =
@@ -180,15 +180,15 @@ IsEarlier text = (n : ℕ) × (m : ℕ) × (k : ℕ) × IsEarlierBox n m k text
 abbrev pub AreRunBoxes : Recording → List ℕ → List Box → List ℕ → Type 0
 AreRunBoxes r P boxes = Then (If (nat_lt 40 (length (runs_of r.events P))) IsEarlier) (Each (IsRunBox r P) boxes)
 
--- the words of a lock that is held
+-- the text for a lock that is held
 abbrev pub held_words : Recording → ℕ → List ℕ
 held_words r l = codes "holds " ++ name_at r.locks l
 
--- the words for n more locks
+-- the text for n more locks
 abbrev pub more_words : ℕ → List ℕ
 more_words n = codes "and " ++ count_text n (codes "lock") ++ codes " more"
 
--- the lines of these locks: the first eight by name, and how many more there are
+-- the lines of the locks: the first eight by name, and how many more there are
 abbrev pub AreLocks : Recording → List ℕ → List ℕ → Type 0
 AreLocks r ls =
     Then (Each (λ l. IsLine EventLine (held_words r l)) (take 8 ls)) (If (nat_lt 8 (length ls)) (IsLine Note (more_words (length ls - 8))))

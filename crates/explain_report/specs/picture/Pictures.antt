@@ -44,7 +44,7 @@ abbrev pub drawn_text : List ℕ → List ℕ
 drawn_text shapes = codes "<rect class=\"paper\" width=\"100%\" height=\"100%\"/>\n" ++ shapes ++ codes "</svg>\n"
 
 -- The text is a picture of the schedule P, which shows the pair: it has this title, this description, this style, and
--- the shapes of that schedule. Where they stand is presentation.
+-- the shapes of that schedule. The positions of the shapes are presentation.
 pub record IsStyled (r : Recording) (style P : List ℕ) (a b : ℕ) (text : List ℕ) : Type 0 where
   pub width : ℕ
   pub height : ℕ

@@ -1,4 +1,4 @@
--- What a placed box tells, and how the runs that are drawn are chosen. All notions here are this project's own.
+-- The contents of a placed box, and how the runs that are drawn are chosen. All notions here are this project's own.
 use Rattle.std.specs.Prelude.{◌≡◌, ◌<◌, ◌≤◌, ℕ, Bool, List, Option, length, map, slice_get}
 use Rattle.rapid_text.specs.Recording.{Recording}
 use Rattle.explain_report.specs.Accesses.{held_locks}
@@ -9,7 +9,7 @@ use Rattle.explain_report.specs.declared.picture.drawing.Drawing.{Drawing}
 use Rattle.explain_report.specs.declared.picture.drawing.Placement.{Placement}
 use Rattle.explain_report.specs.declared.picture.layout.Placed.{Placed}
 
--- what the box tells, without its position
+-- the contents of the box, without its position
 abbrev pub box_of : Placed → Box
 box_of placed = record { number = placed.number; run = placed.run; waiter = placed.waiter }
 
@@ -18,7 +18,7 @@ pub record KeepsFrom (last : ℕ) (old new : List Bool) : Type 0 where
   pub whole : length new ≡ length old
   pub same : (k : ℕ) → last ≤ k → slice_get new k ≡ slice_get old k
 
--- the runs of the schedule P, those of them that are drawn, and their boxes
+-- the runs of the schedule P, which runs are drawn, and their boxes
 pub record IsPlacement (r : Recording) (P : List ℕ) (placement : Placement) : Type 0 where
   pub runs : placement.runs.items ≡ runs_of r.events P
   pub waiters : List (Option ℕ)

@@ -28,7 +28,7 @@ abbrev pub rect_text : Class → ℕ → ℕ → ℕ → ℕ → List ℕ
 rect_text class left top width height =
     shape_begin (codes "<rect") class left top ++ attribute_text (codes "width") width ++ attribute_text (codes "height") height ++ codes "/>\n"
 
--- a line of text: of these bytes, escaped
+-- a line of text: the bytes, escaped
 abbrev pub line_text : Class → ℕ → ℕ → List ℕ → List ℕ
 line_text class left base bytes = shape_begin (codes "<text") class left base ++ codes ">" ++ escaped bytes ++ codes "</text>\n"
 

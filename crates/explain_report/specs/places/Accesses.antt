@@ -27,7 +27,7 @@ misfit_at r word e = cond (passes_at (λ v. is_use v.op) r.events e) (misfit wor
 abbrev pub misfits_of : Recording → List ℕ → List ℕ
 misfits_of r word = map (misfit_at r word) (before (length r.events))
 
--- the least of these and of 3, which means no fit
+-- the least misfit of the list, at most 3, which means no fit
 abbrev pub least_misfit : List ℕ → ℕ
 least_misfit misfits = fold min 3 misfits
 
@@ -56,7 +56,7 @@ place_of r e = before_arrow (location_at r e)
 abbrev pub IsAtOnePlace : Recording → List Bool → Type 0
 IsAtOnePlace r flags = (d e : ℕ) → HasFlag flags d → HasFlag flags e → place_of r d ≡ place_of r e
 
--- two of them are at different places
+-- two flagged events are at different places
 pub record HaveSeveral (r : Recording) (flags : List Bool) : Type 0 where
   pub one : ℕ
   pub other : ℕ

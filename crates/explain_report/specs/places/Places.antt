@@ -29,7 +29,7 @@ behind_by text (Some n) = Some (drop (n + 3) text)
 abbrev pub behind_arrow : List ℕ → Option (List ℕ)
 behind_arrow text = behind_by text (arrow_at text)
 
--- the calls of a text, up to n of them
+-- the calls of a text, at most the first n
 abbrev pub calls_in : ℕ → Option (List ℕ) → List (List ℕ)
 calls_in zero text = []
 calls_in (suc n) None = []

@@ -6,7 +6,7 @@ use must_order::Chain;
 /// The finding on a conflicting pair, with the reason.
 #[derive(Drop)]
 pub enum Finding {
-    /// A race: a schedule of these events shows the pair.
+    /// A race: the schedule `events` shows the pair.
     Race {
         /// How the schedule was found.
         how: How,

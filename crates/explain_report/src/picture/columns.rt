@@ -76,7 +76,7 @@ impl Columns {
         }
     }
 
-    /// Whether there are so many threads that all except the two of the pair share a column.
+    /// Whether there are too many threads for a column each, so that all except the two of the pair share a column.
     pub(crate) fn is_shared(&self) -> bool {
         self.threads.len() > MOST_COLUMNS
     }

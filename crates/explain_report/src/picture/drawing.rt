@@ -38,7 +38,7 @@ struct Placement {
     end: u64,
 }
 
-/// The runs of the schedule, and the positions of the boxes of those that are drawn.
+/// The runs of the schedule, and the positions of the boxes of the drawn runs.
 fn placement_of(alloc: Global, indexed: &Indexed, events: &[u32]) -> Result<Placement, OutOfMemory>
     ensures { IfOk result (IsPlacement indexed.now events.now) }
 {
@@ -134,10 +134,10 @@ impl Drawing {
     }
 }
 
-/// Appends a picture (SVG) of the schedule of these events, which shows the pair. It has a column for each thread, a
-/// box for each run below the one before, and the two accesses at the bottom. If there are more than 40 runs, it
-/// draws the last 20, and the last 20 that those waited for; the rest is one box. If there are more than four
-/// threads, all except the two of the pair share a column. If memory runs out, `out` stays as it was.
+/// Appends a picture (SVG) of the schedule `events`, which shows the pair. It has a column for each thread, a box for
+/// each run below the one before, and the two accesses at the bottom. If there are more than 40 runs, it draws the last
+/// 20, and the last 20 that those waited for; the rest is one box. If there are more than four threads, all except the
+/// two of the pair share a column. If memory runs out, `out` stays as it was.
 pub fn picture_text(
     analysis: &Analysis<'_>,
     events: &[u32],
@@ -277,7 +277,7 @@ fn draw_names(canvas: &mut Canvas, indexed: &Indexed, columns: &Columns) -> Resu
     Ok(())
 }
 
-/// Draws the names of these threads above their columns.
+/// Draws the names of the threads above their columns.
 fn draw_own(
     canvas: &mut Canvas,
     indexed: &Indexed,

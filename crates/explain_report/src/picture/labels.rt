@@ -42,7 +42,7 @@ pub(crate) fn thread_name(indexed: &Indexed, thread: u32) -> &[u8]
     indexed.thread_name(thread)
 }
 
-/// Appends the words of a run: its number, its number of events, and its thread.
+/// Appends the label of a run: its number, its number of events, and its thread.
 pub(crate) fn append_run_words(
     out: &mut Vec<u8>,
     indexed: &Indexed,
@@ -60,7 +60,7 @@ pub(crate) fn append_run_words(
     Ok(())
 }
 
-/// Appends the words of the event: its number, operation and location. Appends nothing if the trace lacks it.
+/// Appends the label of the event: its number, operation and location. Appends nothing if the trace lacks it.
 pub(crate) fn append_label(
     out: &mut Vec<u8>,
     indexed: &Indexed,
@@ -75,7 +75,7 @@ pub(crate) fn append_label(
     Ok(())
 }
 
-/// Appends the words of an event of the trace.
+/// Appends the label of an event of the trace.
 fn append_found(out: &mut Vec<u8>, indexed: &Indexed, event: u32) -> Result<(), OutOfMemory>
     requires { event < length indexed.now.events }
     ensures { Appended result out.old out.new (label_words indexed.now event) }
@@ -119,7 +119,7 @@ pub(crate) fn append_reason(
     Ok(())
 }
 
-/// Appends the words of a lock that is held.
+/// Appends the text for a lock that is held.
 pub(crate) fn append_held(
     out: &mut Vec<u8>,
     indexed: &Indexed,
@@ -132,7 +132,7 @@ pub(crate) fn append_held(
     Ok(())
 }
 
-/// Appends the words for so many more locks.
+/// Appends the text for `count` more locks.
 pub(crate) fn append_more(out: &mut Vec<u8>, count: u64) -> Result<(), OutOfMemory>
     ensures { Appended result out.old out.new (more_words count) }
 {

@@ -44,7 +44,7 @@ fn append_piece(out: &mut Vec<u8>, piece: Piece<'_>) -> Result<(), OutOfMemory>
     }
 }
 
-/// Appends the words.
+/// Appends `words`.
 pub(crate) fn append_words(out: &mut Vec<u8>, words: &[u8]) -> Result<(), OutOfMemory>
     ensures { Appended result out.old out.new words.now }
 {

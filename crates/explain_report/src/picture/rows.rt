@@ -221,8 +221,8 @@ fn draw_waiter(
     Ok(())
 }
 
-/// Draws one box for the runs that are not drawn one by one: the number of these runs, of their threads and of their
-/// events.
+/// Draws one box for the runs that are not drawn one by one: their number, and the numbers of their threads and of
+/// their events.
 pub(crate) fn draw_earlier(
     canvas: &mut Canvas,
     indexed: &Indexed,
@@ -240,7 +240,7 @@ pub(crate) fn draw_earlier(
     Ok(())
 }
 
-/// Draws the line with the number of these runs and of their threads.
+/// Draws the line with the number of the earlier runs and of their threads.
 fn draw_earlier_runs(canvas: &mut Canvas, earlier: Earlier) -> Result<(), OutOfMemory>
     ensures { Drew result canvas.old canvas.new (IsEarlierRuns earlier.runs earlier.threads) }
 {

@@ -74,7 +74,7 @@ fn note(depth: &mut u32, op: Option<Op>) -> bool {
     before.max(*depth) > 0
 }
 
-/// The number of shades of these boxes.
+/// The number of shades of the boxes.
 fn shades_of(held: &[bool], placed: &[Placed]) -> u64 {
     let mut count = 0u64;
     for box_of_run in placed {

@@ -81,7 +81,7 @@ fn is_use(op: Op) -> bool
     }
 }
 
-/// The least of these and of `NO_FIT`.
+/// The least misfit of the list, at most `NO_FIT`.
 fn least_misfit(misfits: &[u32]) -> u32
     ensures { result ≡ least_misfit misfits.now }
 {
