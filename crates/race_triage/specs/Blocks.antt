@@ -8,7 +8,7 @@ use Rattle.race_triage.specs.declared.known.Block.{Block}
 use Rattle.race_triage.specs.declared.places.Places.{Places}
 use Rattle.race_triage.specs.declared.known.Block.TheVariants.{Nothing, Race, First}
 
--- one is the first access line of these lines
+-- one is the first access line in `lines`
 abbrev pub IsNext : List (List ℕ) → List ℕ → Type 0
 IsNext lines one = (more : List (List ℕ)) × (accesses_in lines ≡ one ∷ more)
 

@@ -53,7 +53,7 @@ is_kept r only hide v = is_shown only hide (event_words_at r v.first) (event_wor
 abbrev pub known_places : {S : Type 0} → Option (IndexSet (ℕ × ℕ) S) → Option (List (ℕ × ℕ))
 known_places known = option_map keys known
 
--- the verdict's pair of locations is one of these
+-- the verdict's pair of locations is in the list
 abbrev pub is_known : Option (List (ℕ × ℕ)) → Verdict → Bool
 is_known None v = false
 is_known (Some places) v = list_any (same_places v.row.places) places

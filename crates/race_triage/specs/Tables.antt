@@ -33,7 +33,7 @@ pub record AreTables (t : Tables) : Type 0 where
 abbrev pub IsRowIn : Tables → Row → Type 0
 IsRowIn t = IsRow t.indexed.now (slice_index t.places.now)
 
--- two events of these locations conflict
+-- two events of the two locations conflict
 abbrev pub HasConflictIn : Tables → ℕ × ℕ → Type 0
 HasConflictIn t places = HaveConflict t.indexed.now.events (slice_index t.places.now) places
 
@@ -53,11 +53,11 @@ pub record AreGroupsIn (t : Tables) (groups : Groups) : Type 0 where
   pub once : AreOnce groups.rows.items
   pub few : length groups.rows.items ≤ place_pair_limit
 
--- the least pairs of these two locations, with as many open pairs as the effort asks for
+-- the least pairs of the two locations, with as many open pairs as the effort asks for
 abbrev pub AreLeastsIn : Tables → Effort → ℕ × ℕ → Least → Type 0
 AreLeastsIn t effort places l = AreLeasts t.indexed.now (slice_index t.places.now) places (max effort.tries 1) l
 
--- the least conflicting pair of these two locations, if the effort asks for it
+-- the least conflicting pair of the two locations, if the effort asks for it
 abbrev pub IsFirstPairIn : Tables → Effort → ℕ × ℕ → Option (ℕ × ℕ) → Type 0
 IsFirstPairIn t effort places first =
     effort.apart ≡ true → IsLeastPair t.indexed.now (slice_index t.places.now) places AnyPair first

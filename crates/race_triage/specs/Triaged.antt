@@ -21,7 +21,7 @@ AreVerdictsAt r p effort vs = All (IsVerdict r (slice_index p.numbers.items) eff
 abbrev pub AreAllToldAt : Recording → Places → List Verdict → Type 0
 AreAllToldAt r p vs = AreAllTold r.events (slice_index p.numbers.items) vs
 
--- more than 1,048,576 pairs of these locations have a conflicting pair of events
+-- more than 1,048,576 pairs of locations have a conflicting pair of events
 abbrev pub AreTooManyAt : Recording → Places → Type 0
 AreTooManyAt r p = AreTooMany r.events (slice_index p.numbers.items) place_pair_limit
 

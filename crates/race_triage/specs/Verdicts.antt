@@ -101,13 +101,13 @@ IsMissed T a b budget left = IsNeverShownInOrder T a b × IsTurned T a b budget 
 abbrev pub IsFoundBy : List Event → ℕ → ℕ → ℕ → Type 0
 IsFoundBy T a b budget = IsShownInOrder T a b ⊎ ((P : List ℕ) × IsTurned T a b budget (Some P))
 
--- No schedule was found for any of these pairs, which have their later event first. Each search has the steps that
--- the searches before it left.
+-- No schedule was found for any pair of the list; the pairs have their later event first. Each search has the steps
+-- that the searches before it left.
 abbrev pub AreMissed : List Event → ℕ → List Try → ℕ → Type 0
 AreMissed T budget [] left = left ≡ budget
 AreMissed T budget (t ∷ ts) left = (m : ℕ) × IsMissed T t.pair.1 t.pair.0 budget m × AreMissed T m ts left
 
--- no schedule was found for any of them
+-- no schedule was found for any tried pair
 abbrev pub AreAllMissed : Recording → ℕ → List Try → Type 0
 AreAllMissed r budget tried = (left : ℕ) × AreMissed r.events budget tried left
 
@@ -115,7 +115,7 @@ AreAllMissed r budget tried = (left : ℕ) × AreMissed r.events budget tried le
 abbrev pub IfNoneFound : {T E : Type 0} → Result (Option T) E → Type 0 → Type 0
 IfNoneFound answer P = IfOk answer (λ found. found ≡ None → P)
 
--- The pair is one of these. No schedule was found for those before it.
+-- The pair is in the list. No schedule was found for the pairs before it.
 pub record IsFirstFound (T : List Event) (budget : ℕ) (tried : List Try) (pair : ℕ × ℕ) : Type 0 where
   pub at : ℕ
   pub one : Try
@@ -134,7 +134,7 @@ pub record IsFirstOfTried (r : Recording) (place : ℕ → ℕ) (tries : ℕ) (p
   pub shared : IsBudget r place budget
   pub found : IsFirstFound r.events budget tried pair
 
--- There are `count` tries, and no schedule was found for any of them.
+-- There are `count` tries, and no schedule was found for any tried pair.
 pub record AreTriedInVain (r : Recording) (place : ℕ → ℕ) (tries : ℕ) (places : ℕ × ℕ) (count : ℕ) : Type 0 where
   pub tried : List Try
   pub first : AreFirstTries r place places tries tried
@@ -198,7 +198,7 @@ IsBudgetIn t budget = IsBudget t.indexed.now (slice_index t.places.now) budget
 abbrev pub AreOpenPairs : Recording → List Try → Type 0
 AreOpenPairs r tried = All (λ (t : Try). IsPair r.events t.pair.1 t.pair.0 × IsKind r t.pair.1 t.pair.0 OpenKind) tried
 
--- The first of these pairs for which a schedule was found, and its race.
+-- The first pair of the list for which a schedule was found, and its race.
 pub record IsShownFirst (r : Recording) (budget : ℕ) (tried : List Try) (pair : ℕ × ℕ) (o : Outcome) : Type 0 where
   pub found : IsFirstFound r.events budget tried pair
   pub race : IsOpenRace r pair.1 pair.0 o
@@ -272,7 +272,7 @@ IsPartAnswered found from every vs =
 abbrev pub IsOwn : ℕ → ℕ → ℕ → ℕ → Type 0
 IsOwn from every end at = (at < end) × (at % every ≡ from)
 
--- the index is one of those of the first `parts` parts
+-- the index belongs to one of the first `parts` parts
 abbrev pub IsBelow : ℕ → ℕ → ℕ → Type 0
 IsBelow every parts at = at % every < parts
 

@@ -11,13 +11,13 @@ use event_index::Indexed;
 use rapid_text::OutOfMemory;
 use std::alloc::Global;
 
-/// The verdicts to print, and the numbers of those left out.
+/// The verdicts to print, and how many were left out.
 #[derive(Drop)]
 pub struct Chosen {
     /// Races first, then undecided verdicts, then apart verdicts if they are wanted. Each kind keeps the order of all
     /// verdicts.
     pub verdicts: Vec<Verdict>,
-    /// How many of them are races.
+    /// How many of the verdicts are races.
     pub races: u64,
     /// How many races are left out because they are known; None if no text of known races was given.
     pub known: Option<u64>,

@@ -3,13 +3,13 @@ ghost use Rattle.std.specs.Prelude.{◌≡◌};
 ghost use Rattle.std.specs.List.{list_any};
 ghost use Rattle.race_triage.specs.Chosen.{filters_any, is_in, shows_lines, stands_in};
 
-/// Texts that choose blocks. If `only` has texts, one of them must occur in one of the block's two access lines. No
-/// text of `hide` may occur in them.
+/// Texts that choose blocks. If `only` has texts, one must occur in one of the block's two access lines. No text of
+/// `hide` may occur there.
 #[derive(Clone, Copy)]
 pub struct Filters<'a> {
-    /// Leave out blocks with none of these texts; if empty, leave out nothing.
+    /// Leave out blocks in which no text of the list occurs; if the list is empty, leave out nothing.
     pub only: &'a [&'a str],
-    /// Leave out blocks with any of these texts.
+    /// Leave out blocks in which any text of the list occurs.
     pub hide: &'a [&'a str],
 }
 

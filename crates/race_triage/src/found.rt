@@ -163,7 +163,7 @@ fn found_in<'a>(
     })
 }
 
-// How many search steps the tries of one of these rows share.
+// How many search steps the tries of one row share.
 fn budget_of(rows: &[Row]) -> u32
     requires few { length rows.now ≤ place_pair_limit }
     ensures { result ≡ budget_for (count_by has_tries rows.now) }

@@ -113,7 +113,7 @@ impl Tables<'_> {
         }
     }
 
-    // The first of these open pairs for which a schedule is found. All of them share `budget` search steps.
+    // The first open pair of the list for which a schedule is found. All pairs share `budget` search steps.
     fn first_shown(
         &self,
         tried: &[Try],

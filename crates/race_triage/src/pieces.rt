@@ -9,7 +9,7 @@ use event_index::Indexed;
 use itoa::Buffer;
 use rapid_text::{Event, Op, OutOfMemory, RawTrace};
 
-/// Appends the words.
+/// Appends `words`.
 pub(crate) fn append_words(out: &mut Vec<u8>, words: &[u8]) -> Result<(), OutOfMemory>
     ensures { Appended result out.old out.new words.now }
 {

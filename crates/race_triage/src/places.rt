@@ -83,7 +83,7 @@ fn number_of(locations: &mut Locations, alloc: Global, location: &[u8]) -> Resul
     small(at)
 }
 
-/// The number of a location or a list in 32 bits. There are no more of them than events.
+/// The number of a location or a list in 32 bits. There are no more locations or lists than events.
 pub(crate) fn small(number: usize) -> Result<u32, OutOfMemory>
     ensures { IfOk result (λ small. small ≡ number) }
 {

@@ -36,7 +36,7 @@ pub struct Totals {
 }
 
 impl Verdicts {
-    /// Returns the counts of the whole trace. `indexed` is the trace of these verdicts.
+    /// Returns the counts of the whole trace. `indexed` is the trace of the verdicts.
     pub fn totals(&self, indexed: &Indexed) -> Totals
         ensures { AreTotalsIn indexed.now self.now result }
     {
