@@ -35,11 +35,11 @@ text_at name place d = option_and_then as_str (item_of name place d)
 abbrev pub number_at : List ℕ → ℕ → Data → Option ℤ
 number_at name place d = option_and_then as_integer (item_of name place d)
 
--- the text at this index; empty if there is none
+-- the text at this index; empty if the item is missing or is no text
 abbrev pub said_at : List ℕ → ℕ → Data → List ℕ
 said_at name place d = unwrap_or (text_at name place d) []
 
--- the text of a member; empty if there is none
+-- the text of a member; empty if the member is missing or is no text
 abbrev pub said_text : List ℕ → Data → List ℕ
 said_text name d = unwrap_or (option_and_then as_str (get name d)) []
 
@@ -60,7 +60,7 @@ are_two_texts name d = is_some (text_at name 0 d) && (is_some (text_at name 1 d)
 abbrev pub are_two_numbers : List ℕ → Data → Bool
 are_two_numbers name d = is_some (number_at name 0 d) && (is_some (number_at name 1 d) && is_none (item_of name 2 d))
 
--- an array of at least one item, all of them texts
+-- an array of one or more texts
 abbrev pub are_texts : List ℕ → Data → Bool
 are_texts name d = is_some (item_of name 0 d) && list_all is_text (list_of name d)
 

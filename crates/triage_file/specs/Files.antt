@@ -29,7 +29,7 @@ is_race_key key = bytes_eq key race_key
 abbrev pub is_top : Members → Bool
 is_top ms = list_all is_race_key (keys_in ms) && is_list_by (get_member race_key ms)
 
--- the first key that is not `race`; `race` if there is none
+-- the first key that is not `race`; `race` if every key is `race`
 abbrev pub other_key : List (List ℕ) → List ℕ
 other_key [] = race_key
 other_key (key ∷ keys) = cond (is_race_key key) (other_key keys) key

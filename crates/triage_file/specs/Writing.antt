@@ -41,7 +41,7 @@ is_plain digits = nat_lt 0 (length digits) && (nat_lt (length digits) 19 && not 
 abbrev pub line_text : Recording → ℕ → List ℕ
 line_text r e = cond (is_plain (line_of (place_at r e))) (line_of (place_at r e)) (codes "0")
 
--- the other variable is this one, without numbers, or there is none
+-- the other variable, if there is one, is this one, without numbers
 abbrev pub is_same_by : List ℕ → Option (List ℕ) → Bool
 is_same_by name None = true
 is_same_by name (Some other) = bytes_eq (without_number other) (without_number name)

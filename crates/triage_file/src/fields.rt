@@ -37,7 +37,7 @@ pub(crate) fn number_at(entry: &Value, name: &str, place: usize) -> Option<i64>
     }
 }
 
-/// The text at this index of a member's array; empty if there is none.
+/// The text at this index of a member's array; empty if the item is missing or is no text.
 pub(crate) fn said_at<'a>(entry: &'a Value, name: &str, place: usize) -> &'a [u8]
     ensures { result.now ≡ said_at name.now place (view entry.now) }
 {
@@ -57,7 +57,7 @@ fn text_of<'a>(entry: &'a Value, name: &str) -> Option<&'a str>
     }
 }
 
-/// The text of a member; empty if there is none.
+/// The text of a member; empty if the member is missing or is no text.
 fn said_text<'a>(entry: &'a Value, name: &str) -> &'a [u8]
     ensures { result.now ≡ said_text name.now (view entry.now) }
 {

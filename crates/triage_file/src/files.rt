@@ -105,7 +105,7 @@ fn top_spot(text: &[u8], table: &Table) -> Spot
     name_spot(other_key(table), text)
 }
 
-/// The first key that is not `race`; `race` if there is none.
+/// The first key that is not `race`; `race` if every key is `race`.
 fn other_key(table: &Table) -> &[u8]
     ensures { result.now ≡ other_key (keys_in (table_view table.now)) }
 {

@@ -187,7 +187,7 @@ pub fn is_named(entry: &Value, name: &[u8]) -> bool
     has_name_in(list_of(entry, "variables"), name)
 }
 
-/// The same if there is a variable; true if there is none.
+/// The same if there is a variable; otherwise true.
 fn is_named_by(entry: &Value, name: Option<&[u8]>) -> bool
     ensures { result ≡ is_named_by (view entry.now) (option_map (λ text. text.now) name.entry) }
 {

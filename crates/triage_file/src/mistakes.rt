@@ -84,7 +84,7 @@ fn decision_mistake(entry: &Value) -> Option<Mistake>
     None
 }
 
-/// Whether an entry may have all of these keys.
+/// Whether an entry may have all keys of the table.
 fn are_known(table: &Table) -> bool
     ensures { result ≡ list_all is_key (keys_in (table_view table.now)) }
 {

@@ -351,7 +351,7 @@ fn append_three(out: &mut Vec<u8>, one: &[u8], two: &[u8], three: &[u8]) -> Resu
     Ok(())
 }
 
-/// Whether the other variable is this one, without numbers, or there is none.
+/// Whether the other variable, if there is one, is this one, without numbers.
 fn is_same_by(name: &[u8], other: Option<&[u8]>) -> bool
     ensures { result ≡ is_same_by name.now (option_map (λ text. text.now) other.entry) }
 {
