@@ -36,7 +36,7 @@ HasNoNewName r = (j : ℕ) → length (name_with j) ≤ name_limit → is_taken 
 abbrev pub with_name : Recording → List ℕ → Recording
 with_name r name = record r { variables = r.variables ++ name ∷ []; locks = r.locks ++ name ∷ [] }
 
--- the events have names, whatever the name of the further variable and lock is
+-- the events have names, no matter what the further variable and lock are called
 abbrev pub AreNamed : Recording → List Event → Type 0
 AreNamed r events = (name : List ℕ) → All (IsNamed (with_name r name)) events
 
@@ -44,7 +44,7 @@ AreNamed r events = (name : List ℕ) → All (IsNamed (with_name r name)) event
 abbrev pub own_line : Recording → List ℕ → Event → List ℕ → List ℕ
 own_line r name event location = event_text (with_name r name) event location
 
--- the lines of these events, which have no location
+-- the lines of the events, which have no location
 abbrev pub own_lines : Recording → List ℕ → List Event → List ℕ
 own_lines r name events = events_text (with_name r name) events []
 
@@ -71,7 +71,7 @@ prologue_of r k m =
     chain_of (length r.variables) locks (holds_at r.events k m threads locks)
     ++ reads_of (length r.variables) locks (readers_at r.events k m threads locks)
 
--- the number of these events
+-- the number of events of the prologue
 abbrev pub prologue_size : Recording → ℕ → ℕ → ℕ
 prologue_size r k m = prologue_length r.events k m (length r.threads) (length r.locks)
 

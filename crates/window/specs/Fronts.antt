@@ -51,14 +51,15 @@ IsFrontFault s more TooManyThreads = IsTooWide s more
 IsFrontFault s more TooLong = IsTooLong s more
 IsFrontFault s more OutOfMemory = ⊤
 
--- whatever comes later, this is a window of the whole trace: of what was read, of the piece, and of what comes later
+-- no matter what comes later, this is a window of the whole trace: of what was read, of the piece, and of the later
+-- text
 abbrev pub IsWindowAfter : List ℕ → List ℕ → Window → Type 0
 IsWindowAfter read more w =
     (later : List ℕ)
     → IsDisciplined (long_trace (read ++ (more ++ later)))
     → IsWindowAt (read ++ (more ++ later)) w.from w.to w.prologue w.text.items
 
--- the same for whatever the head replaces, with this number of events
+-- the same for any text that the head replaces, with this number of events
 abbrev pub IsWindowBehind : List ℕ → List ℕ → ℕ → Window → Type 0
 IsWindowBehind head more number w =
     (front later : List ℕ)

@@ -15,13 +15,13 @@ noted_lines line noted names = flat_map (λ name. if is_named noted name then li
 abbrev pub NoneNoted : List (List ℕ) → List (List ℕ) → Type 0
 NoneNoted noted names = (line : List ℕ → List ℕ) → noted_lines line noted names ≡ []
 
--- names of threads; for each list the text says which of them were forked, have an event, or were joined
+-- names of threads; for each list the text says which names were forked, have an event, or were joined
 pub record Told : Type 0 where
   pub forked : List (List ℕ)
   pub seen : List (List ℕ)
   pub joined : List (List ℕ)
 
--- all three for each of these names
+-- all three for each name of the list
 abbrev pub all_of : List (List ℕ) → Told
 all_of names = record { forked = names; seen = names; joined = names }
 
@@ -29,7 +29,7 @@ all_of names = record { forked = names; seen = names; joined = names }
 abbrev pub all_kept : Past → Told
 all_kept past = record { forked = past.forked; seen = past.seen; joined = past.joined }
 
--- the first of the names; empty if there is none
+-- the first of the names, or the empty text if there are no names
 abbrev pub first_name : List (List ℕ) → List ℕ
 first_name names = get_or names 0 []
 
@@ -41,9 +41,9 @@ place_outside names others = position_or_len (λ name. not (is_named others name
 abbrev pub first_outside : List (List ℕ) → List (List ℕ) → List ℕ
 first_outside names others = get_or names (place_outside names others) (first_name names)
 
--- The text with the summary of these names. The first thread that has an event forks those that were forked. Each
--- thread that has an event reads. Then come acquires for the locks that are held. Last, a thread that was not joined
--- joins those that were.
+-- The text with the summary of the names. The first thread that has an event forks those that were forked. Each thread
+-- that has an event reads. Then come acquires for the locks that are held. Last, a thread that was not joined joins
+-- those that were.
 abbrev pub head_text : Past → Told → List ℕ
 head_text past told =
     noted_lines (λ name. said_line (first_name past.seen) (codes "fork") name) past.forked told.forked

@@ -106,7 +106,7 @@ ApartInWindow =
     → b < length W
     → IsNeverShown W a b ↔ IsNeverShownFrom T k m (back n k a) (back n k b)
 
--- a window of the events read so far is a window of the trace, whatever comes after them
+-- a window of the events read so far is a window of the trace, no matter which events follow
 abbrev pub WindowOfABeginning : Type 0
 WindowOfABeginning = (T more W : List Event) (k m n x lock c : ℕ) → IsWindow T W k m n x lock c → IsWindow (T ++ more) W k m n x lock c
 

@@ -52,7 +52,7 @@ front_of holds readers = 7 * length holds + 3 * length readers
 abbrev pub IsOff : List Event → ℕ → ℕ → ℕ → Type 0
 IsOff T k m l = (e : ℕ) (v : Event) → k ≤ e → e < m → slice_get T e ≡ Some v → (v.op ≢ Acquire l) × (v.op ≢ Release l)
 
--- h holds of the lock are enough for those that the thread has at k: all of them, or fewer that the part does not all
+-- h holds of the lock are enough for those that the thread has at k: as many, or fewer that the part does not all
 -- release
 pub record IsHold (T : List Event) (k m t l h : ℕ) : Type 0 where
   pub most : h ≤ hold_count (take k T) t l
@@ -108,7 +108,7 @@ holds_of T k m (Some t) l = replicate (serving T k m t l) (t, l)
 abbrev pub holds_at : List Event → ℕ → ℕ → ℕ → ℕ → List (ℕ × ℕ)
 holds_at T k m threads locks = flat_map (λ l. holds_of T k m (owner T k threads l) l) (before locks)
 
--- the threads that have an event from k to m and are not forked there; none of them wait if nothing is held
+-- the threads that have an event from k to m and are not forked there; no thread waits if nothing is held
 abbrev pub readers_of : List Event → ℕ → ℕ → ℕ → List ℕ
 readers_of T k m threads =
     filter (λ t. list_any (λ v. v.thread == t) (part_of T k m) && not (list_any (λ v. is_fork t v.op) (part_of T k m))) (before threads)

@@ -35,7 +35,7 @@ StreamKeepsRules =
     → IsDisciplined r.events
     → IsDisciplined (long_trace (front ++ more))
 
--- A window after the head is a part of the whole trace, whatever comes after the piece.
+-- A window after the head is a part of the whole trace, no matter what comes after the piece.
 abbrev pub StreamIsSound : Type 0
 StreamIsSound =
     (front head more later text : List ℕ) (r : Recording) (k m : ℕ)

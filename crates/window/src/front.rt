@@ -113,8 +113,8 @@ impl Front {
         Ok(all.len())
     }
 
-    /// The window of the next events after what was read, at most `most` of them. `more` begins with these, and has
-    /// only whole lines.
+    /// The window of the next events after what was read, at most `most` events. `more` begins with these, and has only
+    /// whole lines.
     pub fn window(&self, alloc: Global, more: &[u8], most: u32) -> Result<Window, FrontFault>
         requires { 0 < most }
         ensures from { IfOk result (λ w. w.from ≡ length (said_in self.now.read)) }
@@ -124,7 +124,7 @@ impl Front {
         ensures to { IfOk result (IsLongest self.now.read more.now most) }
         // What was read and all of `more` keep the rules, and none of their lines is refused.
         ensures kept { IfOk result (λ w. KeepsOn self.now.read more.now) }
-        // Whatever comes later, this is a window of the whole trace.
+        // No matter what comes later, this is a window of the whole trace.
         ensures window { IfOk result (IsWindowAfter self.now.read more.now) }
         ensures fault { IfErr result (IsFrontFault self.now more.now) }
     {
@@ -273,7 +273,7 @@ impl Front {
         Ok(text)
     }
 
-    // The trace of these lines.
+    // The trace of the lines in `more`.
     fn read_on(&self, alloc: Global, more: &[u8]) -> Result<Next, FrontFault>
         ensures whole { IfOk result (λ next. IsWhole more.now) }
         ensures ok { IfOk result (λ next. IsReadAfter self.now.read more.now next.trace next.from) }

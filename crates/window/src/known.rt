@@ -12,8 +12,8 @@ use rapid_text::{MAX_THREADS, OutOfMemory};
 use std::alloc::Global;
 use trace_rules::Trace;
 
-/// The names of threads that were forked, of those that have an event, and of those that were joined. A text of
-/// acquires takes the locks that are held, and `holds` is their number.
+/// The names of the threads that were forked, the threads that have an event, and the threads that were joined. A text
+/// of acquires takes the locks that are held, and `holds` is their number.
 #[derive(Drop)]
 pub(crate) struct Known {
     pub(crate) forked: Levels,

@@ -34,7 +34,7 @@ pub(crate) fn no_names(alloc: Global, keyed: TextKeyed) -> Names
     IndexSet::with_hasher(alloc, keyed)
 }
 
-// Whether the name is one of these.
+// Whether `names` has this name.
 fn is_in(names: &Names, name: &[u8]) -> bool
     ensures { result ≡ is_named (names_of names.now) name.now }
 {
@@ -83,7 +83,7 @@ fn note_all(names: &mut Names, alloc: Global, others: &Names) -> Result<(), OutO
     Ok(())
 }
 
-/// Adds the names of these levels.
+/// Adds the names of the levels.
 pub(crate) fn note_levels(
     names: &mut Names,
     alloc: Global,
@@ -165,7 +165,7 @@ fn joined(
     Ok(Grown { keep, level })
 }
 
-/// The update of these levels for the names of the found threads.
+/// The update of the known levels for the names of the found threads.
 pub(crate) fn with_found(
     alloc: Global,
     raw: &RawTrace,
@@ -182,7 +182,7 @@ pub(crate) fn with_found(
     Ok(grown)
 }
 
-/// The first of the names; empty if there is none.
+/// The first of the names, or the empty text if there are no names.
 pub(crate) fn first_of(names: &Levels) -> &[u8]
     ensures { result.now ≡ first_name (level_names names.now) }
 {
@@ -195,7 +195,7 @@ pub(crate) fn first_of(names: &Levels) -> &[u8]
     &[]
 }
 
-// The index of the first name that no other level has; the number of names if there is none.
+// The index of the first name that no other level has; the number of names if other levels have each.
 fn outside_at(names: &Names, others: &Levels) -> usize
     ensures { result ≡ place_outside (names_of names.now) (level_names others.now) }
 {

@@ -34,7 +34,7 @@ fn is_digit(byte: u8) -> bool
     byte >= b'0' && byte <= b'9'
 }
 
-// The number of these digits, if it fits in a u64.
+// The number that the digits write, if it fits in a u64.
 fn number_in(digits: &[u8]) -> Option<u64>
     requires { AllDigits 10 digits.now }
     ensures some { IfSome result (λ number. number ≡ digits_value 10 digits.now) }

@@ -138,7 +138,7 @@ pub(crate) fn window_after(
     requires number { number < 1000000000000000000 }
     requires most { 0 < most }
     ensures from { IfOk result (λ w. (w.from ≡ number) × (number < w.to) × (w.to ≤ number + most)) }
-    // Whatever the head replaces, and whatever comes later, this is a window of the whole trace.
+    // No matter what the head replaces and what comes later, this is a window of the whole trace.
     ensures window { IfOk result (IsWindowBehind head.now more.now number) }
     // It has all requested events, if they fit, and no line breaks a rule.
     ensures longest { IfOk result (IsLongestBy (IsOver head.now more.now) more.now most) }

@@ -11,7 +11,7 @@ use rapid_text::{Event, Op, OutOfMemory};
 use std::alloc::Global;
 use trace_rules::Trace;
 
-// Adds the holds of a lock: all of them, but at most twice the number of events on the lock.
+// Adds the holds of a lock: all, but at most twice the number of events on the lock.
 fn add_holds(
     holds: &mut Vec<(u32, u32)>,
     held: Held,
@@ -140,7 +140,7 @@ fn add_access(events: &mut Vec<Event>, thread: u32, op: Op, own: u32) -> Result<
     Ok(())
 }
 
-// Adds the chain of these holds.
+// Adds the chain of the holds.
 fn add_chain(
     events: &mut Vec<Event>,
     holds: &[(u32, u32)],
@@ -155,7 +155,7 @@ fn add_chain(
     Ok(())
 }
 
-// Adds a read by each of these threads.
+// Adds a read by each thread of `readers`.
 fn add_reads(
     events: &mut Vec<Event>,
     readers: &[u32],
