@@ -1,4 +1,4 @@
--- With what a page begins. Its first line says how many races are told, the file's name, and what was left out. All notions here are this project's own.
+-- How a page begins. Its first line says how many races were chosen, the file's name, and what was left out. All notions here are this project's own.
 use Rattle.std.specs.Prelude.{◌≡◌, ◌==◌, ℕ, false, cond, List, ◌∷◌, ◌++◌, ◌⊎◌, All, codes, decimal, nat_eq, [], Option, Some, None}
 use Rattle.std.specs.List.{concat}
 use Rattle.markup.specs.Escaped.{escaped}
@@ -24,15 +24,15 @@ top_text =
 abbrev pub HasNoSlash : List ℕ → Type 0
 HasNoSlash bytes = All (λ b. (b == 47) ≡ false) bytes
 
--- the file of a path: what stands behind the last slash, and all of a path that has none
+-- the file of a path: what follows the last slash, or the whole path if it has no slash
 abbrev pub IsFileOf : List ℕ → List ℕ → Type 0
 IsFileOf path file = HasNoSlash file × ((path ≡ file) ⊎ ((folders : List ℕ) × (path ≡ folders ++ 47 ∷ file)))
 
--- the word behind a number of races
+-- the word after a number of races
 abbrev pub race_word : ℕ → List ℕ
 race_word n = cond (n == 1) (codes " race") (codes " races")
 
--- so many races, in words
+-- n races, in words
 abbrev pub races_words : ℕ → List ℕ
 races_words n = cond (n == 0) (codes "No races") (decimal n ++ race_word n)
 

@@ -36,12 +36,12 @@ abbrev pub none_text : List Pair → List ℕ
 none_text [] = codes "<p>None.</p>\n"
 none_text (p ∷ ps) = []
 
--- how many of so many pairs have no row
+-- how many of n pairs have no row
 abbrev pub left_text : ℕ → List ℕ
 left_text n =
     cond (nat_lt 2000 n) (concat (codes "<p>Left out here: " ∷ decimal (n - 2000) ∷ codes ". Without --page, racebench prints all of them as text.</p>\n" ∷ [])) []
 
--- the rows of the first of these pairs, and how many more there are
+-- the rows of the first 2,000 pairs, and how many more there are
 unfoldable pub kept_text : ℕ → List Pair → List ℕ
 kept_text parts kept = none_text kept ++ rows_text parts (take 2000 kept) ++ left_text (length kept)
 
@@ -49,7 +49,7 @@ kept_text parts kept = none_text kept ++ rows_text parts (take 2000 kept) ++ lef
 abbrev pub opening_text : ℕ → List ℕ
 opening_text rank = concat (codes "<section>\n<h2>" ∷ heading_of rank ∷ codes "</h2>\n" ∷ [])
 
--- the section of these pairs, which are of this rank
+-- the section of the pairs `kept`, which are of this rank
 unfoldable pub section_text : ℕ → ℕ → List Pair → List ℕ
 section_text rank parts kept = opening_text rank ++ kept_text parts kept ++ codes "</section>\n"
 
@@ -61,12 +61,12 @@ rank_section rank parts ps = section_text rank parts (filter (has_rank rank) ps)
 unfoldable pub lead_text : ℕ → List Pair → LeftOut → List ℕ
 lead_text parts races left = merged_begin (length races) parts left ++ section_text 0 parts races
 
--- what is apart, if that is asked for
+-- the section of what is apart, if it is wanted
 abbrev pub apart_section : Bool → ℕ → List Pair → List ℕ
 apart_section true parts ps = rank_section 2 parts ps
 apart_section false parts ps = []
 
--- The page of so many parts with these pairs. Its first line says what was left out.
+-- The page of `parts` parts with these pairs. Its first line says what was left out.
 abbrev pub merged_text : ℕ → List Pair → Bool → LeftOut → List ℕ
 merged_text parts ps apart left =
     lead_text parts (filter (has_rank 0) ps) left ++ rank_section 1 parts ps ++ apart_section apart parts ps ++ END.now

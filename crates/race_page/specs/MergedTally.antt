@@ -4,7 +4,7 @@ use Rattle.std.specs.List.{concat}
 use Rattle.markup.specs.Escaped.{escaped}
 use Rattle.race_parts.specs.declared.pairs.Pair.{Pair}
 
--- how often the parts say what, and which of them has the row
+-- how often the parts say what, and which part has the row
 abbrev pub counts_text : Pair → List ℕ
 counts_text p =
     concat (codes "<h4>In the parts</h4>\n<p>Race: " ∷ decimal p.races ∷ codes ", undecided: " ∷ decimal p.undecided ∷ codes ", apart: "

@@ -1,4 +1,4 @@
--- The page's own markup: a closed list. Nothing else stands on a page unescaped but digits and pictures.
+-- The page's own markup: a closed list. Apart from it, only digits and pictures are on a page unescaped.
 use Rattle.std.specs.Prelude.{ℕ, List, [], ◌++◌, codes, decimal}
 use Rattle.race_page.specs.declared.own.Part.{Part}
 use Rattle.race_page.specs.declared.own.Part.TheVariants.{Foot, LineEnd}
@@ -69,7 +69,7 @@ row_begin Race = codes "<details id=\"race-"
 row_begin Undecided = codes "<details id=\"undecided-"
 row_begin Apart = codes "<details id=\"apart-"
 
--- what stands beside a row: how a race came out that was followed on the real program
+-- the text beside a row: how a race came out that was followed on the real program
 abbrev pub seen_text : Seen → List ℕ
 seen_text Unasked = []
 seen_text NotFollowed = codes "<span class=\"seen\">not followed</span> "
@@ -84,7 +84,7 @@ abbrev pub row_head : Shown → List ℕ
 row_head shown =
     row_begin shown.sort ++ decimal shown.first ++ codes "-" ++ decimal shown.second ++ codes "\">\n<summary>" ++ seen_text shown.seen
 
--- the row in which a text stands
+-- the row that has a text
 abbrev pub row_text : Shown → List ℕ → List ℕ
 row_text shown text =
     row_begin shown.sort ++ decimal shown.first ++ codes "-" ++ decimal shown.second ++ codes "\">\n<summary>" ++ seen_text shown.seen ++ text ++ codes "</details>\n"

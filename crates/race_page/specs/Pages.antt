@@ -58,7 +58,7 @@ pub data HasNoSchedule (r : Recording) (a b : ℕ) : Type 0 where
   never : IsShownByNone r.events a b → HasNoSchedule r a b
   unfound : IsNeverShownInOrder r.events a b → IsTurned r.events a b 1048576 None → HasNoSchedule r a b
 
--- a row of this sort needs no picture behind so many rows: it is no race, or 200 rows come before it
+-- a row of this sort needs no picture after `before` rows: it is no race, or 200 rows come before it
 abbrev pub NeedsNoPicture : Sort → ℕ → Type 0
 NeedsNoPicture sort before = (is_sort sort RaceSort ≡ false) ⊎ (200 ≤ before)
 
@@ -93,8 +93,8 @@ pub record IsEnd (r : Recording) (vs : List Verdict) (text : List ℕ) : Type 0 
   pub begun : IsPiece left
   pub ended : IsPiece behind
 
--- The text is a page of the trace at this path with these rows; `vs` are the verdicts on all pairs of locations. It begins with the head, which has
--- the policy, and with its first line, which says how many races are told, of which file, and what was left out. At its end stand the counts of the whole trace.
+-- The text is a page of the trace at this path with these rows; `vs` are the verdicts on all pairs of locations. It begins with the head, which has the policy,
+-- and with its first line, which says how many races were chosen, of which file, and what was left out. At its end are the counts of the whole trace.
 pub record IsPage (r : Recording) (vs : List Verdict) (races : ℕ) (left : LeftOut) (path text : List ℕ) (rows : List Shown) : Type 0 where
   pub file : List ℕ
   pub named : IsFileOf path file
@@ -104,7 +104,7 @@ pub record IsPage (r : Recording) (vs : List Verdict) (races : ℕ) (left : Left
   pub made : AreParts r parts rows
   pub closed : IsEnd r vs end
 
--- what was left out of what is told
+-- what was left out of the chosen verdicts
 abbrev pub left_of : Chosen → LeftOut
 left_of chosen = record {
   known = chosen.known;

@@ -44,8 +44,8 @@ guarded_words name = concat (escaped (codes "apart: both threads hold ") ∷ esc
 abbrev pub guarded_line : Recording → ℕ → List ℕ
 guarded_line r l = guarded_words (slice_index_or r.locks l [])
 
--- The line of two events that are apart, by the first of these that holds: a is must-before b; both threads hold a lock, of which the least
--- is named; neither.
+-- The line of two events that are apart, by the first case that holds: a is must-before b; both threads hold a lock, of which the least is
+-- named; neither.
 pub data IsApartLine (r : Recording) (a b : ℕ) (text : List ℕ) : Type 0 where
   forced : IsForced r.events a b → text ≡ forced_line a b → IsApartLine r a b text
   guarded :

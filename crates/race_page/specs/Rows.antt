@@ -1,4 +1,4 @@
--- Which rows a page has, and what stands beside each. `r` is the recording of its trace.
+-- Which rows a page has, and what is shown beside each. `r` is the recording of its trace.
 use Rattle.std.specs.Prelude.{ℕ, Bool, true, false, cond, List, [], ◌++◌, map, take, slice_get, codes, bytes_eq, Option, Some, None, option_and_then, option_map}
 use Rattle.std.specs.List.{filter}
 use Rattle.followed_races.specs.Choosing.{told_at}
@@ -25,7 +25,7 @@ outcome_sort (RaceOutcome how events threads) = Race
 outcome_sort (UndecidedOutcome tried) = Undecided
 outcome_sort ApartOutcome = Apart
 
--- how races came out that were followed, where there is a file of that
+-- how followed races came out, if there is a file of followed races
 abbrev pub followed_in : About → Option (List Followed)
 followed_in about = option_map (λ fs. fs.now) about.followed
 
@@ -51,12 +51,12 @@ abbrev pub entry_seen : Option Followed → Seen
 entry_seen None = NotFollowed
 entry_seen (Some f) = cond (bytes_eq f.ended.items (codes "departed")) Departed (memory_seen f.same_memory f.matters)
 
--- what stands beside accesses at these two locations
+-- what is shown beside accesses at these two locations
 abbrev pub seen_on : Option (List Followed) → List ℕ → List ℕ → Seen
 seen_on None here there = Unasked
 seen_on (Some fs) here there = entry_seen (entry_on (Some fs) here there)
 
--- what stands beside a row of this sort: only a race has something
+-- what is shown beside a row of this sort: only a race has something
 abbrev pub sort_seen : Sort → Seen → Seen
 sort_seen Race seen = seen
 sort_seen Undecided seen = Unasked
@@ -66,11 +66,11 @@ sort_seen Apart seen = Unasked
 abbrev pub entry_at : Recording → Option (List Followed) → ℕ → ℕ → Option Followed
 entry_at r told a b = entry_on told (location_at r a) (location_at r b)
 
--- what stands beside a race of events a and b
+-- what is shown beside a race of events a and b
 abbrev pub seen_at : Recording → Option (List Followed) → ℕ → ℕ → Seen
 seen_at r told a b = seen_on told (location_at r a) (location_at r b)
 
--- what stands beside the row of a verdict
+-- what is shown beside the row of a verdict
 abbrev pub seen_beside : Recording → Option (List Followed) → Verdict → Seen
 seen_beside r told v = sort_seen (outcome_sort v.outcome) (seen_at r told v.first v.second)
 
@@ -90,7 +90,7 @@ is_sort _ _ = false
 abbrev pub is_of : Sort → Verdict → Bool
 is_of sort v = is_sort (outcome_sort v.outcome) sort
 
--- the rows of these verdicts: as many as a page has of a sort
+-- the rows of the verdicts: as many as a page has of a sort
 abbrev pub rows_of : Recording → Option (List Followed) → List Verdict → List Shown
 rows_of r told vs = map (row_of r told) (take row_limit vs)
 

@@ -72,7 +72,7 @@ lock_text r l = name_by (slice_get r.locks l)
 abbrev pub next_lock : Recording → ℕ → List ℕ
 next_lock r l = escaped (codes ", ") ++ lock_text r l
 
--- the same for each of these locks
+-- the same for each lock of the list
 abbrev pub more_locks : Recording → List ℕ → List ℕ
 more_locks r ls = flat_map (next_lock r) ls
 

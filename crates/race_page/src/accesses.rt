@@ -93,7 +93,7 @@ fn write_locks(piece: &mut Piece, analysis: &Analysis<'_>, event: u32) -> Result
     Ok(())
 }
 
-/// Writes the names of these locks, or `none`.
+/// Writes the names of the locks, or `none`.
 fn write_held(piece: &mut Piece, indexed: &Indexed, locks: &[u32]) -> Result<(), OutOfMemory>
     ensures { Written result piece.old piece.new (locks_text indexed.now locks.now) }
 {
@@ -106,7 +106,7 @@ fn write_held(piece: &mut Piece, indexed: &Indexed, locks: &[u32]) -> Result<(),
     }
 }
 
-/// Writes a comma and the name, for each of these locks.
+/// Writes a comma and the name, for each lock.
 fn write_more(piece: &mut Piece, indexed: &Indexed, locks: &[u32]) -> Result<(), OutOfMemory>
     ensures { Written result piece.old piece.new (more_locks indexed.now locks.now) }
 {

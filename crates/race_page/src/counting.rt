@@ -44,7 +44,7 @@ pub(crate) const UNDECIDED: &[u8] = b"pairs of places that the search left open"
 
 pub(crate) const APART: &[u8] = b"pairs of places whose pairs of events are all guarded or forced";
 
-/// Appends the table of these counts.
+/// Appends the table of the counts.
 pub(crate) fn append_counts(out: &mut Vec<u8>, totals: &Totals) -> Result<(), OutOfMemory>
     ensures { Appended result out.old out.new (counts_text totals.now) }
 {

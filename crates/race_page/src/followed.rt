@@ -1,4 +1,4 @@
-//! What was found when a race was followed on the real program. The texts come from a file, and nothing of them is
+//! What was found when a race was followed on the real program. The texts come from a file, and nothing about them is
 //! proved.
 use crate::about::About;
 use crate::own::{Part, Tag};
@@ -21,7 +21,7 @@ const ELSEWHERE: &[u8] =
     b"The two locations are those of this race, and the events are not. The file is of another recording, or of another triage \
 of this one.";
 
-/// Writes how to read the words beside races, and how many lines the file of followed races has. Writes nothing if
+/// Writes how to read the text beside a race, and how many lines the file of followed races has. Writes nothing if
 /// there is no such file.
 pub(crate) fn write_beside(piece: &mut Piece, about: About<'_>) -> Result<(), OutOfMemory> {
     match about.followed {

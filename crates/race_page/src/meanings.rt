@@ -1,4 +1,4 @@
-//! What the words on a page mean.
+//! What the terms on a page mean.
 use crate::own::Tag;
 use crate::piece::{Item, Piece};
 use rapid_text::OutOfMemory;
@@ -20,7 +20,7 @@ const FOLLOWED: &[u8] =
 order not known, if its output varies by itself; other memory, if the two accesses were on different memory; departed, if the run went \
 another way than the schedule; not followed, if the file has no line on it. This is what runs showed, and no proof rests on it.";
 
-/// Writes the meaning of the words. If there are followed races, writes also that of the words beside them.
+/// Writes the meaning of the terms. If there are followed races, writes also what the text beside a race means.
 pub(crate) fn write_meanings(piece: &mut Piece, are_followed: bool) -> Result<(), OutOfMemory> {
     piece.write(&[
         Item::Begin(Tag::Section),

@@ -57,7 +57,7 @@ fn write_undecided(piece: &mut Piece, tried: u32) -> Result<(), OutOfMemory>
     ])
 }
 
-/// The line for so many pairs that were tried.
+/// The line of an undecided pair of locations after `tried` tries.
 fn words_of(tried: u32) -> &'static [u8]
     ensures { result.now ≡ undecided_line tried }
 {

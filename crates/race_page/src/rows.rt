@@ -27,8 +27,8 @@ pub const MOST_ROWS: usize = 2_000;
 /// The most pictures on a page. The first races have them.
 pub const MOST_PICTURES: usize = 200;
 
-/// Writes a row for each of the first `MOST_ROWS` verdicts. Of these, the first `MOST_PICTURES` get a picture if they
-/// are races.
+/// Writes a row for each of the first `MOST_ROWS` verdicts. The first `MOST_PICTURES` rows get a picture if they are
+/// races.
 pub(crate) fn write_rows(
     page: &mut Page<'_>,
     piece: &mut Piece,

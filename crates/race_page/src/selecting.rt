@@ -59,7 +59,7 @@ pub(crate) fn entry_of<'a>(
     }
 }
 
-/// What an entry says of a race, or that there is no entry.
+/// What an entry says of a race, or that no entry is on the race.
 fn seen_by(found: Option<&Followed>) -> Seen
     ensures { result ≡ entry_seen (option_map (λ f. f.now) found.entry) }
 {
@@ -94,7 +94,7 @@ fn order_of(matters: Option<bool>) -> Seen
     }
 }
 
-/// The word beside a race of these two events.
+/// The word beside a race of the two events.
 fn race_seen(about: About<'_>, indexed: &Indexed, first: u32, second: u32) -> Seen
     ensures { result ≡ seen_at indexed.now (followed_in about.entry) first second }
 {

@@ -32,8 +32,8 @@ use rapid_text::OutOfMemory;
 /// for each that is apart. Each sort has at most 2,000 rows, and the first 200 races have a picture; a line says how
 /// many are left out.
 ///
-/// Then come the eleven counts of the whole trace, and the meaning of the words. If `about` has followed races, each
-/// race has a word beside it. If memory runs out, `out` stays as it was.
+/// Then come the eleven counts of the whole trace, and what the terms mean. If `about` has followed races, each race
+/// has a word beside it. If memory runs out, `out` stays as it was.
 pub fn page_text(
     analysis: &Analysis<'_>,
     verdicts: &Verdicts,
@@ -43,8 +43,8 @@ pub fn page_text(
     out: &mut Vec<u8>,
 ) -> Result<(), OutOfMemory>
     // What is appended is a page with a row for each chosen verdict, of each sort the first 2,000, and no others. The
-    // first line has the number of all chosen races, also of those without a row. It also has the file's name, and what
-    // was left out.
+    // first line has the number of all chosen races, with or without a row. It also has the file's name, and what was
+    // left out.
     ensures ok { AppendedOne result out.old out.new (IsChosenPage analysis.now verdicts.now chosen.now apart about.entry) }
     ensures err { OnErr result (out.new.items ≡ out.old.items) }
     // The head of each page has the policy `default-src 'none'`: a page fetches nothing and runs nothing.
