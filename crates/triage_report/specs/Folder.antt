@@ -12,7 +12,7 @@ abbrev pub first_by : Option (Vec ℕ Global) → List ℕ → List ℕ
 first_by None name = name
 first_by (Some path) name = path.items
 
--- the first path; the name if there is none
+-- the first path, or the name if there are no paths
 abbrev pub first_path : List (Vec ℕ Global) → List ℕ → List ℕ
 first_path paths name = first_by (slice_get paths 0) name
 

@@ -41,7 +41,7 @@ fn only_path<'a>(paths: &'a [Vec<u8>], name: &'a [u8]) -> &'a [u8]
     }
 }
 
-/// The first path; the name if there is none.
+/// The first path, or the name if there are no paths.
 fn first_path<'a>(paths: &'a [Vec<u8>], name: &'a [u8]) -> &'a [u8]
     ensures { result.now ≡ first_path paths.now name.now }
 {

@@ -18,7 +18,7 @@ json_line d = compact_text d ++ codes "\n"
 abbrev pub verdict_lines : Recording → List Verdict → List ℕ
 verdict_lines r vs = flat_map (λ v. json_line (verdict_object r v)) vs
 
--- how many verdicts were left out, where that is told
+-- how many verdicts were left out, if there is such a number
 abbrev pub left_out_line : List ℕ → Option ℕ → List ℕ
 left_out_line kind None = []
 left_out_line kind (Some n) = json_line (left_out_object kind n)

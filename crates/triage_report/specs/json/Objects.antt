@@ -1,5 +1,5 @@
--- The objects of JSON that tell what was found. `r` is the trace's recording. The members of an object stand in the order of their names. All
--- notions here are this project's own.
+-- The JSON objects for what was found. `r` is the trace's recording. The members of an object are in the order of their names. All notions
+-- here are this project's own.
 use Rattle.std.specs.Prelude.{ℕ, List, [], ◌∷◌, ◌++◌, map, slice_get, slice_index_or, codes, Option, Some, None}
 use Rattle.std.specs.Str.Lossy.{utf8_lossy}
 use Rattle.rapid_text.specs.Canonical.{name_at}
@@ -95,7 +95,7 @@ access_by r e None = []
 access_by r e (Some v) =
     access_object e (lock_names r (held_locks r e)) (slice_index_or r.locations e []) (op_word v.op) (name_at r.threads v.thread) (op_name r v.op) ∷ []
 
--- event e as an access; nothing where there is none
+-- event e as an access; nothing if there is no such event
 abbrev pub access_at : Recording → ℕ → List Data
 access_at r e = access_by r e (slice_get r.events e)
 
@@ -108,7 +108,7 @@ how_word Candidate = codes "candidate"
 how_word Beyond = codes "beyond"
 how_word Turned = codes "turned"
 
--- a race that a schedule of so many events, of so many threads, shows; of so many pairs and variables
+-- a race that a schedule of `events` events of `threads` threads shows; it has `pairs` pairs and `variables` variables
 abbrev pub race_object : How → ℕ → ℕ → ℕ → ℕ → Data → Data
 race_object how events threads pairs variables both =
     object
@@ -121,7 +121,7 @@ race_object how events threads pairs variables both =
     (member (codes "variables") (whole variables)
     no_members)))))))
 
--- what is undecided, of so many tries
+-- what is undecided after `tried` tries
 abbrev pub undecided_object : ℕ → ℕ → ℕ → Data → Data
 undecided_object tried pairs variables both =
     object
@@ -146,7 +146,7 @@ outcome_object (Race how events threads) pairs variables both = race_object how 
 outcome_object (Undecided tried) pairs variables both = undecided_object tried pairs variables both
 outcome_object Apart pairs variables both = apart_object pairs both
 
--- the object of a verdict whose accesses are told so
+-- the object of a verdict, with `both` for its accesses
 abbrev pub told_object : Verdict → Data → Data
 told_object v both = outcome_object v.outcome (pairs_by v.outcome v.row.counts) v.variables both
 

@@ -1,4 +1,5 @@
--- What is said of an access: its place, thread, verb and variable. `r` is the trace's recording. All notions here are this project's own.
+-- What a line says of an access: its place, thread, verb and variable. `r` is the trace's recording. All notions here are this project's
+-- own.
 use Rattle.std.specs.Prelude.{ℕ, ◌==◌, cond, List, [], length, slice_get, codes, Option, Some, None}
 use Rattle.rapid_text.specs.Canonical.{name_at}
 use Rattle.rapid_text.specs.Recording.{Recording}

@@ -94,7 +94,7 @@ access_by r f place e (Some v) =
 abbrev pub access_lines : Recording → Folder → List ℕ → ℕ → List ℕ
 access_lines r f place e = access_by r f place e (slice_get r.events e)
 
--- why it is said
+-- the reason for the verdict
 abbrev pub reason_words : Outcome → List ℕ
 reason_words (Race how events threads) = race_words events threads
 reason_words (Undecided tried) = undecided_words tried

@@ -2,17 +2,17 @@
 use Rattle.std.specs.Prelude.{ℕ, nat_eq, cond, List, [], ◌∷◌, codes, decimal}
 use Rattle.std.specs.List.{concat}
 
--- the end of the word for so many things
+-- the plural ending of a word for n things
 abbrev pub plural_end : ℕ → List ℕ
 plural_end n = cond (nat_eq n 1) [] (codes "s")
 
--- a schedule of so many events, of so many threads, shows it
+-- a schedule of `events` events of `threads` threads shows it
 abbrev pub race_words : ℕ → ℕ → List ℕ
 race_words events threads =
     concat (codes "a schedule of " ∷ decimal events ∷ codes " event" ∷ plural_end events ∷ codes " of " ∷ decimal threads ∷ codes " thread"
     ∷ plural_end threads ∷ codes " shows it" ∷ [])
 
--- so many pairs of events were tried
+-- no schedule was found for `tried` pairs of events
 abbrev pub undecided_words : ℕ → List ℕ
 undecided_words tried = concat (codes "no schedule was found for " ∷ decimal tried ∷ codes " pair" ∷ plural_end tried ∷ codes " of events" ∷ [])
 

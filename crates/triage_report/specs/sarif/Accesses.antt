@@ -1,4 +1,5 @@
--- What is said of an access: its thread, what that does, the variable and the location. All notions here are this project's own.
+-- What a result says of an access: its thread, what that does, the variable and the location. All notions here are this
+-- project's own.
 use Rattle.std.specs.Prelude.{ℕ, List}
 use Rattle.rapid_text.specs.Recording.{Recording}
 use Rattle.triage_report.specs.lines.Accesses.{thread_at, variable_at, verb_at}

@@ -28,7 +28,7 @@ use Rattle.triage_report.specs.declared.sarif.flows.TheConstants.{MOST_ORDER, MO
 abbrev pub of_flow : {X : Type 0} → (Recording → Folder → List ℕ → X) → Flow → X
 of_flow told f = told f.indexed.now f.root.now f.steps.now
 
--- the event at this place of the schedule; 0 if there is none
+-- the event at this place of the schedule; 0 if the schedule is shorter
 abbrev pub step_at : List ℕ → ℕ → ℕ
 step_at steps at = slice_index_or steps at 0
 
@@ -62,7 +62,7 @@ step r root steps at =
 abbrev pub steps_at : Recording → Folder → List ℕ → List ℕ → Data
 steps_at r root steps places = array (items_of (map (step r root steps) places))
 
--- how many steps there are, and whether all are told
+-- how many steps there are, and whether all are listed
 abbrev pub count_words : ℕ → List ℕ
 count_words count =
     cond (nat_lt MOST_STEPS count) (concat (codes "steps: the last " ∷ decimal MOST_STEPS ∷ codes " of " ∷ decimal count ∷ []))
@@ -75,7 +75,7 @@ count_members count ms = put (codes "message") (message (count_words count)) ms
 abbrev pub thread_name : Recording → ℕ → List ℕ
 thread_name r u = name_at r.threads u
 
--- the flow of thread u, with steps at these places: the last of them
+-- the flow of thread u, with its steps at the last `MOST_STEPS` places
 abbrev pub thread_flow : Recording → Folder → List ℕ → ℕ → List ℕ → Data
 thread_flow r root steps u places =
     object

@@ -1,4 +1,4 @@
--- Locations as objects: a file and a line, a function, and what is said of them. `root` is the folder of the code. All notions here are this project's own.
+-- Locations as objects: a file and a line, a function, and a message. `root` is the folder of the code. All notions here are this project's own.
 use Rattle.std.specs.Prelude.{ℕ, ◌==◌, ◌||◌, nat_lt, Bool, cond, List, [], ◌∷◌, length, codes}
 use Rattle.serde_json.specs.Data.{Data, array, item, member, no_items, no_members, object, put, string, Members}
 use Rattle.triage_report.specs.json.Objects.{text, whole}
@@ -13,7 +13,7 @@ use Rattle.triage_report.specs.declared.folder.Folder.{Folder}
 abbrev pub single : Data → Data
 single d = array (item d no_items)
 
--- what is said
+-- a message
 abbrev pub message : List ℕ → Data
 message words = object (member (codes "text") (text words) no_members)
 
@@ -52,7 +52,7 @@ physical root place = object (region_members (line_of place) (member (codes "art
 abbrev pub physical_members : Folder → List ℕ → Members → Members
 physical_members root place ms = cond (is_line place) (put (codes "physicalLocation") (physical root place) ms) ms
 
--- a location: a place, a function, and what is said of it
+-- a location: a place, a function, and a message about it
 abbrev pub location : Folder → List ℕ → List ℕ → List ℕ → Data
 location root place function words = object (physical_members root place (function_members function (member (codes "message") (message words) no_members)))
 

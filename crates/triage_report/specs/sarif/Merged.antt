@@ -69,7 +69,7 @@ is_window name = bytes_eq (after_last is_blank (before_last is_blank name)) (cod
 abbrev pub window_words : List ℕ → List ℕ
 window_words name = cond (is_window name) (concat (codes ". Window: racebench cut " ∷ name ∷ [])) []
 
--- what is said of a pair of places whose row has this value
+-- the message about a pair of places whose row has this value
 abbrev pub merged_words : ℕ → Shown → Data → List ℕ
 merged_words parts p d = pair_words p.rank d ++ row_words p.rank d ++ tally_words parts p ++ origin_words p d ++ window_words p.part
 
@@ -84,6 +84,6 @@ merged_object parts s p = row_object parts s p (data_in p.line)
 abbrev pub merged_objects : ℕ → Sources → List Pair → List Data
 merged_objects parts s ps = map (λ p. merged_object parts s (pair_shown p)) ps
 
--- The whole log of so many parts. It counts the known races that were left out, and what filters left out, if there are such numbers.
+-- The whole log of `parts` parts. It counts the known races that were left out, and what filters left out, if there are such numbers.
 abbrev pub merged_log : ℕ → Sources → List Pair → Option ℕ → Option ℕ → List ℕ
 merged_log parts s ps known hidden = HEAD.now ++ joined (merged_objects parts s ps) ++ rest_text s.root.now known hidden

@@ -43,7 +43,7 @@ abbrev pub text_by : Option SourceLine → List ℕ
 text_by None = []
 text_by (Some line) = line.text.items
 
--- what the line of this number among them says; nothing if there is none
+-- the text of the line with this index; nothing if there is no such line
 abbrev pub text_at : List SourceLine → ℕ → List ℕ
 text_at lines at = text_by (slice_get lines at)
 
@@ -59,6 +59,6 @@ is_at place line = bytes_eq line.place.items place
 abbrev pub line_at : List SourceLine → List ℕ → Option ℕ
 line_at lines place = position (is_at place) lines
 
--- what the first line at this place says; nothing if there is none
+-- the text of the first line at this place; nothing if no line is at this place
 abbrev pub line_text : List SourceLine → List ℕ → List ℕ
 line_text lines place = text_if lines (line_at lines place)

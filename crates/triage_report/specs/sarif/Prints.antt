@@ -1,5 +1,5 @@
--- What tells a pair from another, although its lines have moved: for each access its file, its function, its variable and what its line says. All
--- notions here are this project's own.
+-- What distinguishes a pair from another, even if its lines have moved: for each access its file, its function, its variable and what its line
+-- says. All notions here are this project's own.
 use Rattle.std.specs.Prelude.{ℕ, List, [], ◌∷◌, codes}
 use Rattle.std.specs.List.{concat}
 use Rattle.std.specs.Ordering.{nat_cmp, match_ordering}

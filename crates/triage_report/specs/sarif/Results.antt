@@ -23,7 +23,7 @@ word_members rank ms =
     (put (codes "level") (string (level_word rank))
     (put (codes "kind") (string (kind_word rank)) ms)))
 
--- what is said of the pair
+-- the message about the pair
 abbrev pub said_members : List ℕ → Members → Members
 said_members words ms = put (codes "message") (message words) ms
 
@@ -42,7 +42,7 @@ access_members root t u ms =
 abbrev pub print_members : Sources → Told → Told → Members → Members
 print_members s t u ms = put (codes "partialFingerprints") (print_object s t u) ms
 
--- what every result has: the rule by the rank, what is said, the accesses and the fingerprint
+-- what every result has: the rule by the rank, the message, the accesses and the fingerprint
 abbrev pub found_members : Sources → ℕ → List ℕ → Told → Told → Members → Members
 found_members s rank words t u ms = print_members s t u (access_members s.root.now t u (said_members words (word_members rank ms)))
 
@@ -50,7 +50,7 @@ found_members s rank words t u ms = print_members s t u (access_members s.root.n
 abbrev pub found_told : Sources → Found → Members → Members
 found_told s f ms = found_members s f.rank f.words.now (access_told f.first) (access_told f.second) ms
 
--- the code flow of these steps
+-- the code flow of the steps
 abbrev pub step_members : Recording → Folder → List ℕ → Members → Members
 step_members r root steps ms = put (codes "codeFlows") (single (code_flow r root steps)) ms
 

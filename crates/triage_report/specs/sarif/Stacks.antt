@@ -50,7 +50,7 @@ frame d = object (member (codes "location") d no_members)
 abbrev pub own_frame : Folder → Told → Data
 own_frame root t = frame (told_location root t)
 
--- what is said of a call of this function
+-- the message about a call of this function
 abbrev pub caller_words : List ℕ → List ℕ
 caller_words function = cond (length function == 0) (codes "a call") function
 
@@ -62,7 +62,7 @@ call_frame root call = frame (location root (call_place call) (call_function cal
 abbrev pub frames : Folder → Told → Data
 frames root t = array (items_of (own_frame root t ∷ map (call_frame root) (calls_in MAX_CALLS (callers t.location))))
 
--- what is said of an access
+-- the message about an access
 abbrev pub said_members : Told → Members → Members
 said_members t ms = put (codes "message") (message (access_words t)) ms
 

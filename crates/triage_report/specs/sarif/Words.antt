@@ -1,5 +1,5 @@
--- What is said of an access and of a pair. A rank is 0 for a race, 1 for what is undecided, 2 for what is apart. `r` is the trace's recording. All
--- notions here are this project's own.
+-- The messages about an access and about a pair. A rank is 0 for a race, 1 for what is undecided, 2 for what is apart. `r` is the trace's
+-- recording. All notions here are this project's own.
 use Rattle.std.specs.Prelude.{ℕ, nat_eq, cond, List, [], ◌∷◌, ◌++◌, codes, decimal}
 use Rattle.std.specs.List.{concat}
 use Rattle.rapid_text.specs.Recording.{Recording}
@@ -47,7 +47,7 @@ title_words rank u = concat (found_words rank ∷ codes " on " ∷ u.variable �
 abbrev pub both_words : Told → Told → List ℕ
 both_words t u = access_words u ++ codes ", and " ++ access_words t ++ codes "; "
 
--- why it is said
+-- the reason for the verdict
 abbrev pub reason_words : Outcome → List ℕ
 reason_words (Race how events threads) = race_words events threads
 reason_words (Undecided tried) = undecided_words tried
@@ -57,7 +57,7 @@ reason_words Apart = apart_words
 abbrev pub more_words : Verdict → List ℕ
 more_words v = concat (codes ". More: racebench explain TRACE " ∷ decimal v.first ∷ codes " " ∷ decimal v.second ∷ [])
 
--- what is said of a pair
+-- the message about a pair
 abbrev pub message_words : Recording → Verdict → List ℕ
 message_words r v =
     title_words (outcome_rank v.outcome) (told_at r v.second) ++ both_words (told_at r v.first) (told_at r v.second) ++ reason_words v.outcome ++ more_words v

@@ -110,7 +110,7 @@ fn locks_of(alloc: Global, analysis: &Analysis<'_>, event: u32) -> Result<Value,
     names_of(alloc, analysis.indexed(), locks.as_slice())
 }
 
-/// The list of the names of these locks.
+/// The list of the names of the locks.
 fn names_of(alloc: Global, indexed: &Indexed, locks: &[u32]) -> Result<Value, OutOfMemory>
     ensures { MadeAs result (lock_names indexed.now locks.now) }
 {

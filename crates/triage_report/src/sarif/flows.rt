@@ -30,7 +30,7 @@ pub(crate) struct Flow<'a> {
     pub(crate) steps: &'a [u32],
 }
 
-/// The code flow of these steps.
+/// The code flow of the steps.
 pub(crate) fn flow_of(alloc: Global, flow: Flow<'_>) -> Result<Value, OutOfMemory>
     ensures { MadeAs result (of_flow code_flow flow.entry) }
 {
@@ -110,7 +110,7 @@ fn is_step(indexed: &Indexed, steps: &[u32], thread: u32, at: usize) -> bool
     }
 }
 
-/// The event at this place of the schedule; 0 if there is none.
+/// The event at this place of the schedule; 0 if the schedule is shorter.
 fn step_at(steps: &[u32], at: usize) -> u32
     ensures { result ≡ step_at steps.now at }
 {

@@ -240,7 +240,7 @@ fn append_tally(out: &mut Vec<u8>, parts: usize, pair: Pair<'_>) -> Result<(), O
     )
 }
 
-/// The words before the events and the part of a row of this rank.
+/// What comes before the events and the part of a row of this rank.
 fn from_words(rank: u8) -> &'static [u8]
     ensures { result.now ≡ from_words rank }
 {

@@ -150,7 +150,7 @@ fn put_print(
     Ok(())
 }
 
-/// Puts the code flow of these steps, if there are any.
+/// Puts the code flow of the steps, if there are any.
 fn put_flow(
     members: &mut Map<String, Value>,
     alloc: Global,
@@ -166,7 +166,7 @@ fn put_flow(
     }
 }
 
-/// Puts the code flow of these steps.
+/// Puts the code flow of the steps.
 fn put_steps(
     members: &mut Map<String, Value>,
     alloc: Global,

@@ -43,7 +43,7 @@ fn is_at(line: &SourceLine, place: &[u8]) -> bool
     line.place.as_slice() == place
 }
 
-/// The text of the line with this index; empty if there is none.
+/// The text of the line with this index; empty if there is no such line.
 fn text_if(lines: &[SourceLine], at: Option<usize>) -> &[u8]
     ensures { result.now ≡ text_if lines.now at }
 {

@@ -1,4 +1,4 @@
-//! The words for an access, and for a pair. A rank is 0 for a race, 1 for what is undecided, 2 for what is apart.
+//! The text about an access, and about a pair. A rank is 0 for a race, 1 for what is undecided, 2 for what is apart.
 ghost use Rattle.std.specs.Prelude.{◌≡◌};
 ghost use Rattle.rapid_text.specs.Appended.{Appended};
 ghost use Rattle.triage_report.specs.lines.Accesses.{spot};
@@ -140,7 +140,7 @@ pub(crate) fn append_title(
     )
 }
 
-/// The words for what was found.
+/// The text for what was found.
 fn found_words(rank: u8) -> &'static [u8]
     ensures { result.now ≡ found_words rank }
 {
