@@ -35,8 +35,8 @@ IfUnwritten P fault = fault ≡ Replay Write → P
 abbrev pub IsOfInput : ℕ → SessionFault → Type 0
 IsOfInput number fault = (input : ℕ) (why : ReadCause) → fault ≡ Replay (Read input why) → input ≡ number
 
--- The calls of these lines are made from the log L on. The first line that adds no entry has this number in the file.
--- The head is line 1, and each entry of L has a line.
+-- The calls of `lines` are made from the log L on. The first line that adds no entry has this number in the file. The
+-- head is line 1, and each entry of L has a line.
 pub record IsFirstRefused (T : Recording) (L : List Entry) (lines : List (List ℕ)) (number : ℕ) : Type 0 where
   pub before : List (List ℕ)
   pub line : List ℕ
@@ -103,8 +103,8 @@ IsPrintFault (Replay fault) = ⊥
 IsPrintFault (LogLine number) = number ≡ 1
 IsPrintFault OtherTrace = ⊥
 
--- the fault of a block that was not added: out of memory if there was no memory for the block or in the device, else
--- a failed write, for whatever reason
+-- the fault of a block that was not added: out of memory if there was no memory for the block or in the device, else a
+-- failed write, for any reason
 abbrev pub IsWriteFault : AppendError → SessionFault → Type 0
 IsWriteFault NoRoom fault = fault ≡ Replay NoMemory
 IsWriteFault Full fault = fault ≡ Replay Write

@@ -33,8 +33,8 @@ LinesAreScript =
     × (log_left T [] asked ≡ log_of T lines)
     × (tally_of T asked ≡ all_accepted (length lines))
 
--- Take a replay of these lines on the trace, from two inputs or from a joint one. If it ends without a fault, it has
--- made exactly these calls.
+-- Take a replay of `lines` on the trace, from two inputs or from a joint one. If it ends without a fault, it has made
+-- exactly the calls of `lines`.
 abbrev pub ReplayLeavesLog : Type 0
 ReplayLeavesLog =
     (T : Recording) (lines : List (List ℕ)) (t : Texts) (old new : Option (List ℕ)) (tally : Tally)

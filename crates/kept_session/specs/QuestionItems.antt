@@ -59,7 +59,7 @@ run_of (suc n) T P t last = run_from T P last (next_of T P t) (λ e. run_of n T 
 abbrev pub all_items : Recording → List ℕ → List ℕ
 all_items r P = thread_items r.events P (length r.threads)
 
--- A thread of the recording went on after P, up to `last`. Now the events are Q; `run` is the number of those that
--- were added, and the event that cannot be added.
+-- A thread of the recording went on after P, up to `last`. Now the events are Q; `run` has the number of added events,
+-- and the event that cannot be added.
 abbrev pub RunsOn : Recording → List ℕ → List ℕ → ℕ → ℕ → ℕ × Option ℕ → Type 0
 RunsOn r P Q t last run = run_of (length r.events) r.events P t last ≡ (run.0, item_of r.events Q run.1)

@@ -9,13 +9,13 @@ use Rattle.explain_report.specs.declared.findings.finding.Finding.{Finding}
 use Rattle.explain_report.specs.declared.findings.finding.Finding.TheVariants.{Race, Forced, Guarded, Undecided}
 use Rattle.report.specs.Pieces.{spaced}
 
--- the words for how a race was found
+-- the text for how a race was found
 abbrev pub how_words : How → List ℕ
 how_words Candidate = codes "witness candidate"
 how_words Beyond = codes "witness beyond"
 how_words Turned = codes "witness turned"
 
--- the answer for a finding: the events of the schedule, or the reason why there is none
+-- the answer for a finding: the events of the schedule, or the reason why the answer has no schedule
 abbrev pub found_line : Finding → List ℕ
 found_line (Race how events) = how_words how ++ spaced events ++ codes "\n"
 found_line (Forced chains) = codes "refused 99 not shown: forced\n"

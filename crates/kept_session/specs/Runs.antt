@@ -37,13 +37,13 @@ module _ {D : Type 0} (disk : Ghosts D) (T : Recording) (client : Option ℕ) wh
     one_more : (raws more : List (List ℕ)) (text answers : List ℕ) (log new : KeptLog D) → AreTurns number old raws text log → IsLogTurn (number_behind number raws) more log new answers
         → AreTurns number old (raws ++ more) (text ++ answers) new
 
-  -- The first lines of these bytes were answered in turns, with this text as their answers. The other lines are left.
+  -- The first lines of `bytes` were answered in turns, with this text as their answers. The other lines are left.
   pub record IsRun (number : ℕ) (old new : KeptLog D) (bytes : List ℕ) (left : List (List ℕ)) (text : List ℕ) : Type 0 where
     pub asked : List (List ℕ)
     pub turns : AreTurns number old asked text new
     pub split : slice_split is_line_feed bytes ≡ asked ++ left
 
-  -- All lines of these bytes were answered, and the answers were written. An empty last line needs no answer.
+  -- All lines of `bytes` were answered, and the answers were written. An empty last line needs no answer.
   pub record IsFinished (number : ℕ) (old new : KeptLog D) (bytes : List ℕ) (taken_old taken_new : Option (List ℕ)) : Type 0 where
     pub text : List ℕ
     pub left : List (List ℕ)
@@ -52,9 +52,9 @@ module _ {D : Type 0} (disk : Ghosts D) (T : Recording) (client : Option ℕ) wh
     pub written : Appends taken_old taken_new text
 
   -- A fault after turns that left `log`. Their answers, `text`, were written, and nothing else was. The fault may have
-  -- ended a turn for the first of the lines left. That turn lost no line, and the file has the lines of all its calls
-  -- or of none. It has none of them unless a write failed. The fault is a failed read of the file only if an operation on
-  -- the file failed. So it is with a failed write, unless the file would have been too long with the lines of the turn.
+  -- ended a turn for the first of the lines left. That turn lost no line, and the file has the lines of all its calls or
+  -- of none. Unless a write failed, it has none. The fault is a failed read of the file only if an operation on the file
+  -- failed. So it is with a failed write, unless the file would have been too long with the lines of the turn.
   pub record IsUnanswered (number : ℕ) (log new : KeptLog D) (text : List ℕ) (left : List (List ℕ)) (failed : Bool) (taken_old taken_new : Option (List ℕ)) (fault : SessionFault) : Type 0 where
     pub more : List (List ℕ)
     pub beyond : List (List ℕ)
@@ -83,8 +83,8 @@ module _ {D : Type 0} (disk : Ghosts D) (T : Recording) (client : Option ℕ) wh
     pub broken : failed ≡ true
     pub told : fault ≡ Replay Write
 
-  -- A fault. The first lines of these bytes were answered in turns, and their answers were written. If input 3 could
-  -- not be read on, only one line is left, and it has no end.
+  -- A fault. The first lines of `bytes` were answered in turns, and their answers were written. If input 3 could not be
+  -- read on, only one line is left, and it has no end.
   pub record IsHalted (number : ℕ) (old new : KeptLog D) (bytes : List ℕ) (failed : Bool) (taken_old taken_new : Option (List ℕ)) (fault : SessionFault) : Type 0 where
     pub log : KeptLog D
     pub text : List ℕ

@@ -31,12 +31,12 @@ log_by T L reading = L
 abbrev pub log_with : Recording → List Entry → List ℕ → List Entry
 log_with T L line = log_by T L (script_line_reading line)
 
--- the log after the calls of these lines, made one after another from L on
+-- the log after the calls of the lines, made one after another from L on
 abbrev pub log_behind : Recording → List Entry → List (List ℕ) → List Entry
 log_behind T L [] = L
 log_behind T L (line ∷ lines) = log_behind T (log_by T L (script_line_reading line)) lines
 
--- The log that the lines of a file give: the log after a replay of them. So the lines determine the log.
+-- The log that the lines of a file give: the log after their replay. So the lines determine the log.
 abbrev pub log_of : Recording → List (List ℕ) → List Entry
 log_of T lines = log_behind T [] lines
 
@@ -57,7 +57,7 @@ line_fault number why = codes "line " ++ decimal number ++ codes ": " ++ unwrap_
 abbrev pub number_after : ℕ → ℕ
 number_after n = min (n + 1) (2 ^ 64 - 1)
 
--- the number of the line after these lines, if the first of them has number n
+-- the number of the line after the given lines, if the first given line has number n
 abbrev pub number_behind : ℕ → List (List ℕ) → ℕ
 number_behind n [] = n
 number_behind n (raw ∷ more) = number_behind (number_after n) more
@@ -179,7 +179,7 @@ FindsMore disk old new = (disk.seen new ≢ []) × (disk.found new ≡ Some (dis
 abbrev pub KeepsLines : List ℕ → List ℕ → List ℕ → Type 0
 KeepsLines head file c = BeginsWith head (lines_behind (length head) file) c
 
--- the file was empty, and there is no line after the head, whatever head that is
+-- the file was empty, and there is no line after the head, no matter what the head is
 abbrev pub HasNoLines : List ℕ → List ℕ → List ℕ → Type 0
 HasNoLines head file c = (file ≡ []) × (lines_behind (length head) c ≡ [])
 

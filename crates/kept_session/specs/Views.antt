@@ -29,11 +29,11 @@ module _ {D : Type 0} (disk : Ghosts D) where
   abbrev pub IsFree : KeptLog D → Type 0
   IsFree log = disk.is_held log.device ≡ false
 
-  -- no operation on the file has failed meanwhile
+  -- no operation on the file has failed in between
   abbrev pub IsUnfailed : KeptLog D → KeptLog D → Type 0
   IsUnfailed old new = disk.faults new.device ≡ disk.faults old.device
 
-  -- an operation on the file has failed meanwhile
+  -- an operation on the file has failed in between
   abbrev pub IsFailedBetween : KeptLog D → KeptLog D → Type 0
   IsFailedBetween old new = disk.faults old.device < disk.faults new.device
 
@@ -46,7 +46,7 @@ module _ {D : Type 0} (disk : Ghosts D) where
   abbrev pub IsKept : KeptLog D → Type 0
   IsKept log = (c : List ℕ) → disk.may_leave log.device c → BeginsWith (head_of disk log) (lines_of disk log) c
 
-  -- meanwhile a crash at any moment left a file whose lines begin with the known ones
+  -- in between, a crash at any moment left a file whose lines begin with the known ones
   abbrev pub LeavesKnown : KeptLog D → KeptLog D → Type 0
   LeavesKnown old new = LeavesOnly disk old.device new.device (BeginsWith (head_of disk old) (lines_of disk old))
 
@@ -57,7 +57,7 @@ module _ {D : Type 0} (disk : Ghosts D) where
       (file : List ℕ) × (disk.found new.device ≡ Some file ∷ disk.found old.device)
       × IsTurn T client first raws (lines_of disk old) (lines_behind new.start file) (lines_of disk new) M out_old out_new
 
-  -- meanwhile a crash at any moment left a file whose lines begin with those of the log; the device alone is left
+  -- in between, a crash at any moment left a file whose lines begin with those of the log; the device alone is left
   abbrev pub LeavesKnownOn : KeptLog D → D → Type 0
   LeavesKnownOn log device = LeavesOnly disk log.device device (BeginsWith (head_of disk log) (lines_of disk log))
 

@@ -10,7 +10,7 @@ use report::{Piece, append_pieces};
 use sha2::{Digest, Sha256};
 use std::alloc::Global;
 
-/// The words before the digest.
+/// The text before the digest.
 const FORMAT: &[u8] = b"racebench log 1 ";
 
 /// How many hexadecimal digits a digest has.
@@ -49,7 +49,7 @@ fn are_digits(word: &[u8]) -> bool
     word.iter().all(|byte| is_digit(*byte))
 }
 
-/// The text after the head of a log's file, whatever its trace is. Returns None if the file has no head.
+/// The text after the head of a log's file, no matter what its trace is. Returns None if the file has no head.
 pub(crate) fn behind_head(bytes: &[u8]) -> Option<&[u8]>
     ensures some { IfSome result (λ text. IsHeaded bytes.now text.now) }
     ensures none { IfNone result (IsHeadless bytes.now) }

@@ -134,7 +134,7 @@ fn run_pieces<D: Device + Drop, S: Source, K: Sink>(
     ensures in_step { OnOk result (session.new.is_in_step ≡ true) }
     ensures trace { trace_of session.new.bench ≡ trace_of session.old.bench }
 
-    // Without a fault it ends only at the end of the input, and the reader has not failed meanwhile.
+    // Without a fault it ends only at the end of the input, and the reader has not failed during the call.
     ensures end { OnOk result (IsAtEnd (S.rest reader.new)) }
     ensures read { OnOk result (S.has_failed reader.new ≡ S.has_failed reader.old) }
     ensures device { IfErr result (λ fault. fault ≡ input_failed → S.has_failed reader.new ≡ true) }
@@ -186,7 +186,7 @@ pub fn run_session<D: Device + Drop, S: Source, K: Sink>(
     ensures in_step { OnOk result (session.new.is_in_step ≡ true) }
     ensures trace { trace_of session.new.bench ≡ trace_of session.old.bench }
 
-    // Without a fault it ends only at the end of the input, and the reader has not failed meanwhile.
+    // Without a fault it ends only at the end of the input, and the reader has not failed during the call.
     ensures end { OnOk result (IsAtEnd (S.rest reader.new)) }
     ensures read { OnOk result (S.has_failed reader.new ≡ S.has_failed reader.old) }
 

@@ -239,8 +239,8 @@ impl<D: Device + Drop> Session<D> {
         ensures none_lost { LosesNone D.Device self.old.log self.new.log }
 
         // The piece counts whole or not at all, even if the call fails or there is a crash. Either it had no turn, or
-        // the lines of all its calls are there, or none of them. After a fault that is not a failed write, none of
-        // them is there.
+        // the file has the lines of all its calls, or of none. After a fault that is not a failed write, it has none
+        // of their lines.
         ensures all_or_none { (IsErr result × IsAsFound D.Device self.old.log self.new.log) ⊎ IsAllOrNone D.Device
             (trace_of self.old.bench) client first (lines_in piece.now) self.old.log self.new.log }
         ensures unchanged { IfErr result (λ why. why ≢ Replay Write → IsAsFound D.Device self.old.log self.new.log) }
@@ -248,7 +248,7 @@ impl<D: Device + Drop> Session<D> {
         // A turn is answered only if no operation on the file failed: a sync that failed is not tried again.
         ensures sound { OnOk result (IsUnfailed D.Device self.old.log self.new.log) }
 
-        // What was answered is kept. From then on each crash leaves a file whose lines begin with these, whatever
+        // What was answered is kept. From then on each crash leaves a file whose lines begin with these, no matter what
         // other processes do.
         ensures kept { OnOk result (IsKept D.Device self.new.log) }
 

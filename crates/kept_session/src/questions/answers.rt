@@ -21,7 +21,7 @@ use report::{Piece, append_pieces};
 use schedule::Schedule;
 use script_language::Question;
 
-/// Appends that there is no schedule with this name.
+/// Appends the refusal that no schedule has this name.
 fn append_no_schedule(out: &mut Vec<u8>, indexed: &Indexed) -> Result<(), OutOfMemory>
     ensures { Appended result out.old out.new (refusal_text indexed.now (Move NoSuchSchedule)) }
 {

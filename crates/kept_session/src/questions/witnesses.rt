@@ -11,7 +11,7 @@ use must_order::Analysis;
 use rapid_text::OutOfMemory;
 use report::{Piece, append_pieces};
 
-/// The words for how a race was found.
+/// The text for how a race was found.
 fn how_words(how: How) -> &'static [u8]
     ensures { result.now ≡ how_words how }
 {
@@ -47,7 +47,7 @@ fn append_found(out: &mut Vec<u8>, finding: &Finding) -> Result<(), OutOfMemory>
     }
 }
 
-/// Finds a schedule for a pair, or the reason why there is none.
+/// Finds a schedule for a pair, or the reason why none was found.
 fn found_of(
     out: &Vec<u8>,
     indexed: &Indexed,
