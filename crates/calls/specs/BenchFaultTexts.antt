@@ -5,12 +5,12 @@ use Rattle.script_language.specs.declared.refusal.ScriptRefusal.{ScriptRefusal}
 use Rattle.calls.specs.declared.fault.BenchFault.{BenchFault}
 use Rattle.calls.specs.declared.fault.BenchFault.TheVariants.{Replay, Script, NoThread, TooManyScripts, NoSuchEvent, NoName}
 
--- words at a line of a script, which is one of several and counted from 1; want of memory has no place
+-- `words` at a line of a script, which is one of several and counted from 1; running out of memory has no place
 abbrev pub words_in_script : ℕ → ℕ → Option (List ℕ) → List ℕ
 words_in_script place line None = codes "out of memory"
 words_in_script place line (Some words) = codes "script " ++ decimal place ++ codes " line " ++ decimal line ++ codes ": " ++ words
 
--- a script that is refused, of several: which of them, its line, and what is wrong with that
+-- a refused script among several: its number, its line, and what is wrong with the line
 abbrev pub script_refusal_words : ℕ → ScriptRefusal → List ℕ
 script_refusal_words place refusal = words_in_script place refusal.line (script_cause_words refusal.why)
 

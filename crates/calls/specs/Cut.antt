@@ -21,7 +21,7 @@ IsUncut r from NoSuchEvent = length r.events ≤ from
 IsUncut r from NoName = HasNoNewName r
 IsUncut r from fault = ⊥
 
--- the window at this event, of at most so many, is written of the trace that the reader's bytes say
+-- the window at event `from`, of at most `most` events, is written of the trace that the reader's bytes say
 abbrev pub IsCutOut : ℕ → ℕ → Option (List ℕ) → Bool → Option (List ℕ) → Option (List ℕ) → Bool → Result Unit BenchFault → Type 0
 IsCutOut from most rest unread old new unwritten result =
     Answers (λ r text. IsCut r from most text) (λ r fault. IsUncut r from fault) rest unread old new unwritten result

@@ -85,7 +85,7 @@ AllLines (t ∷ told) = IsOk t.1 × AllLines told
 abbrev pub AppendsAll : List Told → List ℕ → List ℕ → Type 0
 AppendsAll told old new = AllLines told × (new ≡ old ++ told_text told)
 
--- if none of these seats was in, and each has its number, all are in
+-- if no seat of `told` was in, and each has its number, all are in
 abbrev pub PutsAllBack : SeatsView → SeatsView → List Told → Type 0
 PutsAllBack old new told =
     (rest : List (Option SeatView)) → Numbered 1 told → old.rows ≡ replicate (length told) None ++ rest

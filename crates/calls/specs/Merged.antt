@@ -37,7 +37,7 @@ IsTaken rest name old new =
     × IfSome rest (λ told. bytes ≡ told) × Gives name bytes given
     × ((q : Vec ℕ Global) → text_at new q ≡ joined (text_at old q) (told_in given q.items))
 
--- The bytes that were read give parts, and each of these is among the parts.
+-- The bytes that were read give parts, and each such part is in `new`.
 abbrev pub AreTakenIn : Option (List ℕ) → List ℕ → Named → Type 0
 AreTakenIn rest name new =
     (bytes : List ℕ) × (given : List (List ℕ × List ℕ)) × IfSome rest (λ told. bytes ≡ told) × Gives name bytes given × AreThere new given
@@ -51,7 +51,7 @@ IsUntaken old file name rest (Line line) = (bytes : List ℕ) × IfSome rest (λ
 IsUntaken old file name rest Version = (bytes : List ℕ) × IfSome rest (λ told. bytes ≡ told) × IsRefused bytes OtherVersion
 IsUntaken old file name rest (Clash other) = (bytes : List ℕ) × IfSome rest (λ told. bytes ≡ told) × ClashesIn old name bytes file other
 
--- The text tells of the rows of all parts, in the order of their keys, and of so many races.
+-- The text reports the rows of all parts, in the order of their keys; it has `races` races.
 pub record IsMergedText (parts : Named) (apart : Bool) (races : ℕ) (text : List ℕ) : Type 0 where
   pub rows : List Row
   pub cells : List Cell
@@ -69,7 +69,8 @@ pub record IsMergedJson (parts : Named) (races : ℕ) (text : List ℕ) : Type 0
   pub is : text ≡ merged_lines parts.entries cells
   pub races_is : races ≡ heads_count 0 None cells
 
--- What was written: the whole text; or the writer failed, and it is a beginning of it; or, for want of memory, nothing.
+-- What was written: the whole text; or the writer failed, and it is a beginning of the text; or memory ran out, and it
+-- is nothing.
 abbrev pub IsWritten : Named → Bool → Option (List ℕ) → Option (List ℕ) → Result ℕ MergeFault → Type 0
 IsWritten parts apart old new (Ok races) = (text : List ℕ) × IsMergedText parts apart races text × Appends old new text
 IsWritten parts apart old new (Err (Replay Write)) =

@@ -11,7 +11,7 @@ use Rattle.client_scripts.specs.declared.fault.ReplayFault.TheVariants.{Read, Wr
 use Rattle.calls.specs.declared.fault.BenchFault.{BenchFault}
 use Rattle.calls.specs.declared.fault.BenchFault.TheVariants.{Replay}
 
--- why no text is made: want of memory, or a fault of the call's own
+-- why no text is made: out of memory, or a fault of the call itself
 abbrev pub IsUnmade : (BenchFault → Type 0) → BenchFault → Type 0
 IsUnmade Refuses (Replay OutOfMemory) = ⊤
 IsUnmade Refuses (Replay fault) = ⊥
@@ -32,11 +32,11 @@ IsAnswered Prints Refuses bytes old new (Err (Replay OutOfMemory)) = new ≡ old
 IsAnswered Prints Refuses bytes old new (Err (Replay fault)) = IsFault (of_trace bytes) fault × (new ≡ old)
 IsAnswered Prints Refuses bytes old new result = (r : Recording) × IsTraceOf bytes r × IsWritten (Prints r) (Refuses r) old new result
 
--- What the call answers and has written: `rest` is what the reader tells of its bytes, `unread` whether it has failed, `old` and `new` are what the
+-- What the call answers and has written: `rest` is what the reader shows of its bytes, `unread` whether it has failed, `old` and `new` are what the
 -- writer had taken before and has now, and `unwritten` says whether it has failed.
 pub record Answers (Prints : Recording → List ℕ → Type 0) (Refuses : Recording → BenchFault → Type 0) (rest : Option (List ℕ)) (unread : Bool)
     (old new : Option (List ℕ)) (unwritten : Bool) (result : Result Unit BenchFault) : Type 0 where
-  -- there is a text, the one that the reader tells if it tells it, of which all this comes
+  -- there is a text, the one that the reader shows if it shows one, and all this follows from that text
   pub bytes : List ℕ
   pub told : IsTold rest bytes
   pub answered : IsAnswered Prints Refuses bytes old new result

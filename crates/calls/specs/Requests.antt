@@ -1,4 +1,4 @@
--- What is asked of workers, what they find, and what is made of that. No public clause cites this module. `T` is the events
+-- The requests to workers, what they find, and what is made of that. No public clause cites this module. `T` is the events
 -- of a trace.
 use Rattle.std.specs.Prelude.{◌≡◌, ℕ, zero, suc, List, [], ◌∷◌, ◌++◌, length, replicate, All, Contains, Option, Some, None, Result}
 use Rattle.rapid_text.specs.Recording.{Recording}
@@ -15,7 +15,7 @@ use Rattle.workspace_lock.specs.Seating.{Site, SeatView, SeatsView, fresh_seat}
 use Rattle.workspace_lock.specs.Runs.{Ran}
 use Rattle.calls.specs.Searches.{slice_limit, ProposesSlices}
 
--- the slice of one of these pairs is asked for
+-- the request is for the slice of a pair in `pairs`
 abbrev pub IsSliceRequest : List (ℕ × ℕ) → Request → Type 0
 IsSliceRequest pairs request = Contains pairs (request.first, request.second) × (request.way ≡ Slice)
 
@@ -32,7 +32,7 @@ ProposesOutcome a b outcome s n = n ≡ s
 abbrev pub SearchesBy : Recording → SeatView → SeatView → Type 0
 SearchesBy trace s n = (pairs : List (ℕ × ℕ)) × AreFirstCandidates trace.events slice_limit pairs × ProposesSlices trace.events pairs s n
 
--- the seats behind those of the scripts, at the end: that of the client of this number, where there are workers
+-- the seats after those of the scripts, at the end: the seat of the client with this number, if there are workers
 abbrev pub AreBehind : ℕ → Recording → Site → ℕ → List (Option SeatView) → Type 0
 AreBehind zero trace site client rows = rows ≡ []
 AreBehind (suc workers) trace site client rows = (last : SeatView) × SearchesBy trace (fresh_seat site client) last × (rows ≡ Some last ∷ [])

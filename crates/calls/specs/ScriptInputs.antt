@@ -12,7 +12,7 @@ use Rattle.script_language.specs.declared.refusal.ScriptRefusal.{ScriptRefusal}
 use Rattle.calls.specs.declared.fault.BenchFault.{BenchFault}
 use Rattle.calls.specs.declared.fault.BenchFault.TheVariants.{Replay, Script}
 
--- the bytes are within the limit of an input, and those that the reader tells, where it tells them
+-- the bytes are within the limit of an input, and are the reader's bytes, if the reader shows them
 abbrev pub IsReadAs : Option (List ℕ) → List ℕ → Type 0
 IsReadAs rest bytes = IsShort bytes × IsTold rest bytes
 

@@ -16,7 +16,7 @@ use Rattle.workspace_lock.specs.Turns.{Sees}
 use Rattle.workspace_lock.specs.Seating.{Site, SeatView, mark_in, fresh_seat}
 use Rattle.workspace_lock.specs.Runs.{Runs}
 
--- how many candidates are sliced, where there are so many
+-- how many candidates are sliced at most
 abbrev pub slice_limit : ℕ
 slice_limit = 64
 
@@ -29,12 +29,12 @@ abbrev pub further_clients : ℕ → ℕ
 further_clients zero = 0
 further_clients (suc workers) = 1
 
--- the pair is one of these, and P is its slice
+-- the pair is in the list, and P is its slice
 pub record IsSliceOf (T : List Event) (pairs : List (ℕ × ℕ)) (a b : ℕ) (P : List ℕ) : Type 0 where
   pub pair : Contains pairs (a, b)
   pub slice : IsSlice T a b P
 
--- the call proposes the slice of one of these pairs
+-- the call proposes the slice of a pair in the list
 abbrev pub AsksSlice : List Event → List (ℕ × ℕ) → Call → Type 0
 AsksSlice T pairs (Propose a b P) = IsSliceOf T pairs a b P
 AsksSlice T pairs call = ⊥
@@ -44,15 +44,15 @@ abbrev pub HasSlice : List Event → List (ℕ × ℕ) → Entry → Type 0
 HasSlice T pairs (Proposed c a b P) = IsSliceOf T pairs a b P
 HasSlice T pairs e = ⊥
 
--- Slices of these pairs were proposed, one after another, through the seat s, which is n then.
+-- Slices of pairs in the list were proposed, one after another, through the seat s, which is n then.
 pub record ProposesSlices (T : List Event) (pairs : List (ℕ × ℕ)) (s n : SeatView) : Type 0 where
   pub calls : List Call
   pub answers : List (Result Reply SeatRefusal)
   pub run : Runs s calls answers n
   pub slices : All (AsksSlice T pairs) calls
 
--- The client has proposed slices of some of the first candidates through a seat of its own. The log has all that the seat has
--- seen, and no other entries of the client, so that each of these proposes such a slice.
+-- The client has proposed slices of some of the first candidates through its seat. The log has all that the seat has seen,
+-- and no other entries of the client, so that each entry of the client proposes such a slice.
 pub record HasSearched (trace : Recording) (site : Site) (log : List Entry) (client : ℕ) : Type 0 where
   pub pairs : List (ℕ × ℕ)
   pub first : AreFirstCandidates trace.events slice_limit pairs
@@ -61,7 +61,7 @@ pub record HasSearched (trace : Recording) (site : Site) (log : List Entry) (cli
   pub seen : Sees (mark_in last) log
   pub entries : All (HasSlice trace.events pairs) (own_entries log client)
 
--- so has the client behind those of the scripts, where there are workers
+-- so has the client after those of the scripts, if there are workers
 abbrev pub IsSearched : ℕ → Recording → Site → List Entry → ℕ → Type 0
 IsSearched zero trace site log client = ⊤
 IsSearched (suc workers) trace site log client = HasSearched trace site log client

@@ -13,7 +13,7 @@ use Rattle.calls.specs.Told.{AreTold}
 use Rattle.calls.specs.declared.fault.BenchFault.{BenchFault}
 use Rattle.calls.specs.declared.fault.BenchFault.TheVariants.{Replay, NoThread, TooManyScripts}
 
--- The text of the trace that the bytes say and of the scripts that the readers have, beside so many workers.
+-- The text of the trace that the bytes say and of the scripts that the readers have, with `workers` workers.
 pub record RunsTogether (bytes : List ℕ) (rests : List (Option (List ℕ))) (workers : ℕ) (text : List ℕ) : Type 0 where
   pub trace : Recording
   pub scripts : List (List Asked)
@@ -22,12 +22,12 @@ pub record RunsTogether (bytes : List ℕ) (rests : List (Option (List ℕ))) (w
   pub scripts_are : AreScripts 1 rests scripts
   pub told : AreTold trace scripts workers text
 
--- the trace is at fault, or, where it is accepted, the first script that has a fault
+-- the trace is at fault, or, if the trace is accepted, the first script that has a fault
 abbrev pub StopsBehind : List ℕ → List (Option (List ℕ)) → BenchFault → Type 0
 StopsBehind bytes rests fault =
     ((cause : ReplayFault) × (fault ≡ Replay cause) × IsFault (of_trace bytes) cause) ⊎ (IsAccepted (of_trace bytes) × IsFirstFault rests fault)
 
--- why scripts were not run, or not to their end: want of memory, or, where there are workers, of a thread
+-- why scripts were not run, or not to their end: a lack of memory, or, if there are workers, of a thread
 abbrev pub IsRunFault : ℕ → BenchFault → Type 0
 IsRunFault workers fault = (fault ≡ Replay OutOfMemory) ⊎ ((fault ≡ NoThread) × (0 < workers))
 

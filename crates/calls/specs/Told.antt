@@ -32,8 +32,8 @@ AreAnswered trace site log n (script ∷ scripts) (t ∷ told) =
 abbrev pub fresh_bench : Recording → Benched
 fresh_bench trace = record { trace = trace; log = [] }
 
--- The text of scripts that ran at once, script i as client i's, beside so many workers: what each client was told, in order, and the
--- one log that all of them have built from the empty one on, with the client that proposes what the workers find.
+-- The text of scripts that ran at once, script i as client i's, with `workers` workers: each client's answers, in order, and the one
+-- log that all clients have built from the empty one on, with the client that proposes what the workers find.
 pub record AreTold (trace : Recording) (scripts : List (List Asked)) (workers : ℕ) (text : List ℕ) : Type 0 where
   pub site : Site
   pub log : List Entry

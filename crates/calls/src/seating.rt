@@ -136,7 +136,7 @@ fn give_all(seats: &mut Seats, told: Vec<Told>, out: &mut Vec<u8>) -> Result<(),
     requires { All (λ t. t.0.site ≡ seats.old.site) told.items }
     ensures text { OnOk result (AppendsAll told.items out.old.items out.new.items) }
     ensures site { seats.new.site ≡ seats.old.site }
-    // If none of these seats was in, and each has its number, all are in afterwards.
+    // If no seat of `told` was in, and each has its number, all are in afterwards.
     ensures back { PutsAllBack seats.old seats.new told.items }
 {
     let mut outcome = Ok(());

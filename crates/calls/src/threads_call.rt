@@ -165,7 +165,7 @@ pub fn threads<
     threads_with_room(rt, alloc, trace, scripts, fastest(workers), writer)
 }
 
-/// So many workers, and the fastest limit on seats that queue for a turn.
+/// This number of workers, and the fastest limit on seats that queue for a turn.
 fn fastest(workers: u32) -> Running
     ensures { result.workers ≡ workers }
 {

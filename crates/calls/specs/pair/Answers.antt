@@ -25,22 +25,22 @@ use Rattle.calls.specs.declared.pair.fault.PairFault.{PairFault}
 use Rattle.calls.specs.declared.pair.form.Form.{Form}
 use Rattle.calls.specs.declared.pair.fault.PairFault.TheVariants.{Replay, NoSuchPair, NotShown, NoDeadlock}
 
--- the text tells a finding on the pair: its words, both accesses with the locks that are held, and the reason; of a race, all runs of its
--- schedule, or the first ones of many as one block
+-- the text explains a finding on the pair: its words, both accesses with the locks that are held, and the reason; of a race, all runs of
+-- its schedule, or the first ones of many as one block
 abbrev pub IsFindingTold : Recording → Finding → Bool → ℕ → ℕ → List ℕ → Type 0
 IsFindingTold r (Race how events) all a b text = IsRaceTold r how events all a b text
 IsFindingTold r (Forced chains) all a b text = IsForcedTold r chains.items a b text
 IsFindingTold r (Guarded lock) all a b text = IsGuardedTold r lock a b text
 IsFindingTold r (Undecided events) all a b text = IsUndecidedTold r a b text
 
--- the text tells a right finding on a and b
+-- the text explains a right finding on a and b
 pub record IsPairTold (r : Recording) (all : Bool) (a b : ℕ) (text : List ℕ) : Type 0 where
   pub finding : Finding
   pub found : IsFinding r a b finding
   pub never : IsNeverShown r.events a b finding
   pub printed : IsFindingTold r finding all a b text
 
--- the two that the names mean conflict, and the text tells a right finding on the pair
+-- the two that the names mean conflict, and the text explains a right finding on the pair
 pub record IsPairExplained (r : Recording) (one other : Name) (all : Bool) (text : List ℕ) : Type 0 where
   pub a : ℕ
   pub b : ℕ
@@ -66,7 +66,8 @@ pub record IsPairWitness (r : Recording) (one other : Name) (form : Form) (text 
 abbrev pub IsWitness : Recording → Name → Name → Form → List ℕ → Type 0
 IsWitness r one other form text = IsPairWitness r one other form text ⊎ IsDeadlockWitness r one other form text
 
--- no schedule is printed of a conflicting pair of this kind: there is none, or none in the order of the trace, and none was found
+-- no schedule is printed of a conflicting pair of this kind: no schedule exists, or none in the order of the trace, and none was
+-- found
 abbrev pub IsNotShown : Recording → ℕ → ℕ → Kind → Type 0
 IsNotShown r a b CandidateKind = ⊥
 IsNotShown r a b ForcedKind = IsConflicting r.events a b × IsKind r a b ForcedKind × IsShownByNone r.events a b

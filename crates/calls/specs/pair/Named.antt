@@ -1,6 +1,6 @@
--- Which pair of events two names mean: of two events these two, else the pair that `triage` tells of the accesses that the names mean. `r` is a
--- trace's recording, `one` and `other` say for each event whether a name means it, `a` is the earlier event, `b` the later. All notions here are
--- this project's own.
+-- Which pair of events two names mean: of two events these two, else the pair that `triage` reports on the accesses that the names mean. `r` is
+-- a trace's recording, `one` and `other` say for each event whether a name means it, `a` is the earlier event, `b` the later. All notions here
+-- are this project's own.
 use Rattle.std.specs.Prelude.{◌≡◌, ◌⊎◌, ℕ, min, max, map, Bool, true, false, cond, List, length, slice_index, slice_index_or}
 use Rattle.rapid_text.specs.Recording.{Recording}
 use Rattle.event_index.specs.Lookups.{before}
@@ -27,7 +27,7 @@ abbrev pub AreSame : List Bool → List Bool → Type 0
 AreSame one other = (e : ℕ) → slice_index_or one e false ≡ slice_index_or other e false
 
 -- The two marks of a pair. If both names mean the same accesses, both events have the first mark. Else no access is meant by both names, unless
--- one of them is an event.
+-- a name is an event.
 abbrev pub IsMeant : Bool → List Bool → List Bool → ℕ × ℕ → Type 0
 IsMeant is_event one other marks =
     (AreSame one other × (marks ≡ (1, 1))) ⊎ ((¬ AreSame one other) × ((is_event ≡ true) ⊎ AreApart one other) × (marks ≡ (1, 2)))
@@ -44,7 +44,7 @@ pub record IsReported (r : Recording) (place : ℕ → ℕ) (marks : ℕ × ℕ)
   pub first : a ≡ verdict.first
   pub second : b ≡ verdict.second
 
--- each name means accesses at one place, and the pair is reported of them
+-- each name means accesses at one place, and the pair is reported on these accesses
 pub record IsPlaced (r : Recording) (is_event : Bool) (one other : List Bool) (a b : ℕ) : Type 0 where
   pub one_place : IsAtOnePlace r one
   pub other_place : IsAtOnePlace r other

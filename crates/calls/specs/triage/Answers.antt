@@ -33,8 +33,8 @@ use Rattle.calls.specs.declared.triage.asked.Asked.{Asked}
 use Rattle.calls.specs.declared.triage.asked.Form.{Form}
 use Rattle.calls.specs.declared.triage.asked.Form.TheVariants.{Text, Json, Lines, Entries, Sarif, Page}
 
--- The verdicts on a trace, whose events have these numbers of places, where so many open pairs of two places are tried: one for each two places of
--- a conflicting pair. What is counted of them is counted of the trace.
+-- The verdicts on a trace whose events have these numbers of places, if `tries` open pairs of two places are tried: one for each two places of a
+-- conflicting pair. Their totals are those of the trace.
 pub record AreVerdicts (r : Recording) (numbers : List ℕ) (tries : ℕ) (apart : Bool) (vs : List Verdict) : Type 0 where
   pub places : AreNumbers r numbers
   pub verdicts : All (IsVerdict r (slice_index numbers) tries apart) vs
@@ -51,7 +51,7 @@ only_of asked = map (λ t. t.now) asked.filters.only.now
 abbrev pub hide_of : Asked → List (List ℕ)
 hide_of asked = map (λ t. t.now) asked.filters.hide.now
 
--- the text tells of the chosen verdicts in this form; `vs` are all verdicts
+-- the text reports the chosen verdicts in this form; `vs` are all verdicts
 abbrev pub IsTextOf : Form → Recording → List ℕ → Bool → List Verdict → Chosen → List ℕ → Type 0
 IsTextOf Text r numbers apart vs c text = IsTriageText r vs c text
 IsTextOf Json r numbers apart vs c text = IsTriageJson r vs c text
@@ -61,19 +61,19 @@ IsTextOf (Sarif sources) r numbers apart vs c text = IsSarif r sources c text
 IsTextOf (Page about) r numbers apart vs c text =
     IsPage r vs c.races (left_of c) about.name.now text (all_rows r (followed_in about) apart c.verdicts.items)
 
--- so many races are told of in the form that is asked for, of the same choice in each
+-- the text reports `races` races in the wanted form; each form has the same choice of verdicts
 abbrev pub IsToldIn : Recording → List ℕ → Option (List (ℕ × ℕ)) → Asked → List Verdict → ℕ → List ℕ → Type 0
 IsToldIn r numbers known asked vs races text =
     (c : Chosen) × AreChosen r known (only_of asked) (hide_of asked) asked.apart vs c
     × IsTextOf asked.form r numbers asked.apart vs c text × (races ≡ c.races)
 
--- Which pairs of places are known: those whose two locations the text names, where one is given. `keys` are the locations by their numbers.
+-- Which pairs of places are known: those whose two locations the text names, if a text is given. `keys` are the locations by their numbers.
 abbrev pub IsGiven : List (Vec ℕ Global) → Option (List ℕ) → Option (List (ℕ × ℕ)) → Type 0
 IsGiven keys None known = known ≡ None
 IsGiven keys (Some text) (Some pairs) = AreKnown keys text pairs
 IsGiven keys (Some text) None = ⊥
 
--- the entries of a triage file, where one is given
+-- the entries of a triage file, if one is given
 abbrev pub entries_of : Asked → Option (List Value)
 entries_of asked = option_map (λ t. t.now) asked.triage
 
@@ -88,7 +88,7 @@ abbrev pub AreGiven : Recording → List (Vec ℕ Global) → List ℕ → Optio
 AreGiven r keys numbers given entries vs known =
     (listed : Option (List (ℕ × ℕ))) × IsGiven keys given listed × AreKnownBy r numbers entries vs listed known
 
--- The text tells of the verdicts on the trace what was asked for; `given` is the text of known races, where there is one.
+-- The text is the wanted report on the verdicts on the trace; `given` is the text of known races, if there is one.
 pub record IsListing (r : Recording) (given : Option (List ℕ)) (asked : Asked) (races : ℕ) (text : List ℕ) : Type 0 where
   pub keys : List (Vec ℕ Global)
   pub numbers : List ℕ
@@ -100,7 +100,7 @@ pub record IsListing (r : Recording) (given : Option (List ℕ)) (asked : Asked)
   pub found : AreVerdicts r numbers asked.tries asked.apart verdicts
   pub told : IsToldIn r numbers known asked verdicts races text
 
--- the text of known races was read, where there is one; or was not, for this reason
+-- the text of known races was read, if there is one; or was not, for this reason
 abbrev pub IsKnownRead : {X : Type 0} → (X → Option (List ℕ)) → Option X → Option (Vec ℕ Global) → Type 0
 IsKnownRead rest None None = ⊤
 IsKnownRead rest (Some source) (Some text) = IfSome (rest source) (λ told. text.items ≡ told)
@@ -110,29 +110,30 @@ abbrev pub IsKnownUnread : Option (List ℕ) → TriageFault → Type 0
 IsKnownUnread rest (Replay fault) = IsInput 2 rest (Err fault)
 IsKnownUnread rest TooMany = ⊥
 
--- the text that the second reader tells, where there is one
+-- the text of the second reader, if there is a second reader
 abbrev pub given_text : {X : Type 0} → Option X → List ℕ → Option (List ℕ)
 given_text None listed = None
 given_text (Some source) listed = Some listed
 
--- why nothing is told of a trace
+-- why a trace has no report
 abbrev pub IsUntold : Recording → TriageFault → Type 0
 IsUntold r (Replay OutOfMemory) = ⊤
 IsUntold r (Replay fault) = ⊥
 IsUntold r TooMany = IsCrowded r
 
--- What was written of a trace: the whole text; or the writer failed, and it is a beginning of it; or, where nothing is told, nothing.
+-- What was written of a trace: the whole text; or the writer failed, and it is a beginning of the text; or there is no report, and it
+-- is nothing.
 abbrev pub IsWritten : Recording → Option (List ℕ) → Asked → Option (List ℕ) → Option (List ℕ) → Result ℕ TriageFault → Type 0
 IsWritten r given asked old new (Ok races) = (text : List ℕ) × IsListing r given asked races text × Appends old new text
 IsWritten r given asked old new (Err (Replay Write)) = (races : ℕ) × (text : List ℕ) × IsListing r given asked races text × AppendsPart old new text
 IsWritten r given asked old new (Err fault) = IsUntold r fault × (new ≡ old)
 
--- the text of known races is not read, where the trace is accepted
+-- the trace is accepted, and the text of known races cannot be read
 abbrev pub IsKnownFault : List ℕ → List ℕ → ReplayFault → Type 0
 IsKnownFault bytes listed (Read input why) = (input ≡ 2) × IsAccepted (of_trace bytes) × IsUnreadable listed why
 IsKnownFault bytes listed fault = ⊥
 
--- the trace's bytes are accepted, and the text tells what was asked for
+-- the trace's bytes are accepted, and the text is the wanted report
 abbrev pub IsAnswer : List ℕ → Option (List ℕ) → Asked → ℕ → List ℕ → Type 0
 IsAnswer bytes given asked races text =
     (r : Recording) × IsTraceOf bytes r × IsListing r given asked races text

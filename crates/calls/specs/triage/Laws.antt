@@ -1,4 +1,4 @@
--- What is told of a trace is one, whoever found it. All notions here are this project's own.
+-- The report on a trace is one, no matter who found it. All notions here are this project's own.
 use Rattle.std.specs.Prelude.{◌≡◌, ℕ, List, Option, None, ⊤}
 use Rattle.rapid_text.specs.Recording.{Recording}
 use Rattle.race_triage.specs.Same.{IsLegal}
@@ -16,7 +16,8 @@ IsLines Entries = ⊤
 IsLines (Sarif sources) = ⊥
 IsLines (Page about) = ⊥
 
--- Without a triage file, two texts in lines that tell of one trace what was asked for are one, and tell of as many races, however many workers there were for each.
+-- Without a triage file, two reports in lines on one trace with one set of options are one text, and report as many races, however many workers there were for
+-- each.
 abbrev pub ListingsAreOne : Type 0
 ListingsAreOne =
     (r : Recording) (given : Option (List ℕ)) (asked : Asked) (workers races others : ℕ) (text words : List ℕ)

@@ -25,7 +25,7 @@ count_if is n = cond is (Some n) None
 abbrev pub has_known : Choice → Bool
 has_known choice = is_some choice.known || is_some choice.entries
 
--- the filters drop the block of the cell, the first of these
+-- the filters drop the block of the cell, which is the first of the list
 abbrev pub drops_block : Choice → List Row → Cell → List Cell → Bool
 drops_block choice rows c cs = is_hidden choice.filters rows c
 
@@ -43,7 +43,7 @@ abbrev pub IsListOf : Option (Bor (List ℕ)) → (Cell → Bool) → List Cell 
 IsListOf None listed cells = (c : Cell) → listed c ≡ false
 IsListOf (Some text) listed cells = AreListed text.now listed cells
 
--- what is printed of the cells as it was asked for
+-- which cells stay by the choice, and how many pairs of locations are left out
 pub record IsLeft (rows : List Row) (cells : List Cell) (choice : Choice) (left : Left) : Type 0 where
   pub listed : Cell → Bool
   pub is_list : IsListOf choice.known listed cells

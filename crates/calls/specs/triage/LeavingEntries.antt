@@ -28,7 +28,7 @@ is_row_named d (Some r) = names_all d (data_in r.line.now)
 abbrev pub is_one_named : List Row → Data → Cell → Bool
 is_one_named rows d c = cond (nat_eq c.rank 0) (is_row_named d (slice_get rows c.number)) true
 
--- that holds of each of these cells, up to the first of other locations
+-- that holds of each cell of the list, up to the first of other locations
 abbrev pub are_named : List Row → Data → Cell → List Cell → Bool
 are_named rows d c [] = true
 are_named rows d c (e ∷ es) = cond (is_same c e) (is_one_named rows d e && are_named rows d c es) true

@@ -14,7 +14,7 @@ use Rattle.calls.specs.declared.triage.leaving.splitting.Parted.{Parted}
 use Rattle.calls.specs.declared.triage.leaving.splitting.Test.{Test}
 use Rattle.calls.specs.declared.triage.leaving.splitting.Test.TheVariants.{Race, Block}
 
--- the locations of the cell, the first of these, are a race that is listed, or that an entry leaves out
+-- the locations of the cell, which is the first of the list, are a race that is listed, or that an entry leaves out
 abbrev pub drops_race : (Cell → Bool) → List Row → List Value → Cell → List Cell → Bool
 drops_race listed rows es c cs = nat_eq c.rank 0 && (listed c || is_decided rows es c cs)
 
@@ -22,12 +22,13 @@ drops_race listed rows es c cs = nat_eq c.rank 0 && (listed c || is_decided rows
 abbrev pub drops_known : List Row → Option (Bor Listed) → List Value → Cell → List Cell → Bool
 drops_known rows listed es c cs = drops_race (is_listed_by listed) rows es c cs
 
--- the test leaves out the locations of the cell, the first of these
+-- the test leaves out the locations of the cell, which is the first of the list
 abbrev pub drops_first : List Row → Test → Cell → List Cell → Bool
 drops_first rows (Race listed es) c cs = drops_race (is_listed_by listed) rows es.now c cs
 drops_first rows (Block filters) c cs = is_hidden filters rows c
 
--- The first of these cells is left out. If it is the first of its locations the test decides, else the cell before it.
+-- The first cell of the list is left out. If it is the first of its locations the test decides, else the cell before
+-- it.
 abbrev pub is_out : (Cell → List Cell → Bool) → Bool → Bool → List Cell → Bool
 is_out test first was [] = was
 is_out test first was (c ∷ cs) = cond first (test c (c ∷ cs)) was

@@ -77,7 +77,7 @@ IsLeftText Json es rows left apart text = text ≡ json_text es left
 IsLeftText (Sarif sources) es rows left apart text = IsLogOf (length es) rows left apart sources text
 IsLeftText Page es rows left apart text = IsPageOf (length es) rows left apart text
 
--- The text has what stays of the rows of all parts, in the order of their keys, and so many races.
+-- The text has what stays of the rows of all parts, in the order of their keys, with `races` races.
 pub record IsLeftTold (parts : BTreeMap (Vec ℕ Global) Part) (asked : MergedAsked) (races : ℕ) (text : List ℕ) : Type 0 where
   pub rows : List Row
   pub cells : List Cell

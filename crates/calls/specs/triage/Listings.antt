@@ -49,7 +49,7 @@ abbrev pub AreKnownMore : {S : Type 0} → Recording → Verdicts → List Value
 AreKnownMore r found es known more =
     (v : Verdict) → is_known (Some (keys more)) v ≡ (is_known (Some (keys known)) v || is_left_out r found.places.numbers.items es found.verdicts.items v)
 
--- the verdicts on the trace, found with the effort that is asked for
+-- the verdicts on the trace, found with the wanted effort
 abbrev pub AreVerdictsFor : Recording → Asked → Verdicts → Type 0
 AreVerdictsFor r asked found = AreVerdicts r found.places.numbers.items asked.tries asked.apart found.verdicts.items
 
@@ -58,7 +58,7 @@ abbrev pub AreChosenFor : {S : Type 0} → Recording → Verdicts → Option (In
 AreChosenFor r found known asked c =
     AreChosen r (known_places known) (only_of asked) (hide_of asked) asked.apart found.verdicts.items c
 
--- the text reports them in the form that is asked for, and is appended
+-- the text reports them in the wanted form, and is appended
 abbrev pub AppendsChosen : Recording → Verdicts → Chosen → Asked → Vec ℕ Global → Vec ℕ Global → Type 0
 AppendsChosen r found c asked old new =
     (text : List ℕ) × IsTextOf asked.form r found.places.numbers.items asked.apart found.verdicts.items c text × (new.items ≡ old.items ++ text)
@@ -67,7 +67,7 @@ AppendsChosen r found c asked old new =
 abbrev pub AppendsEntries : Recording → Verdicts → Chosen → Vec ℕ Global → Vec ℕ Global → Type 0
 AppendsEntries r found c old new = (text : List ℕ) × IsTriageFile r found.places.numbers.items c text × (new.items ≡ old.items ++ text)
 
--- a report of so many races is appended
+-- a report of `races` races is appended
 abbrev pub AppendsTold : {S : Type 0} → Recording → Verdicts → Option (IndexSet (ℕ × ℕ) S) → Asked → Vec ℕ Global → Vec ℕ Global → ℕ → Type 0
 AppendsTold r found known asked old new races =
     (text : List ℕ) × (new.items ≡ old.items ++ text)
@@ -81,14 +81,14 @@ IsReportOf r listed asked made = IsListing r (shown_bytes listed) asked made.1 m
 abbrev pub IsReportWritten : Recording → Option (Vec ℕ Global) → Asked → Option (List ℕ) → Option (List ℕ) → Result ℕ TriageFault → Type 0
 IsReportWritten r listed asked old new answer = IsWritten r (shown_bytes listed) asked old new answer
 
--- What is answered of a trace that was read: the second reader tells these races, if there is one.
+-- What is answered of a trace that was read: the second reader shows these races, if there is one.
 abbrev pub IsTriagedOn : {X : Type 0} → Recording → (X → Option (List ℕ)) → Option X → Asked → Option (List ℕ) → Option (List ℕ) → Result ℕ TriageFault → Type 0
 IsTriagedOn r rest known asked old new answer =
     (bytes : List ℕ) → IsTraceOf bytes r → (listed : List ℕ)
     × IfSome known (λ k. IfSome (rest k) (λ told. listed ≡ told))
     × IsTriaged bytes listed known asked old new answer
 
--- The same where the first reader tells the trace.
+-- The same if the first reader shows the trace.
 abbrev pub IsTriagedFrom : {X : Type 0} → Option (List ℕ) → (X → Option (List ℕ)) → Option X → Asked → Option (List ℕ) → Option (List ℕ) → Result ℕ TriageFault → Type 0
 IsTriagedFrom trace rest known asked old new answer =
     (bytes listed : List ℕ)

@@ -19,7 +19,7 @@ use Rattle.calls.specs.declared.triage.fault.TriageFault.{TriageFault}
 use Rattle.calls.specs.declared.triage.fault.TriageFault.TheVariants.{Replay}
 use Rattle.calls.specs.declared.triage.merging.MergedLog.{MergedLog}
 
--- The text is a log with a result for each pair of places that a report of the parts tells of, in its order, and so many of them are races.
+-- The text is a log with a result for each pair of places that a report of the parts has, in its order, and `races` pairs are races.
 pub record IsMergedLog (parts : BTreeMap (Vec ℕ Global) Part) (log : MergedLog) (races : ℕ) (text : List ℕ) : Type 0 where
   pub rows : List Row
   pub cells : List Cell
@@ -30,7 +30,8 @@ pub record IsMergedLog (parts : BTreeMap (Vec ℕ Global) Part) (log : MergedLog
   pub is : text ≡ merged_log (length parts.entries) log.sources pairs None None
   pub races_is : races ≡ heads_count 0 None cells
 
--- What was written: the whole log; or the writer failed, and it is a beginning of it; or, for want of memory, nothing.
+-- What was written: the whole log; or the writer failed, and it is a beginning of the log; or memory ran out, and it is
+-- nothing.
 abbrev pub IsLogWritten : BTreeMap (Vec ℕ Global) Part → MergedLog → Option (List ℕ) → Option (List ℕ) → Result ℕ TriageFault → Type 0
 IsLogWritten parts log old new (Ok races) = (text : List ℕ) × IsMergedLog parts log races text × Appends old new text
 IsLogWritten parts log old new (Err (Replay Write)) = (races : ℕ) × (text : List ℕ) × IsMergedLog parts log races text × AppendsPart old new text
@@ -43,7 +44,7 @@ none_left = record {
   hidden = None;
 }
 
--- The text is a page with a row for each pair of places that a report of the parts tells of, in its order, and so many of them are races.
+-- The text is a page with a row for each pair of places that a report of the parts has, in its order, and `races` pairs are races.
 pub record IsMergedPage (parts : BTreeMap (Vec ℕ Global) Part) (apart : Bool) (races : ℕ) (text : List ℕ) : Type 0 where
   pub rows : List Row
   pub cells : List Cell
@@ -54,7 +55,8 @@ pub record IsMergedPage (parts : BTreeMap (Vec ℕ Global) Part) (apart : Bool) 
   pub is : text ≡ merged_text (length parts.entries) pairs apart none_left
   pub races_is : races ≡ heads_count 0 None cells
 
--- What was written: the whole page; or the writer failed, and it is a beginning of it; or, for want of memory, nothing.
+-- What was written: the whole page; or the writer failed, and it is a beginning of the page; or memory ran out, and it
+-- is nothing.
 abbrev pub IsPageWritten : BTreeMap (Vec ℕ Global) Part → Bool → Option (List ℕ) → Option (List ℕ) → Result ℕ TriageFault → Type 0
 IsPageWritten parts apart old new (Ok races) = (text : List ℕ) × IsMergedPage parts apart races text × Appends old new text
 IsPageWritten parts apart old new (Err (Replay Write)) = (races : ℕ) × (text : List ℕ) × IsMergedPage parts apart races text × AppendsPart old new text

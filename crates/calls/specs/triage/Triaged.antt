@@ -53,7 +53,7 @@ mistake_words Reason = codes "has a `reason` other than a text"
 mistake_words Author = codes "has an `author` other than a text"
 mistake_words Expires = codes "has an `expires` other than a date"
 
--- where a text is refused
+-- the place at which a text is refused
 abbrev pub spot_words : Spot → List ℕ
 spot_words spot = concat (codes "triage file line " ∷ decimal spot.line ∷ codes " column " ∷ decimal spot.column ∷ codes ": " ∷ [])
 

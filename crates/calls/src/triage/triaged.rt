@@ -66,7 +66,7 @@ fn fault_of(refusal: Refusal) -> TriagedFault
     }
 }
 
-/// The words for a mistake in an entry.
+/// The text for a mistake in an entry.
 fn mistake_words(mistake: Mistake) -> &'static [u8]
     ensures { result.now ≡ mistake_words mistake }
 {

@@ -67,7 +67,7 @@ fn places_of(alloc: Global, cells: &[Cell<'_>], text: &[u8]) -> Result<Places, O
     })
 }
 
-/// The races that a text of known races names, among those of these cells.
+/// The races that a text of known races names, among those of the cells.
 pub(crate) fn listed_of(
     alloc: Global,
     cells: &[Cell<'_>],
