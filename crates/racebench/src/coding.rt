@@ -96,7 +96,7 @@ pub(crate) fn code_of<'a>(
     Ok(Code { found, lines })
 }
 
-/// The code of these cells in the folder at this path, if one is named.
+/// The code of the cells in the folder at this path, if one is named.
 pub(crate) fn code_for<'a>(
     rt: &HostRuntime,
     folder: Option<&str>,
@@ -393,7 +393,7 @@ fn is_last(lines: &Vec<SourceLine>, place: &[u8]) -> bool {
     }
 }
 
-/// The line with this number, counted from 1, without blanks at its ends; empty if there is none.
+/// The line with this number, counted from 1, without blanks at its ends; empty if there is no such line.
 fn line_at<'a>(text: &'a [u8], starts: &[usize], number: u64) -> &'a [u8] {
     let index = number.saturating_sub(1).min(MAX_CODE) as usize;
     match starts.get(index) {

@@ -344,7 +344,7 @@ fn print_counts(rt: &HostRuntime, windows: &Windows, count: u64) -> ExitCode {
     }
 }
 
-/// Four lines: how many windows there are, how many of them are shorter, and how many events and threads.
+/// Four lines: how many windows there are, how many windows are shorter, and how many events and threads.
 pub(crate) fn counts_of(
     alloc: Global,
     windows: &Windows,

@@ -43,7 +43,7 @@ fn finish_read<W: io::Write>(
     }
 }
 
-/// What is said before a terminal is read. Else it would look as if the program did nothing.
+/// The note before a terminal is read. Else it would look as if the program did nothing.
 const READING: &[u8] =
     b"note: type a trace, a line `---` and a script, or see `racebench --help`\n";
 
@@ -54,7 +54,7 @@ fn note_terminal(rt: &HostRuntime) {
     }
 }
 
-/// Replays the joint text on standard input. If it has no line `---`, a note says that there is no script.
+/// Replays the joint text on standard input. If it has no line `---`, a note says that the script is missing.
 pub(crate) fn replay_input(rt: &HostRuntime) -> ExitCode {
     note_terminal(rt);
     match Watched::new(rt.alloc(), rt.reader()) {

@@ -15,7 +15,7 @@ pub(crate) const NO_TRACE_EVENTS: &[u8] = b"the trace has no events: nothing was
 /// What standard error says if no part has events.
 pub(crate) const NO_PART_EVENTS: &[u8] = b"no part has events: nothing was judged\n";
 
-/// Why no race does not mean that there is none.
+/// Why no race in the report does not mean that the program has no race.
 #[derive(Clone, Copy)]
 pub(crate) struct Unjudged<'a> {
     /// What standard error says if there was no event.

@@ -320,7 +320,7 @@ pub(crate) fn append_triaged_note(out: &mut Vec<u8>, path: &str) -> Result<(), O
     append_named(out, path, TRIAGED)
 }
 
-/// The path of the input with this number, counted from 1; empty if there is none.
+/// The path of the input with this number, counted from 1; empty if there is no such input.
 fn path_of<'a>(paths: &[&'a str], input: u32) -> &'a str {
     match paths.get((input as usize).saturating_sub(1)) {
         Some(path) => path,

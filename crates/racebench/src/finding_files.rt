@@ -222,7 +222,7 @@ fn last_part(path: &[u8]) -> &[u8] {
     last
 }
 
-/// The last parts of these names, rising, each once.
+/// The last parts of the names, rising, each once.
 fn last_parts(alloc: Global, names: &[&[u8]]) -> Result<Vec<Vec<u8>>, OutOfMemory> {
     let mut parts = Vec::new(alloc);
     for name in names {
@@ -467,7 +467,7 @@ impl Search {
     }
 }
 
-/// The best fit, once the path with this index is known to have so many equal parts.
+/// The best fit, once the path with this index is known to have `parts` equal parts.
 fn better_of(best: Option<Best>, at: usize, parts: usize) -> Option<Best> {
     match best {
         Some(best) if best.parts > parts => Some(best),

@@ -65,7 +65,7 @@ pub(crate) struct Report<'a> {
     pub(crate) missing: Vec<u8>,
 }
 
-/// The next windows, `width` at most, which are judged at the same time. If a fault comes after the first of them, the
+/// The next windows, `width` at most, which are judged at the same time. If a fault comes after the first window, the
 /// next call returns it.
 fn batch(alloc: Global, windows: &mut Windows, width: u32) -> Result<Vec<Window>, BenchFault> {
     let mut batch = Vec::new(alloc);
@@ -132,7 +132,7 @@ impl Report<'_> {
         }
     }
 
-    // Takes in what was printed of each of these windows.
+    // Takes in what was printed of each window.
     fn take_parts(
         &mut self,
         alloc: Global,
@@ -248,8 +248,8 @@ fn judge_ahead<R: Threads + Sync>(
     Ok(())
 }
 
-/// Judges these windows, and reads the next batch at the same time. The findings of these windows come before a fault
-/// of the next batch.
+/// Judges the windows `these`, and reads the next batch at the same time. Their findings come before a fault of the
+/// next batch.
 fn judge_these<R: Threads + Sync>(
     rt: &HostRuntime,
     starts: &R,
@@ -269,7 +269,7 @@ fn judge_these<R: Threads + Sync>(
 /// What is printed of each window.
 type Judged = Result<Vec<Result<Vec<u8>, TriageFault>>, OutOfMemory>;
 
-/// What is printed of each of these windows, and the next batch, which is read at the same time.
+/// What is printed of each window of `these`, and the next batch, which is read at the same time.
 fn judged_ahead<'a, R: Threads + Sync>(
     alloc: Global,
     starts: &'a R,

@@ -55,7 +55,7 @@ pub(crate) fn wanted_in<'a>(task: &'a TriageTask<'_>) -> Wanted<'a> {
     }
 }
 
-/// Whether any of these options is given.
+/// Whether any option to leave out races is given.
 pub(crate) fn is_any(wanted: Wanted<'_>) -> bool {
     wanted.known.is_some()
         || wanted.triage.is_some()
@@ -203,7 +203,7 @@ pub(crate) fn write_decided<K: Sink>(
     Ok(races)
 }
 
-/// Marks which of the entries are about a race of these cells.
+/// Marks which of the entries are about a race of the cells.
 fn mark_all(
     rt: &HostRuntime,
     rows: &[Row<'_>],

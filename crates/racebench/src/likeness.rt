@@ -33,7 +33,7 @@ pub(crate) enum Likeness {
     Trace,
     /// A script.
     Script,
-    /// None of these kinds.
+    /// Another kind.
     Other,
 }
 

@@ -43,7 +43,7 @@ struct Lines {
     kept: Vec<u8>,
     /// The answers that were written since the last whole one: a write may end within an answer.
     answered: Vec<u8>,
-    /// The number of the first of these lines, counted from 1.
+    /// The number of the first line of `kept`, counted from 1.
     first: u64,
     /// Whether all these bytes could be kept.
     is_whole: bool,

@@ -9,7 +9,7 @@ pub(crate) fn is_divider(line: &[u8]) -> bool {
     trim(line) == b"---".as_slice()
 }
 
-/// What comes after the first line end; None if there is none.
+/// What comes after the first line end; None if the text has no line end.
 pub(crate) fn behind_line(text: &[u8]) -> Option<&[u8]> {
     let end = memchr(b'\n', text)?;
     Some(&text[end + 1..])
@@ -63,7 +63,7 @@ pub(crate) fn first_word(text: &[u8]) -> &[u8] {
     &text[..word_len(text)]
 }
 
-/// The second word of a line of a script: the command word; empty if there is none.
+/// The second word of a line of a script: the command word; empty if the line has no second word.
 pub(crate) fn command_of(line: &[u8]) -> &[u8] {
     let line = trim(line);
     first_word(trim(&line[word_len(line)..]))

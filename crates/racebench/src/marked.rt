@@ -37,7 +37,7 @@ fn with_byte(head: Head, byte: u8) -> Head {
     }
 }
 
-/// What the first bytes are after the first `count` of these bytes. Three bytes decide.
+/// What the first bytes are after the first `count` bytes of `bytes`. Three bytes decide.
 pub(crate) fn after(mut head: Head, bytes: &[u8], count: usize) -> Head {
     for at in 0..bytes.len().min(count).min(3) {
         head = with_byte(head, bytes[at]);

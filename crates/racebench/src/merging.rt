@@ -25,7 +25,7 @@ use rapid_text::OutOfMemory;
 use std::io;
 use std::process::ExitCode;
 
-/// The path of the file with this number, counted from 1; empty if there is none.
+/// The path of the file with this number, counted from 1; empty if there is no such file.
 fn path_of<'a>(paths: &[&'a str], file: u32) -> &'a str {
     match paths.get((file as usize).saturating_sub(1)) {
         Some(path) => path,

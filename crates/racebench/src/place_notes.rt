@@ -60,7 +60,7 @@ fn append_name_note(
     }
 }
 
-/// Appends the note on a number that is no event. Returns whether it is none.
+/// Appends the note on a number that is no event. Returns whether the number is no event.
 fn append_event_note(
     out: &mut Vec<u8>,
     indexed: &Indexed,
@@ -163,7 +163,7 @@ fn append_places(
     Ok(())
 }
 
-/// Whether one of these events is at the place.
+/// Whether an event of the list is at the place.
 fn is_listed(indexed: &Indexed, listed: &[u32], place: &[u8]) -> bool {
     listed
         .iter()

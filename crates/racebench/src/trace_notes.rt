@@ -31,7 +31,7 @@ pub(crate) fn append_limit_note(
     append_limit(out, refusal, LONG, WIDE)
 }
 
-/// Appends one of these notes: `long` if there are too many events, `wide` if there are too many threads.
+/// Appends one of the two notes: `long` if there are too many events, `wide` if there are too many threads.
 fn append_limit(
     out: &mut Vec<u8>,
     refusal: &TextRefusal,
@@ -45,7 +45,7 @@ fn append_limit(
     }
 }
 
-/// The note on held locks, if all windows are made: they are too small beside so many locks.
+/// The note on held locks, if all windows are made: the windows are too small for the number of held locks.
 const HELD: &[u8] =
     b"note: more locks are held than a window of so few events may begin with: pass a larger number to `--windows`\n";
 

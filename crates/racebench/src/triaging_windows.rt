@@ -156,7 +156,7 @@ fn print_judged(rt: &HostRuntime, windows: &Windows, report: &Report<'_>) -> Exi
     }
 }
 
-/// Prints the report up to where the trace was refused, and then reports why.
+/// Prints the report up to the line at which the trace was refused, and then reports why.
 fn print_stopped(rt: &HostRuntime, windows: &Windows, report: &Report<'_>, stop: Stop) -> ExitCode {
     match print_report(rt, windows, report) {
         Ok(_) => tell_stop(rt, stop, report),

@@ -125,7 +125,7 @@ impl Windows {
         self.most.min(room_of(&self.front)).max(1)
     }
 
-    /// The next window, or None if there is none. After a fault, returns that fault again.
+    /// The next window, or None after the last one. After a fault, returns that fault again.
     pub(crate) fn next(&mut self, alloc: Global) -> Result<Option<Window>, BenchFault> {
         match self.made_next(alloc) {
             Ok(next) => Ok(next),
@@ -224,8 +224,8 @@ impl Windows {
         Err(BenchFault::NoSuchEvent)
     }
 
-    // The window of these lines, if they are the most that fit. If one of the lines is refused or breaks a rule, it is
-    // the window of the lines before that one.
+    // The window of all lines of `spans`, if they are the most that fit. If one of the lines is refused or breaks a rule,
+    // it is the window of the lines before that one.
     fn tried(
         &mut self,
         alloc: Global,
@@ -334,7 +334,7 @@ impl Windows {
         Ok(())
     }
 
-    // Ends the windows if a window of so many events is small beside what is held.
+    // Ends the windows if a window of `covered` events is small beside what is held.
     fn look_at_holds(&mut self, covered: usize) {
         if let Err(fault) = self.check_holds(covered) {
             self.fault = Some(fault);

@@ -26,7 +26,7 @@ impl Windows {
         Err(self.told_wide(span.end))
     }
 
-    // The first half of these lines, if they have more than one event.
+    // The first half of the lines of the span, if they have more than one event.
     fn half_span(&mut self, span: Span) -> Result<Span, BenchFault> {
         if span.events <= 1 {
             return Err(self.told_wide(span.end));
