@@ -1,5 +1,5 @@
-//! What no clause says of the order SHB: that which events are ordered, the first candidates up to a limit, and slices, are told where there
-//! is memory; in worked examples, of other limits than the program asks for, and of pairs that are turned round.
+//! What no clause says of the order SHB: with enough memory, the calls answer which events are ordered, the first candidates up to a limit,
+//! and slices. Worked examples have other limits than the program uses, and pairs in reverse order.
 ghost use Rattle.std.specs.Prelude.{◌≡◌};
 
 use crate::fixtures::{ONE_LOCK, TWO_PAIRS};
@@ -110,7 +110,7 @@ pub(crate) fn is_told_by_clocks(
 // Three threads write one variable, in turn and unordered.
 const THREE_WRITERS: &[u8] = b"A|w(x)|\nB|w(x)|\nC|w(x)|\nA|w(x)|";
 
-// Two forked threads write one variable, one of them after a section of a lock that a third event has no part in.
+// Two forked threads write one variable, one after a section of a lock that a third event has no part in.
 const FORKED: &[u8] =
     b"M|fork(A)|\nM|fork(B)|\nA|acq(l)|\nA|rel(l)|\nA|w(x)|\nM|w(y)|\nB|acq(l)|\nB|w(x)|\nB|rel(l)|\nC|w(x)|";
 
@@ -207,7 +207,7 @@ fn many_writes(alloc: Global) -> Option<Vec<u8>> {
     Some(text)
 }
 
-// The first of these questions that is answered otherwise.
+// The first question of `BEHIND_WRITES` with another answer.
 fn first_wrong_behind(alloc: Global, text: &[u8]) -> Option<usize> {
     for at in 0..BEHIND_WRITES.len() {
         if is_answered(alloc, text, BEHIND_WRITES[at]) != Some(true) {

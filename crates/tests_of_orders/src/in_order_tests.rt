@@ -1,4 +1,5 @@
-//! What no clause says of lists in the order of the trace, and of searches beyond it: that they are told where there is memory.
+//! What no clause says of lists in the order of the trace, and of searches beyond it: that they give answers if memory
+//! suffices.
 
 use crate::fixtures::ONE_LOCK;
 use crate::questions::{Question, first_wrong};

@@ -1,5 +1,4 @@
-//! What no clause says of a list that a caller owns: that an item is appended where there is memory, and that a list which found none is as
-//! it was.
+//! What no clause says of a list that a caller owns: that an item is appended if memory suffices, and that otherwise the list is as it was.
 
 use rapid_text::Items;
 use std::alloc::Global;

@@ -1,4 +1,4 @@
-//! What no clause says of must-before: that its calls answer where there is memory, and so that of a list's size, which is told by it.
+//! What no clause says of must-before: that its calls answer if memory suffices, also the call for a list's size.
 ghost use Rattle.std.specs.Prelude.{◌≡◌};
 
 use crate::questions::{Question, first_wrong};
@@ -77,7 +77,7 @@ fn is_sized_by(
     }
 }
 
-// Whether the list of the pair has so many events of so many threads.
+// Whether the list of the pair has the wanted numbers of events and of threads.
 fn is_sized(
     alloc: Global,
     must: &Must,
@@ -93,7 +93,7 @@ fn is_sized(
     }
 }
 
-// Whether the search beyond the order finds a schedule for the pair with so many events of so many threads.
+// Whether the search beyond the order finds a schedule for the pair with the wanted numbers of events and of threads.
 fn is_turned_sized(
     alloc: Global,
     must: &Must,

@@ -1,5 +1,5 @@
-//! What no clause says: that workers run, each in a thread of its own, that answers come, and that `start` and `submit` succeed where
-//! there is memory. A pool that serves on one thread, or always answers that it has stopped or that memory is wanting, fails here.
+//! What no clause says: that each worker runs in a separate thread, that answers come, and that `start` and `submit` succeed if
+//! memory suffices. A pool that serves on one thread, or always answers that it has stopped or is out of memory, fails here.
 ghost use Rattle.std.specs.Prelude.{◌≡◌, IfSome};
 ghost use Rattle.std.specs.Arc.{arc_value};
 
@@ -114,7 +114,7 @@ fn pool_behind<R: Threads + Wait + Clone + Send + Drop + 'static>(
     }
 }
 
-// A pool of so many workers on the trace.
+// A pool of `count` workers on the trace.
 fn pool_of<R: Threads + Wait + Clone + Send + Drop + 'static>(
     rt: &R,
     alloc: Global,
@@ -268,7 +268,7 @@ fn pool_always_out_of_memory(rt: HostRuntime) {
     assert!(rt; pool_answers(&rt, rt.alloc()));
 }
 
-// How many requests are taken, up to 70, before one is refused; and whether that is since so many are pending.
+// How many requests are taken, up to 70, before one is refused; and whether the reason is that too many are pending.
 fn count_taken<R: Wait>(rt: &R, pool: &mut Pool<Holds>) -> (u32, bool) {
     for taken in 0..70u32 {
         match pool.submit(rt, slice_request()) {

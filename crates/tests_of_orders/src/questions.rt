@@ -1,5 +1,5 @@
-//! What the tests ask of traces, each question with the answer that is wanted. A question that met want of memory is asked once more, and
-//! then has to be answered. One function owns the index of a trace, for all questions: how it is dropped is proved once.
+//! The tests' questions on traces, each with the wanted answer. If memory runs out at a question, the test repeats it once, and then it
+//! needs an answer. One function owns the index of a trace, for all questions: how it is dropped is proved once.
 
 use crate::clock_tests::is_told_by_clocks;
 use crate::fixtures::indexed_of;
@@ -27,7 +27,7 @@ pub(crate) enum Question {
     Sections(&'static [Option<u32>]),
     // Whether the hashers are those of this text.
     Hashers(&'static [u8], bool),
-    // Which of these pairs of events are in order.
+    // Which pairs of events in the list are in order.
     Ordered(&'static [(u32, u32, bool)]),
     // How many events of a thread an event knows: the event, the thread, the number.
     Known(&'static [(u32, u32, u32)]),
@@ -59,7 +59,7 @@ pub(crate) enum Question {
     Free(Numbers),
 }
 
-// Whether the trace answers so; None where memory was wanting, here and in the functions that are asked.
+// Whether the trace answers so; None if memory ran out, here or in a called function.
 fn is_answered_on(alloc: Global, indexed: &Indexed, question: Question) -> Option<bool> {
     match question {
         Question::Text(canonical) => is_printed(alloc, indexed, canonical),
@@ -104,7 +104,7 @@ fn is_answered_again(alloc: Global, text: &[u8], question: Question) -> bool {
     }
 }
 
-// The first question of the table, each of the trace that a text tells, which is answered otherwise.
+// The first question of the table with another answer; each row has the text of a trace and a question.
 pub(crate) fn first_wrong(alloc: Global, rows: &[(&'static [u8], Question)]) -> Option<usize> {
     for at in 0..rows.len() {
         let (text, question) = rows[at];

@@ -1,6 +1,6 @@
 //! What no clause says and the program does not print: which numbers a text gives to its events, which text is
 //! canonical, where sections end, and that a trace keeps hashers that its names and locations decide; and that a trace
-//! is read, checked, indexed and printed where there is memory.
+//! is read, checked, indexed and printed if memory suffices.
 //! Which texts are refused, and for what, is in `tests/judge_texts.py`.
 use crate::fixtures::{ONE_LOCK, TWO_PAIRS};
 use crate::questions::{Question, first_wrong};
@@ -35,8 +35,8 @@ pub(crate) fn are_sections(indexed: &Indexed, ends: &[Option<u32>]) -> bool {
     are_right
 }
 
-// Whether the trace has the hashers of this text, or None where memory was wanting. What they make of nothing tells
-// them apart.
+// Whether the trace has the hashers of this text, or None if memory ran out. Their hashes of nothing differ if they
+// differ.
 pub(crate) fn has_hashers_of(alloc: Global, indexed: &Indexed, text: &[u8]) -> Option<bool> {
     let kept = indexed.trace().raw().keyed().build_hasher().finish();
     match parse(alloc, text) {
@@ -161,7 +161,7 @@ const ROWS: &[(&[u8], Question)] = &[
     ),
     (TWO_PAIRS, Question::Hashers(TWO_PAIRS, true)),
     (TWO_PAIRS, Question::Hashers(ONE_LOCK, false)),
-    // Each name and each location is a part of the key, however far behind it stands.
+    // Each name and each location is a part of the key, however late it comes.
     (LONG_LINE, Question::Hashers(LONG_LINE, true)),
     (LONG_LINE, Question::Hashers(OTHER_THREAD, false)),
     (LONG_LINE, Question::Hashers(OTHER_NAME, false)),

@@ -1,4 +1,4 @@
-//! What no clause says of windows of a long trace: that they are made, and refused, where there is memory. Each wanted window is that of
+//! What no clause says of windows of a long trace: that they are made, and refused, if memory suffices. Each wanted window is that of
 //! `tests/plain.py`.
 
 use rapid_text::TextCause;
@@ -93,7 +93,7 @@ fn is_right(alloc: Global, at: usize) -> Option<bool> {
     is_made(alloc, &front, piece, *most, *wanted)
 }
 
-// The number of the first row that is wrong. Each is asked for again if memory ran out.
+// The number of the first row that is wrong. Each row is tried again if memory ran out.
 fn first_wrong(alloc: Global) -> Option<usize> {
     for at in 0..ROWS.len() {
         let asked = match is_right(alloc, at) {

@@ -60,7 +60,7 @@ fn what_a_trace_holds(rt: HostRuntime) {
     assert!(rt; stops(rt.alloc(), b"T1|acq(l)|\nT2|acq(l)|", held));
 }
 
-/// What `threads` answers of one script on a trace, beside so many workers; none where there is no memory for the script.
+/// What `threads` answers of one script on a trace, with `workers` workers; None if there is no memory for the script.
 fn threads_of<R: Threads + Wait + Sync + Clone + Send + Drop + 'static>(
     rt: &R,
     alloc: Global,
@@ -85,7 +85,7 @@ fn threads_of<R: Threads + Wait + Sync + Clone + Send + Drop + 'static>(
     }
 }
 
-/// Whether `threads` answers this beside so many workers, and has written just this.
+/// Whether `threads` with `workers` workers answers this, and has written just this.
 fn threads_write<R: Threads + Wait + Sync + Clone + Send + Drop + 'static>(
     rt: &R,
     alloc: Global,

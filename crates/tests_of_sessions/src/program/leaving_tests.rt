@@ -33,7 +33,7 @@ const UNDECIDED: &[u8] = b"race 2 3\n  T1|w(y)|c.c:3\n  T2|w(y)|d.c:4\n";
 /// What is left out: how many cells stay, and the counts of known races and of what the filters drop.
 type Counts = (usize, Option<u64>, Option<u64>);
 
-/// The same of these parts.
+/// The same of the parts.
 fn counts_of(alloc: Global, parts: &Parts, choice: Choice<'_>) -> Result<Counts, OutOfMemory> {
     let rows = rows_of(alloc, parts)?;
     let cells = cells_of(alloc, &rows)?;

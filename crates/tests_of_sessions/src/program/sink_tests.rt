@@ -1,9 +1,9 @@
-//! What no clause says: how often a writer is asked that takes nothing.
+//! What no clause says: how often a writer is called that takes nothing.
 
 use client_scripts::{FromWrite, Sink, write_all};
 use std::io;
 
-/// One of std's writers, which takes nothing and counts how often it is asked.
+/// One of std's writers, which takes nothing and counts its calls.
 #[derive(Drop)]
 struct Full {
     calls: u32,

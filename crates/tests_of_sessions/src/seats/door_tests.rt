@@ -1,4 +1,4 @@
-//! What no clause says of the door before the lock: that those who wait behind a call that is held up take next to nothing of the
+//! What no clause says of the door before the lock: that those who wait for a call that is held up take next to nothing of the
 //! processors' time.
 use crate::seats::fixtures::{is_accepted, is_reply, seats_at_last};
 use client_scripts::{FromRead, read_input};
@@ -75,7 +75,7 @@ fn number_in(field: Option<&str>) -> Option<u64> {
     }
 }
 
-// The twelfth and thirteenth field of these, as a sum.
+// The twelfth and thirteenth field of the text, as a sum.
 fn time_of(behind: &str) -> Option<u64> {
     let mut fields = behind.split_ascii_whitespace().skip(11);
     let own = number_in(fields.next());
@@ -85,7 +85,7 @@ fn time_of(behind: &str) -> Option<u64> {
     }
 }
 
-// The twelfth and thirteenth field behind the program's name in this text of the system, as a sum.
+// The twelfth and thirteenth field after the program's name in this text of the system, as a sum.
 fn time_in(text: &str) -> Option<u64> {
     match text.rsplit_once(')') {
         Some((_, behind)) => time_of(behind),

@@ -12,8 +12,8 @@ use workspace_lock::{OpenRefusal, Seat, Seats, open, open_with_room};
 pub(crate) const ONE_LOCK: &[u8] =
     b"T1|w(x)|1\nT1|acq(l)|2\nT1|rel(l)|3\nT2|acq(l)|4\nT2|rel(l)|5\nT2|w(x)|6";
 
-// What is large is dropped here by `ok`, and in the tests by `drop`: the check proves of each function and at each way out of it how all that
-// is owned there is dropped, part by part; but of these two, which are of any type, it has been proved.
+// Large values are dropped here by `ok`, and in the tests by `drop`. For each other function the check proves, at each way out, how all that
+// it owns is dropped, part by part. Both `ok` and `drop` take a value of any type, and are proved once.
 fn shared_once(alloc: Global) -> Option<Arc<Indexed, Global>> {
     match load(alloc, ONE_LOCK) {
         Ok(indexed) => Arc::new(alloc, indexed).ok(),
@@ -58,7 +58,7 @@ pub(crate) fn script_at_last(alloc: Global, text: &[u8]) -> Option<Script> {
     }
 }
 
-// Seats at the bench, behind a door with so much room, or with as much as is best.
+// Seats at the bench, with a door that has this room, or the best room.
 fn opened(
     alloc: Global,
     bench: Bench,
@@ -83,7 +83,7 @@ fn seats_on(alloc: Global, bench: Bench, clients: u32, room: Option<u32>) -> Opt
     }
 }
 
-/// Seats for so many clients at an empty bench.
+/// Seats for `clients` clients at an empty bench.
 pub(crate) fn seats_at_last(alloc: Global, clients: u32, room: Option<u32>) -> Option<Seats> {
     match bench_at_last(alloc) {
         Some(bench) => seats_on(alloc, bench, clients, room),

@@ -1,5 +1,5 @@
 //! What no clause says of seats in one thread: that a call for which there was no memory is answered when it is made again, and the others
-//! go on meanwhile. Each test can be run with each of its allocations refused in turn, one in a run.
+//! go on in between. Each test can be run with each of its allocations refused in turn, one in a run.
 use crate::seats::fixtures::{bench_at_last, is_accepted, script_at_last, two_seats};
 use crate::seats::memory_tests::has_answers;
 use client_scripts::{Script, run_seat};
@@ -34,8 +34,8 @@ fn outcome_of<R: Wait>(rt: &R, seat: &mut Seat, call: &Call) -> Outcome {
     outcome
 }
 
-// The call, and if a growth was refused the same again: the first one changed nothing, and the other seat was served
-// meanwhile.
+// The call, and if a growth was refused the same again: the first one changed nothing, and the other seat was served in
+// between.
 fn is_done_at_last<R: Wait>(rt: &R, seat: &mut Seat, other: &mut Seat, call: &Call) -> bool {
     let before = other.front();
     match outcome_of(rt, seat, call) {
@@ -83,7 +83,7 @@ fn refused_memory_changes_nothing(rt: HostRuntime) {
 const SCRIPT: &[u8] =
     b"1 new A\n1 new A\n1 add A 3\n1 add A 1\n1 propose 0 5 3 4\n1 adopt A 0\n1 show A\n1 races A\n1 undo\n1 list\n1 propose 0 5 3\n";
 
-// A vector with room for all lines of the script, whatever they are.
+// A vector with room for all lines of the script.
 fn roomy_at_last(alloc: Global) -> Option<Vec<u8>> {
     match Vec::with_capacity(alloc, 4096) {
         Ok(out) => Some(out),
@@ -91,7 +91,7 @@ fn roomy_at_last(alloc: Global) -> Option<Vec<u8>> {
     }
 }
 
-// Whether it is told so in this vector, where the lines have room, as on a bench of its own.
+// Whether the seat's answers, in this vector with room for the lines, are those of a separate bench.
 fn is_told_in<R: Wait>(
     rt: &R,
     alloc: Global,
@@ -104,7 +104,7 @@ fn is_told_in<R: Wait>(
     is_run && has_answers(alloc, bench, script, out.as_slice())
 }
 
-// Whether a script whose lines have room is told what became of each of its calls, also of one for which there was no memory.
+// Whether a script whose lines have room gets an answer to each of its calls, also to one for which there was no memory.
 fn is_each_told<R: Wait>(
     rt: &R,
     alloc: Global,

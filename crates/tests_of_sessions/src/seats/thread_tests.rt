@@ -99,7 +99,7 @@ fn names_seen<R: Wait>(rt: &R, seat: &mut Seat) -> Option<u64> {
     names
 }
 
-// What `front` answers while the other seat's turn is held, and how many names there are in the listing that is asked for then.
+// What `front` answers while the other seat's turn is held, and how many names the listing has then.
 fn calls_meanwhile<R: Wait>(rt: &R, mut seat: Seat, signals: &Signals) -> Option<(u64, u64)> {
     if !is_set_soon(rt, &signals.is_held, 500) {
         drop(seat);
@@ -195,7 +195,7 @@ fn sees<R: Threads + Wait + Sync>(
     is_done && before == Some(0) && answer(rt, two, asked) == Some(1)
 }
 
-// The same, behind a door with room for none, which is room for one.
+// The same, with a door with room for none, which is room for one.
 fn sees_what_was_done<R: Threads + Wait + Sync>(
     rt: &R,
     alloc: Global,

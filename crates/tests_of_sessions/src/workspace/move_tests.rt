@@ -1,5 +1,5 @@
-//! What no clause says of refused memory: that a command, a batch, a proposal and a step back are made where there is memory, and that
-//! where memory was wanting the rows and the board are as they were, and what came back fits them still.
+//! What no clause says of refused memory: that a command, a batch, a proposal and a step back are made if memory suffices. If memory
+//! ran out, the rows and the board are as they were, and what came back fits them still.
 ghost use Rattle.std.specs.Prelude.{◌≡◌, ◌+◌, ◌<◌, [], length, IfSome};
 ghost use Rattle.moves.specs.Ages.{age};
 ghost use Rattle.moves.specs.Batches.{CanTurnAll, AreOfTrace};
@@ -353,7 +353,7 @@ fn are_dropped_and_back(
     is_made && is_back && are_rows(rows, alloc, one, &[3], two, &[])
 }
 
-// The schedule of these events; None where memory was wanting.
+// The schedule of the events; None if memory ran out.
 fn listed(alloc: Global, indexed: &Indexed, events: &[u32]) -> Option<Schedule>
     ensures { IfSome result (λ s. s.trace ≡ indexed.now) }
 {
@@ -408,7 +408,7 @@ fn is_on_the_board(alloc: Global, indexed: &Indexed, board: &mut Board) -> bool 
     }
 }
 
-// What is asked of the trace of one lock.
+// The questions on the trace of one lock.
 #[derive(Clone, Copy)]
 enum Question {
     Drop,
