@@ -52,7 +52,7 @@ pub fn create<D: Device>(alloc: Global, device: &mut D, head: &[u8]) -> Result<(
     ensures made { OnOk result (D.seen device.new ≡ at_rest head.now []) }
     ensures durable { OnOk result (Only (D.seen device.new) (D.may_leave device.new)) }
 
-    // A crash at any moment leaves what it might have left before, or a file of no lines with any head.
+    // A crash at any moment leaves what it might have left before, or a file of no lines, no matter what its head is.
     ensures any_moment { LeavesAlso D.Device device.old device.new (HasNoLine head.now) }
     ensures held { D.is_held device.new ≡ true }
     ensures found { D.found device.new ≡ D.found device.old }

@@ -35,8 +35,8 @@ pub(crate) fn are_sections(indexed: &Indexed, ends: &[Option<u32>]) -> bool {
     are_right
 }
 
-// Whether the trace has the hashers of this text, or None if memory ran out. Their hashes of nothing differ if they
-// differ.
+// Whether the trace has the hashers of this text, or None if memory ran out. Different hashers
+// have different hashes of no bytes.
 pub(crate) fn has_hashers_of(alloc: Global, indexed: &Indexed, text: &[u8]) -> Option<bool> {
     let kept = indexed.trace().raw().keyed().build_hasher().finish();
     match parse(alloc, text) {
