@@ -52,7 +52,7 @@ pub record ProposesSlices (T : List Event) (pairs : List (ℕ × ℕ)) (s n : Se
   pub slices : All (AsksSlice T pairs) calls
 
 -- The client has proposed slices of some of the first candidates through its seat. The log has all that the seat has seen,
--- and no other entries of the client, so that each entry of the client proposes such a slice.
+-- and no other entries of the client. So each entry of the client proposes such a slice.
 pub record HasSearched (trace : Recording) (site : Site) (log : List Entry) (client : ℕ) : Type 0 where
   pub pairs : List (ℕ × ℕ)
   pub first : AreFirstCandidates trace.events slice_limit pairs

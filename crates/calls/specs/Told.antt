@@ -33,7 +33,7 @@ abbrev pub fresh_bench : Recording → Benched
 fresh_bench trace = record { trace = trace; log = [] }
 
 -- The text of scripts that ran at once, script i as client i's, with `workers` workers: each client's answers, in order, and the one
--- log that all clients have built from the empty one on, with the client that proposes what the workers find.
+-- log. All clients, and the client that proposes what the workers find, have built the log from the empty one on.
 pub record AreTold (trace : Recording) (scripts : List (List Asked)) (workers : ℕ) (text : List ℕ) : Type 0 where
   pub site : Site
   pub log : List Entry

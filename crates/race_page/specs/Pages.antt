@@ -94,7 +94,8 @@ pub record IsEnd (r : Recording) (vs : List Verdict) (text : List ℕ) : Type 0 
   pub ended : IsPiece behind
 
 -- The text is a page of the trace at this path with these rows; `vs` are the verdicts on all pairs of locations. It begins with the head, which has the policy,
--- and with its first line, which says how many races were chosen, of which file, and what was left out. At its end are the counts of the whole trace.
+-- and with its first line. That line says how many races were chosen, of which file, and what was left out. At the end of the page are the counts of the whole
+-- trace.
 pub record IsPage (r : Recording) (vs : List Verdict) (races : ℕ) (left : LeftOut) (path text : List ℕ) (rows : List Shown) : Type 0 where
   pub file : List ℕ
   pub named : IsFileOf path file

@@ -224,8 +224,8 @@ impl Windows {
         Err(BenchFault::NoSuchEvent)
     }
 
-    // The window of all lines of `spans`, if they are the most that fit. If one of the lines is refused or breaks a rule,
-    // it is the window of the lines before that one.
+    // The window of all lines of `spans`, if they are the most that fit. If one of the lines is refused or breaks a
+    // rule, it is the window of the lines before that one.
     fn tried(
         &mut self,
         alloc: Global,

@@ -1,5 +1,6 @@
-//! What no clause says of the order SHB: with enough memory, the calls answer which events are ordered, the first candidates up to a limit,
-//! and slices. Worked examples have other limits than the program uses, and pairs in reverse order.
+//! What no clause says of the order SHB: with enough memory, the calls answer which events are ordered, the first
+//! candidates up to a limit, and slices. Worked examples have other limits than the program uses, and pairs in reverse
+//! order.
 ghost use Rattle.std.specs.Prelude.{◌≡◌};
 
 use crate::fixtures::{ONE_LOCK, TWO_PAIRS};

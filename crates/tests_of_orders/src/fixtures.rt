@@ -11,8 +11,8 @@ pub(crate) const ONE_LOCK: &[u8] =
 // A read that sees the other thread's write, and two writes of another variable.
 pub(crate) const TWO_PAIRS: &[u8] = b"T1|w(x)|1\nT2|r(x)|2\nT2|w(z)|3\nT1|w(z)|4";
 
-// The trace of a text; None if memory ran out. Each call has a separate function, so that no proof carries along what another call promises.
-// `ok` drops the rest of an answer, because how it drops a value of any type is proved already.
+// The trace of a text; None if memory ran out. Each call has a separate function, so that no proof carries along what
+// another call promises. `ok` drops the rest of an answer, because how it drops a value of any type is proved already.
 fn raw_of(alloc: Global, text: &[u8]) -> Option<RawTrace> {
     match parse(alloc, text) {
         Ok(raw) => Some(raw),

@@ -1,4 +1,5 @@
-//! What no clause says of a list that a caller owns: that an item is appended if memory suffices, and that otherwise the list is as it was.
+//! What no clause says of a list that a caller owns: that an item is appended if memory suffices, and that otherwise
+//! the list is as it was.
 
 use rapid_text::Items;
 use std::alloc::Global;

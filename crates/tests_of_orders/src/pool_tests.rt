@@ -1,5 +1,6 @@
-//! What no clause says: that each worker runs in a separate thread, that answers come, and that `start` and `submit` succeed if
-//! memory suffices. A pool that serves on one thread, or always answers that it has stopped or is out of memory, fails here.
+//! What no clause says: that each worker runs in a separate thread, that answers come, and that `start` and `submit`
+//! succeed if memory suffices. A pool that serves on one thread, or always answers that it has stopped or is out of
+//! memory, fails here.
 ghost use Rattle.std.specs.Prelude.{◌≡◌, IfSome};
 ghost use Rattle.std.specs.Arc.{arc_value};
 

@@ -1,5 +1,6 @@
-//! The tests' questions on traces, each with the wanted answer. If memory runs out at a question, the test repeats it once, and then it
-//! needs an answer. One function owns the index of a trace, for all questions: how it is dropped is proved once.
+//! The tests' questions on traces, each with the wanted answer. If memory runs out at a question, the test repeats it
+//! once, and then it needs an answer. One function owns the index of a trace, for all questions: how it is dropped is
+//! proved once.
 
 use crate::clock_tests::is_told_by_clocks;
 use crate::fixtures::indexed_of;

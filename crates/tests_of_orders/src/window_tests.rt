@@ -1,5 +1,5 @@
-//! What no clause says of windows of a long trace: that they are made, and refused, if memory suffices. Each wanted window is that of
-//! `tests/plain.py`.
+//! What no clause says of windows of a long trace: that they are made, and refused, if memory suffices. Each wanted
+//! window is that of `tests/plain.py`.
 
 use rapid_text::TextCause;
 use std::alloc::Global;

@@ -16,8 +16,8 @@ IsLines Entries = ⊤
 IsLines (Sarif sources) = ⊥
 IsLines (Page about) = ⊥
 
--- Without a triage file, two reports in lines on one trace with one set of options are one text, and report as many races, however many workers there were for
--- each.
+-- Without a triage file, take two reports in lines on one trace with one set of options. They are one text and report the same number of races,
+-- however many workers each had.
 abbrev pub ListingsAreOne : Type 0
 ListingsAreOne =
     (r : Recording) (given : Option (List ℕ)) (asked : Asked) (workers races others : ℕ) (text words : List ℕ)

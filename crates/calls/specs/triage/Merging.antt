@@ -19,7 +19,7 @@ use Rattle.calls.specs.declared.triage.fault.TriageFault.{TriageFault}
 use Rattle.calls.specs.declared.triage.fault.TriageFault.TheVariants.{Replay}
 use Rattle.calls.specs.declared.triage.merging.MergedLog.{MergedLog}
 
--- The text is a log with a result for each pair of places that a report of the parts has, in its order, and `races` pairs are races.
+-- The text is a log with a result for each pair of places that a report of the parts has, in its order. `races` pairs are races.
 pub record IsMergedLog (parts : BTreeMap (Vec ℕ Global) Part) (log : MergedLog) (races : ℕ) (text : List ℕ) : Type 0 where
   pub rows : List Row
   pub cells : List Cell
@@ -44,7 +44,7 @@ none_left = record {
   hidden = None;
 }
 
--- The text is a page with a row for each pair of places that a report of the parts has, in its order, and `races` pairs are races.
+-- The text is a page with a row for each pair of places that a report of the parts has, in its order. `races` pairs are races.
 pub record IsMergedPage (parts : BTreeMap (Vec ℕ Global) Part) (apart : Bool) (races : ℕ) (text : List ℕ) : Type 0 where
   pub rows : List Row
   pub cells : List Cell

@@ -83,8 +83,8 @@ impl Windows {
         Err(self.told_wide(all.end))
     }
 
-    // The fault of too many events, if more acquires are held than windows of `events` events may begin with. Each window begins with
-    // all held acquires, and many small windows would cost far more than the trace is long.
+    // The fault of too many events, if more acquires are held than windows of `events` events may begin with.
+    // Because each window begins with all held acquires, many small windows would cost far more than the trace is long.
     pub(super) fn check_holds(&self, events: usize) -> Result<(), BenchFault> {
         if held_of(&self.front) <= most_held(events) {
             return Ok(());

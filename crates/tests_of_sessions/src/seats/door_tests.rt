@@ -1,5 +1,5 @@
-//! What no clause says of the door before the lock: that those who wait for a call that is held up take next to nothing of the
-//! processors' time.
+//! What no clause says of the door before the lock: that those who wait for a call that is held up take next to nothing
+//! of the processors' time.
 use crate::seats::fixtures::{is_accepted, is_reply, seats_at_last};
 use client_scripts::{FromRead, read_input};
 use inverse_log::Call;

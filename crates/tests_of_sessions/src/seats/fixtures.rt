@@ -12,8 +12,9 @@ use workspace_lock::{OpenRefusal, Seat, Seats, open, open_with_room};
 pub(crate) const ONE_LOCK: &[u8] =
     b"T1|w(x)|1\nT1|acq(l)|2\nT1|rel(l)|3\nT2|acq(l)|4\nT2|rel(l)|5\nT2|w(x)|6";
 
-// Large values are dropped here by `ok`, and in the tests by `drop`. For each other function the check proves, at each way out, how all that
-// it owns is dropped, part by part. Both `ok` and `drop` take a value of any type, and are proved once.
+// Large values are dropped here by `ok`, and in the tests by `drop`. For each other function the check proves, at each
+// way out, how all that it owns is dropped, part by part. Both `ok` and `drop` take a value of any type, and are proved
+// once.
 fn shared_once(alloc: Global) -> Option<Arc<Indexed, Global>> {
     match load(alloc, ONE_LOCK) {
         Ok(indexed) => Arc::new(alloc, indexed).ok(),

@@ -1,6 +1,7 @@
-//! What no clause says of refused memory: that a script is read, a bench made, a call answered and each text appended if memory suffices.
-//! Made again, on what came back or was left, each gives its answer. The tests also check how often the bench says that its rows were
-//! changed. Each test named `memory_` can be run with each of its allocations refused in turn, one in a run.
+//! What no clause says of refused memory: that a script is read, a bench made, a call answered and each text appended
+//! if memory suffices. Made again, on what came back or was left, each gives its answer. The tests also check how often
+//! the bench says that its rows were changed. Each test named `memory_` can be run with each of its allocations refused
+//! in turn, one in a run.
 use crate::seats::fixtures::{bench_at_last, script_at_last};
 use client_scripts::{ReplayFault, Script, ScriptCause, ScriptRefusal, fault_text};
 use event_index::{Indexed, Pairs};
@@ -96,7 +97,8 @@ fn append_answers(bench: &mut Bench, script: &Script, lines: &[u8], out: &mut Ve
     are_told
 }
 
-/// Whether the bench answers the script with these lines. A call for which there was no memory, as its line says, is not made.
+/// Whether the bench answers the script with these lines. A call for which there was no memory, as its line says, is
+/// not made.
 pub(crate) fn has_answers(alloc: Global, bench: &mut Bench, script: &Script, lines: &[u8]) -> bool {
     let mut out = Vec::new(alloc);
     append_answers(bench, script, lines, &mut out) && out.as_slice() == lines

@@ -28,8 +28,8 @@ const UNREAD: ReplayFault = ReplayFault::Read {
 // The text has 114 bytes: 38 reads of three bytes, and one more that finds the end.
 const READS: u32 = 39;
 
-// Whether the replay, by a reader that fails at this read and a writer with this room, is answered so and has written `written` bytes of the
-// lines.
+// Whether the replay is answered so and has written `written` bytes of the lines. Its reader fails at this read, and
+// its writer has this room.
 fn is_answered(
     alloc: Global,
     fails_at: u32,

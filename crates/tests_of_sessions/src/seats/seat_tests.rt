@@ -104,7 +104,8 @@ fn is_told_in<R: Wait>(
     is_run && has_answers(alloc, bench, script, out.as_slice())
 }
 
-// Whether a script whose lines have room gets an answer to each of its calls, also to one for which there was no memory.
+// Whether a script whose lines have room gets an answer to each of its calls, also to one for which there was no
+// memory.
 fn is_each_told<R: Wait>(
     rt: &R,
     alloc: Global,

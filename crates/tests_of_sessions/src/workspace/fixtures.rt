@@ -9,8 +9,8 @@ use trace_rules::{Trace, check};
 // Two threads use one lock, and write one variable outside it.
 const ONE_LOCK: &[u8] = b"T1|w(x)|1\nT1|acq(l)|2\nT1|rel(l)|3\nT2|acq(l)|4\nT2|rel(l)|5\nT2|w(x)|6";
 
-// Each call has a separate function, so that no proof carries along what another call promises. `ok` drops the rest of its answer, because how
-// it drops a value of any type is proved already.
+// Each call has a separate function, so that no proof carries along what another call promises. `ok` drops the rest of
+// its answer, because how it drops a value of any type is proved already.
 fn raw_of(alloc: Global) -> Option<RawTrace> {
     match parse(alloc, ONE_LOCK) {
         Ok(raw) => Some(raw),

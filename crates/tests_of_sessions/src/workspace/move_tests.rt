@@ -1,5 +1,5 @@
-//! What no clause says of refused memory: that a command, a batch, a proposal and a step back are made if memory suffices. If memory
-//! ran out, the rows and the board are as they were, and what came back fits them still.
+//! What no clause says of refused memory: that a command, a batch, a proposal and a step back are made if memory
+//! suffices. If memory ran out, the rows and the board are as they were, and what came back fits them still.
 ghost use Rattle.std.specs.Prelude.{◌≡◌, ◌+◌, ◌<◌, [], length, IfSome};
 ghost use Rattle.moves.specs.Ages.{age};
 ghost use Rattle.moves.specs.Batches.{CanTurnAll, AreOfTrace};
