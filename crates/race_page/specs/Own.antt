@@ -84,7 +84,7 @@ abbrev pub row_head : Shown → List ℕ
 row_head shown =
     row_begin shown.sort ++ decimal shown.first ++ codes "-" ++ decimal shown.second ++ codes "\">\n<summary>" ++ seen_text shown.seen
 
--- the row that has a text
+-- the row with this text
 abbrev pub row_text : Shown → List ℕ → List ℕ
 row_text shown text =
     row_begin shown.sort ++ decimal shown.first ++ codes "-" ++ decimal shown.second ++ codes "\">\n<summary>" ++ seen_text shown.seen ++ text ++ codes "</details>\n"

@@ -105,7 +105,7 @@ pub record IsPage (r : Recording) (vs : List Verdict) (races : ℕ) (left : Left
   pub made : AreParts r parts rows
   pub closed : IsEnd r vs end
 
--- what was left out of the chosen verdicts
+-- how much the choice of verdicts left out
 abbrev pub left_of : Chosen → LeftOut
 left_of chosen = record {
   known = chosen.known;

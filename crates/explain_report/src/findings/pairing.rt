@@ -4,7 +4,7 @@ ghost use Rattle.event_index.specs.Relations.{IsConflicting};
 
 use event_index::Indexed;
 
-/// The two events, the earlier first, if they conflict. None if they do not, or if the trace lacks an event.
+/// The two events, the earlier first, if they conflict. None if they do not, or if a number is no event of the trace.
 pub fn pair_of(indexed: &Indexed, one: u32, other: u32) -> Option<(u32, u32)>
     ensures first { IfSome result (λ pair. pair.0 ≡ min one other) }
     ensures second { IfSome result (λ pair. pair.1 ≡ max one other) }

@@ -55,7 +55,7 @@ pub record AreUses (T : List Event) (place : ℕ → ℕ) (x : ℕ) (es : List �
   pub each : All (IsUse T place x) uses
   pub used : All (IsUsed T place x uses) es
 
--- the same for the trace and the places of a call
+-- the same for the trace and the places of `s`
 abbrev pub IsUseOf : Places → ℕ → Use → Type 0
 IsUseOf s = IsUse s.indexed.now.events (slice_index s.places.now)
 
@@ -175,7 +175,7 @@ pub record AreUsesHeld (T : List Event) (place : ℕ → ℕ) (x : ℕ) (rows : 
 abbrev pub AreFirstsHeld : List Event → (ℕ → ℕ) → List Row → ℕ → List (Option (ℕ × ℕ)) → Type 0
 AreFirstsHeld T place rows x firsts = (a b : ℕ) → IsPair T a b → is_access_at T x a ≡ true → IsFirstHeld place rows firsts a b
 
--- the same for the trace, the places and the rows of a call
+-- the same for the trace, the places and the rows of `s`
 abbrev pub HasFirsts : Places → List (Option (ℕ × ℕ)) → Type 0
 HasFirsts s = AreFirsts s.indexed.now (slice_index s.places.now) s.groups.now.rows.items
 
