@@ -1,0 +1,4 @@
+mod BetweenLemmas
+mod FewLemmas
+mod RowLemmas
+mod SumLemmas

@@ -1,0 +1,7 @@
+-- The lines so far are those of the locks so far.
+use Rattle.std.proofs.Common.{◌≡◌, ◌++◌, flat_map, take}
+use Rattle.uses_report.specs.Texts.{total_line}
+use Rattle.uses_report.proofs.text.append_lines.Given as goal
+
+abbrev pub invariant-loop-lock : goal.invariant-loop-lock
+invariant-loop-lock l = l.out.items ≡ l.fn.out.items ++ flat_map (total_line l.indexed) (take l.lock-index l.locks)

@@ -1,0 +1,3 @@
+pub mod Between
+pub mod Texts
+pub mod Totals
