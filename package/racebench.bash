@@ -1,7 +1,7 @@
 # Completion of racebench for bash. `tools/flags --write` writes the commands and flags of the help.
 
 _racebench() {
-    local commands="info replay session log threads triage deadlocks explain witness cut merge help" word=${COMP_WORDS[COMP_CWORD]} command= flags= at
+    local commands="info replay session log threads triage deadlocks explain witness uses cut merge help" word=${COMP_WORDS[COMP_CWORD]} command= flags= at
     for ((at = 1; at < COMP_CWORD; at++)); do
         if [[ " $commands " == *" ${COMP_WORDS[at]} "* ]]; then
             command=${COMP_WORDS[at]}
@@ -19,6 +19,7 @@ _racebench() {
         deadlocks) flags="--apart --tries --fail --help -h" ;;
         explain) flags="--all --help -h" ;;
         witness) flags="--script --std --svg --help -h" ;;
+        uses) flags="--help -h" ;;
         cut) flags="--windows --window --into --help -h" ;;
         merge) flags="--known --only --hide --apart --json --page --sarif --source --triage --today --fail --help -h" ;;
         help) flags= ;;

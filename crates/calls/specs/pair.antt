@@ -3,3 +3,4 @@ pub mod Forms
 pub mod Named
 pub mod PairFaults
 pub mod Requests
+pub mod Uses

@@ -1,11 +1,12 @@
-//! The calls on one pair of events, over a reader and a writer: `explain` says what is found of the pair, and `witness`
-//! prints the schedule that shows it.
+//! The calls on one pair of events, over a reader and a writer: `explain` says what is found of the pair, `witness`
+//! prints the schedule that shows it, and `uses` lists all accesses of its variables.
 
 mod explaining;
 mod fault;
 mod form;
 mod naming;
 mod requests;
+mod using;
 mod witnessing;
 mod writing;
 
@@ -14,4 +15,5 @@ pub use explaining::explain;
 pub use fault::{PairFault, pair_fault_text};
 pub use form::Form;
 pub use must_order::Kind;
+pub use using::uses;
 pub use witnessing::witness;

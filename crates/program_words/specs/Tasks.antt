@@ -7,7 +7,7 @@ use Rattle.program_words.specs.declared.task.SessionTask.{SessionTask}
 use Rattle.program_words.specs.declared.task.ThreadsTask.{ThreadsTask}
 use Rattle.program_words.specs.declared.task.TriageTask.{TriageTask}
 use Rattle.program_words.specs.declared.task.Task.{Task}
-use Rattle.program_words.specs.declared.task.Task.TheVariants.{Joint, Info, Replay, Session, Log, Threads, Triage, Deadlocks, Explain, Witness, Cut, Merge}
+use Rattle.program_words.specs.declared.task.Task.TheVariants.{Joint, Info, Replay, Session, Log, Threads, Triage, Deadlocks, Explain, Witness, Uses, Cut, Merge}
 
 -- the client, if there is one, is from 1 to the limit
 abbrev pub IsSessionWithin : Limits → SessionTask → Type 0
@@ -41,5 +41,6 @@ IsWithin limits (Triage task) = IsTriageWithin limits task
 IsWithin limits (Deadlocks task) = IsDeadlocksWithin limits task
 IsWithin limits (Explain pair all) = ⊤
 IsWithin limits (Witness pair form) = ⊤
+IsWithin limits (Uses pair) = ⊤
 IsWithin limits (Cut task) = IsCutWithin task
 IsWithin limits (Merge task) = ⊤

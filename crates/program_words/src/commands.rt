@@ -1,7 +1,7 @@
 //! The commands of the program, each with its arguments, as a table: it has the texts of help, and what `clap` accepts.
 
 use crate::deadlock_commands::DEADLOCKS;
-use crate::pair_commands::{EXPLAIN, WITNESS};
+use crate::pair_commands::{EXPLAIN, USES, WITNESS};
 use crate::words::{Kind, Most, TRACE, Word, Words};
 use crate::workspace_commands::{LOG, REPLAY, SESSION, THREADS};
 
@@ -17,12 +17,13 @@ pub(crate) enum CommandName {
     Deadlocks,
     Explain,
     Witness,
+    Uses,
     Cut,
     Merge,
 }
 
 /// All commands, in the order of help.
-pub(crate) const COMMANDS: [CommandName; 11] = [
+pub(crate) const COMMANDS: [CommandName; 12] = [
     CommandName::Info,
     CommandName::Replay,
     CommandName::Session,
@@ -32,6 +33,7 @@ pub(crate) const COMMANDS: [CommandName; 11] = [
     CommandName::Deadlocks,
     CommandName::Explain,
     CommandName::Witness,
+    CommandName::Uses,
     CommandName::Cut,
     CommandName::Merge,
 ];
@@ -310,6 +312,7 @@ pub(crate) fn words_of(command: CommandName) -> Words {
         CommandName::Deadlocks => DEADLOCKS,
         CommandName::Explain => EXPLAIN,
         CommandName::Witness => WITNESS,
+        CommandName::Uses => USES,
         CommandName::Cut => CUT,
         CommandName::Merge => MERGE,
     }

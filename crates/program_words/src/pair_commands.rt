@@ -74,3 +74,19 @@ refuses them.",
         },
     ],
 };
+
+pub(crate) const USES: Words = Words {
+    name: "uses",
+    about: "List who else uses the variables of a race, and under which locks",
+    example: "For example
+
+  racebench uses trace.std 7 12
+  racebench uses trace.std count.c:7 count.c:13
+
+The variables are those on which an access at one of the two locations conflicts with one at the
+other. A number means the location of that event. Each location that accesses one of the variables
+is listed, reads and writes apart: how many accesses and threads, which locks are held, and whether
+all of these accesses come before or after all accesses of the race in every correct reordering.
+`holds m` says that each access holds the lock m, and `holds m at 3` that only three do.",
+    words: &[TRACE, FIRST, SECOND],
+};

@@ -270,6 +270,7 @@ fn command_task<'a>(
         CommandName::Deadlocks => deadlocks(given, limits),
         CommandName::Explain => Ok(Task::Explain(pair(given), given.get_flag("all"))),
         CommandName::Witness => Ok(Task::Witness(pair(given), schedule_form(given))),
+        CommandName::Uses => Ok(Task::Uses(pair(given))),
         CommandName::Cut => window(given, limits),
         CommandName::Merge => Ok(Task::Merge(merge(alloc, given)?)),
     }

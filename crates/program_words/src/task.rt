@@ -209,6 +209,8 @@ pub enum Task<'a> {
     Explain(PairTask<'a>, bool),
     /// The schedule that shows a pair, in this form.
     Witness(PairTask<'a>, ScheduleForm),
+    /// The accesses of the variables of a race.
+    Uses(PairTask<'a>),
     /// Windows of a trace.
     Cut(CutTask<'a>),
     /// One report from many.

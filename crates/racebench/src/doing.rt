@@ -5,8 +5,8 @@ ghost use Rattle.std.specs.Prelude.{◌≡◌, ◌<◌, ◌≤◌, All, false, v
 use crate::input::{Input, Watched, input_at, inputs_at};
 use crate::marked::{say_marked, tell_mark};
 use crate::notes::are_wanted;
-use crate::telling::{say, tell_files, tell_joint, tell_pair, tell_replay};
-use calls::pair::{Form, Name, explain, witness};
+use crate::telling::{say, tell_files, tell_joint, tell_pair, tell_replay, tell_uses};
+use calls::pair::{Form, Name, explain, uses, witness};
 use calls::{
     BEST_ROOM, BenchFault, MAX_SCRIPTS, Running, info, replay, replay_joint, threads_with_room,
 };
@@ -142,6 +142,17 @@ pub(crate) fn witness_in_file(
     match witness(rt.alloc(), &mut input, one, other, form, &mut writer) {
         Ok(()) => finish_read(rt, &mut writer, &input, pair.trace),
         Err(fault) => tell_pair(rt, fault, pair),
+    }
+}
+
+/// Lists the accesses of the variables of a race of the trace in a file.
+pub(crate) fn uses_in_file(rt: &HostRuntime, pair: &PairTask<'_>) -> ExitCode {
+    let mut writer = FromWrite::new(io::writer(rt));
+    let mut input = input_at(rt, pair.trace);
+    let (one, other) = (name_of(pair.one), name_of(pair.other));
+    match uses(rt.alloc(), &mut input, one, other, &mut writer) {
+        Ok(()) => finish_read(rt, &mut writer, &input, pair.trace),
+        Err(fault) => tell_uses(rt, fault, pair),
     }
 }
 

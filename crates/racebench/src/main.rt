@@ -54,7 +54,8 @@ mod write_notes;
 use crate::cutting::cut_of_file;
 use crate::deadlocking::deadlocks_in_file;
 use crate::doing::{
-    explain_in_file, info_of_file, replay_files, replay_input, threads_on_files, witness_in_file,
+    explain_in_file, info_of_file, replay_files, replay_input, threads_on_files, uses_in_file,
+    witness_in_file,
 };
 use crate::merging::merge_files;
 use crate::sessions::{log_of_file, session_on_files};
@@ -114,6 +115,7 @@ fn work<R: Threads + Wait + Sync + Clone + Send + Drop + 'static>(
         Task::Deadlocks(task) => deadlocks_in_file(rt, task),
         Task::Explain(pair, all) => explain_in_file(rt, pair, *all),
         Task::Witness(pair, form) => witness_in_file(rt, pair, *form),
+        Task::Uses(pair) => uses_in_file(rt, pair),
         Task::Cut(task) => cut_of_file(rt, task),
         Task::Merge(task) => merge_files(rt, task),
     }

@@ -1,4 +1,4 @@
-//! The note on two names that mean no pair: which of the reasons it is.
+//! The note on two names that mean no pair, or no variable of a race: which of the reasons it is.
 
 ghost use Rattle.std.specs.Prelude.{◌≡◌, false};
 
@@ -14,11 +14,12 @@ use program_words::PairTask;
 use rapid_text::{Op, OutOfMemory};
 
 /// Appends the note on why the names mean no pair of the trace in a file. The file is read again, so there is no note
-/// if it is not plain, or if the trace came on standard input.
+/// if it is not plain, or if the trace came on standard input. If `by_location` is true, an event means its location.
 pub(crate) fn append_pair_note(
     rt: &HostRuntime,
     out: &mut Vec<u8>,
     pair: &PairTask<'_>,
+    by_location: bool,
 ) -> Result<(), OutOfMemory> {
     if is_standard(pair.trace) {
         return Ok(());
@@ -27,7 +28,7 @@ pub(crate) fn append_pair_note(
         return Ok(());
     }
     let mut input = input_at(rt, pair.trace);
-    append_note_of(rt, out, &mut input, pair)
+    append_note_of(rt, out, &mut input, pair, by_location)
 }
 
 /// Appends the note, for the trace that this input gives.
@@ -36,11 +37,12 @@ fn append_note_of(
     out: &mut Vec<u8>,
     input: &mut Input,
     pair: &PairTask<'_>,
+    by_location: bool,
 ) -> Result<(), OutOfMemory>
     requires { input.old.failed ≡ false }
 {
     match read_trace(rt.alloc(), input) {
-        Ok(indexed) => append_reason_of(rt, out, &indexed, pair),
+        Ok(indexed) => append_reason_of(rt, out, &indexed, pair, by_location),
         Err(_) => Ok(()),
     }
 }
@@ -51,9 +53,12 @@ fn append_reason_of(
     out: &mut Vec<u8>,
     indexed: &Indexed,
     pair: &PairTask<'_>,
+    by_location: bool,
 ) -> Result<(), OutOfMemory> {
     match name_of(pair.one) {
-        Name::Event(one) => append_event_reason(rt, out, indexed, one, name_of(pair.other)),
+        Name::Event(one) => {
+            append_event_reason(rt, out, indexed, one, name_of(pair.other), by_location)
+        }
         one => append_place_reason(rt.alloc(), out, indexed, one, name_of(pair.other)),
     }
 }
@@ -65,12 +70,17 @@ fn append_event_reason(
     indexed: &Indexed,
     one: u32,
     other: Name<'_>,
+    by_location: bool,
 ) -> Result<(), OutOfMemory> {
     match other {
-        Name::Event(other) => append_reason(out, indexed, one, other),
+        Name::Event(other) => append_reason(out, indexed, one, other, by_location),
         other => append_place_reason(rt.alloc(), out, indexed, Name::Event(one), other),
     }
 }
+
+/// The note on two locations without a race.
+const NO_VARIABLE: &[u8] =
+    b"note: no access at the location of one event conflicts with an access at that of the other\n";
 
 /// Appends the note on two events.
 fn append_reason(
@@ -78,6 +88,7 @@ fn append_reason(
     indexed: &Indexed,
     one: u32,
     other: u32,
+    by_location: bool,
 ) -> Result<(), OutOfMemory> {
     let len = indexed.len();
     if one >= len {
@@ -85,6 +96,9 @@ fn append_reason(
     }
     if other >= len {
         return append_no_event(out, other, u64::from(len));
+    }
+    if by_location {
+        return Ok(out.extend_from_slice(NO_VARIABLE)?);
     }
     if one == other {
         return append_same_event(out, one);

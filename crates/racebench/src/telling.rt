@@ -204,11 +204,11 @@ fn append_in_pair(
         return Ok(());
     }
     match fault {
-        PairFault::NoSuchPair => append_pair_note(rt, out, pair)?,
+        PairFault::NoSuchPair => append_pair_note(rt, out, pair, false)?,
         PairFault::NotShown(_) | PairFault::NoDeadlock { is_apart: _ } => {
             out.extend_from_slice(b"note: `racebench explain` of the same two says why\n")?
         }
-        PairFault::Replay(_) => {}
+        PairFault::Replay(_) | PairFault::TooManyHeld => {}
     }
     Ok(())
 }
@@ -277,6 +277,32 @@ pub(crate) fn tell_pair(rt: &HostRuntime, fault: PairFault, pair: &PairTask<'_>)
             end(rt, &lines, made, ExitCode::FAILURE)
         }
     }
+}
+
+/// Reports a fault of the table of the accesses of a race.
+pub(crate) fn tell_uses(rt: &HostRuntime, fault: PairFault, pair: &PairTask<'_>) -> ExitCode
+    ensures { 0 < exit_status result }
+{
+    match fault {
+        PairFault::NoSuchPair => {
+            let mut lines = Vec::new(rt.alloc());
+            let made = append_unused(rt, &mut lines, pair);
+            end(rt, &lines, made, ExitCode::FAILURE)
+        }
+        fault => tell_pair(rt, fault, pair),
+    }
+}
+
+/// Appends the line that reports that the names mean no variable of a race, and its note.
+fn append_unused(
+    rt: &HostRuntime,
+    out: &mut Vec<u8>,
+    pair: &PairTask<'_>,
+) -> Result<(), OutOfMemory> {
+    if append_noted(rt, out, &Fault::Pair(PairFault::NoSuchPair))? {
+        append_pair_note(rt, out, pair, true)?;
+    }
+    Ok(())
 }
 
 /// Appends the line that reports that a window begins at no event, and the note that says which events the trace has.

@@ -13,7 +13,7 @@ use Rattle.calls.specs.pair.Forms.{IsPrinted}
 use Rattle.calls.specs.pair.Named.{IsNamedPair}
 use Rattle.calls.specs.declared.pair.fault.PairFault.{PairFault}
 use Rattle.calls.specs.declared.pair.form.Form.{Form}
-use Rattle.calls.specs.declared.pair.fault.PairFault.TheVariants.{Replay, NoSuchPair, NotShown, NoDeadlock}
+use Rattle.calls.specs.declared.pair.fault.PairFault.TheVariants.{Replay, NoSuchPair, NotShown, NoDeadlock, TooManyHeld}
 
 -- a fault that is not for want of memory is one of the bytes
 fault_of : (bytes : List ℕ) (fault : ReplayFault) → fault ≢ OutOfMemory → (fault ≡ OutOfMemory) ⊎ IsFault (of_trace bytes) fault → IsFault (of_trace bytes) fault
@@ -43,6 +43,7 @@ module _ (Prints : Recording → List ℕ → Type 0) (Refuses : Recording → P
     answered-written (Err NoSuchPair) w = (r, read, w)
     answered-written (Err (NotShown kind)) w = (r, read, w)
     answered-written (Err (NoDeadlock is_apart)) w = (r, read, w)
+    answered-written (Err TooManyHeld) w = (r, read, w)
 
     -- no fault of reading is told once the trace was read
     pub written-unread : (result : Result Unit PairFault) (input : ℕ) (why : ReadCause) → IsWritten Prints Refuses r old new result → result ≢ Err (Replay (Read input why))
@@ -86,6 +87,7 @@ unlisted-unwitnessed r one other a b pair (Replay Write) h = absurd h
 unlisted-unwitnessed r one other a b pair NoSuchPair h = absurd h
 unlisted-unwitnessed r one other a b pair (NotShown kind) h = (a, b, pair, h)
 unlisted-unwitnessed r one other a b pair (NoDeadlock is_apart) h = absurd h
+unlisted-unwitnessed r one other a b pair TooManyHeld h = absurd h
 
 -- the text of a schedule that was found
 pub witness-text : (r : Recording) (one other : Name) (a b : ℕ) (form : Form) → IsNamedPair r one other a b → (events shown empty printed text : List ℕ) → IsListed r a b events → shown ≡ events → empty ≡ []

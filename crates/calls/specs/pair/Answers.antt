@@ -23,7 +23,7 @@ use Rattle.calls.specs.pair.Named.{IsNamedPair, IsNoPair}
 use Rattle.calls.specs.pair.Requests.{AreNoRequests, IsDeadlockExplained, IsDeadlockWitness, IsNoDeadlock}
 use Rattle.calls.specs.declared.pair.fault.PairFault.{PairFault}
 use Rattle.calls.specs.declared.pair.form.Form.{Form}
-use Rattle.calls.specs.declared.pair.fault.PairFault.TheVariants.{Replay, NoSuchPair, NotShown, NoDeadlock}
+use Rattle.calls.specs.declared.pair.fault.PairFault.TheVariants.{Replay, NoSuchPair, NotShown, NoDeadlock, TooManyHeld}
 
 -- the text explains a finding on the pair: its words, both accesses with the locks that are held, and the reason; of a race, all runs of
 -- its schedule, or the first ones of many as one block
@@ -86,6 +86,7 @@ IsUnlisted r a b (Replay fault) = ⊥
 IsUnlisted r a b NoSuchPair = ⊥
 IsUnlisted r a b (NotShown kind) = IsNotShown r a b kind
 IsUnlisted r a b (NoDeadlock is_apart) = ⊥
+IsUnlisted r a b TooManyHeld = ⊥
 
 -- why a pair of this trace is not explained
 abbrev pub IsUnexplained : Recording → Name → Name → PairFault → Type 0
@@ -94,6 +95,7 @@ IsUnexplained r one other (Replay fault) = ⊥
 IsUnexplained r one other NoSuchPair = IsNoPair r one other × AreNoRequests r one other
 IsUnexplained r one other (NotShown kind) = ⊥
 IsUnexplained r one other (NoDeadlock is_apart) = ⊥
+IsUnexplained r one other TooManyHeld = ⊥
 
 -- why no schedule of it is printed
 abbrev pub IsUnwitnessed : Recording → Name → Name → PairFault → Type 0
@@ -102,6 +104,7 @@ IsUnwitnessed r one other (Replay fault) = ⊥
 IsUnwitnessed r one other NoSuchPair = IsNoPair r one other × AreNoRequests r one other
 IsUnwitnessed r one other (NotShown kind) = (a b : ℕ) × IsNamedPair r one other a b × IsNotShown r a b kind
 IsUnwitnessed r one other (NoDeadlock is_apart) = IsNoPair r one other × IsNoDeadlock r one other is_apart
+IsUnwitnessed r one other TooManyHeld = ⊥
 
 -- What was written of a trace where `Prints` says which texts are right, and `Refuses` which faults: the whole text; or the writer
 -- failed, and it is a beginning of the text; or, at another fault, nothing.
@@ -123,6 +126,8 @@ IsAnswered Prints Refuses bytes old new (Err (NotShown kind)) =
     (r : Recording) × IsTraceOf bytes r × IsWritten Prints Refuses r old new (Err (NotShown kind))
 IsAnswered Prints Refuses bytes old new (Err (NoDeadlock is_apart)) =
     (r : Recording) × IsTraceOf bytes r × IsWritten Prints Refuses r old new (Err (NoDeadlock is_apart))
+IsAnswered Prints Refuses bytes old new (Err TooManyHeld) =
+    (r : Recording) × IsTraceOf bytes r × IsWritten Prints Refuses r old new (Err TooManyHeld)
 
 -- what `explain` answers of the pair, if all runs of a schedule are wanted or not
 abbrev pub IsExplained : List ℕ → Name → Name → Bool → Option (List ℕ) → Option (List ℕ) → Result Unit PairFault → Type 0

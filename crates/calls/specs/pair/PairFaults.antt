@@ -4,7 +4,7 @@ use Rattle.client_scripts.specs.FaultTexts.{fault_words}
 use Rattle.must_order.specs.declared.kind.Kind.{Kind}
 use Rattle.must_order.specs.declared.kind.Kind.TheVariants.{Candidate, Forced, Guarded, Open}
 use Rattle.calls.specs.declared.pair.fault.PairFault.{PairFault}
-use Rattle.calls.specs.declared.pair.fault.PairFault.TheVariants.{Replay, NoSuchPair, NotShown, NoDeadlock}
+use Rattle.calls.specs.declared.pair.fault.PairFault.TheVariants.{Replay, NoSuchPair, NotShown, NoDeadlock, TooManyHeld}
 
 -- the word for a kind
 abbrev pub kind_text : Kind → List ℕ
@@ -23,3 +23,4 @@ pair_fault_words (Replay fault) = fault_words fault
 pair_fault_words NoSuchPair = codes "no such pair"
 pair_fault_words (NotShown kind) = codes "not shown: " ++ kind_text kind
 pair_fault_words (NoDeadlock is_apart) = codes "not shown: " ++ apart_text is_apart
+pair_fault_words TooManyHeld = codes "too many held locks"

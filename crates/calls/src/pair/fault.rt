@@ -7,6 +7,7 @@ use client_scripts::{ReplayFault, fault_text};
 use must_order::Kind;
 use rapid_text::OutOfMemory;
 use report::{Piece, append_pieces};
+use uses_report::UsesFault;
 
 /// Why a call on a pair stopped. The numbers are those of docs/FORMATS.md.
 #[derive(Clone, Copy, PartialEq, Eq, Debug)]
@@ -23,6 +24,8 @@ pub enum PairFault {
         /// Whether no correct reordering shows them. If not, the search found none.
         is_apart: bool,
     },
+    /// 116: more than 16,777,216 locks are held at the accesses of the variables.
+    TooManyHeld,
 }
 
 impl From<ReplayFault> for PairFault {
@@ -45,6 +48,21 @@ impl From<OutOfMemory> for PairFault {
 
     fn from(_refused: OutOfMemory) -> PairFault {
         PairFault::Replay(ReplayFault::OutOfMemory)
+    }
+}
+
+impl From<UsesFault> for PairFault {
+    ghost use Rattle.std.specs.Prelude.{◌≡◌};
+    ghost use Rattle.calls.specs.pair.Uses.{uses_fault};
+
+    ghost from_gives = { λ fault stopped. stopped ≡ uses_fault fault };
+
+    fn from(fault: UsesFault) -> PairFault {
+        match fault {
+            UsesFault::NoSuchPair => PairFault::NoSuchPair,
+            UsesFault::TooMany => PairFault::TooManyHeld,
+            UsesFault::OutOfMemory => PairFault::Replay(ReplayFault::OutOfMemory),
+        }
     }
 }
 
@@ -89,5 +107,6 @@ pub fn pair_fault_text(fault: &PairFault, out: &mut Vec<u8>) -> Result<(), OutOf
                 Piece::Words(apart_words(*is_apart)),
             ],
         ),
+        PairFault::TooManyHeld => append_pieces(out, &[Piece::Words(b"too many held locks")]),
     }
 }
