@@ -1,10 +1,10 @@
 #!/usr/bin/env python3
 """Judges `uses`: the accesses of the variables of a race, by location and operation, reckoned from the trace alone.
 
-Draws traces whose locations resemble one another, and pairs of arguments: locations, parts of them, and numbers of
-events. The whole text must be as it is reckoned here from tests/plain.py: the variables, the rows with their accesses,
-threads and locks, and which rows come before or after all accesses of the race. If no accesses at the two locations
-conflict, the program must say that there is no such pair.
+Draws traces whose locations resemble one another, and pairs of arguments: locations, parts of locations, and numbers
+of events. The whole text must be as it is reckoned here from tests/plain.py: the variables, the rows with their
+accesses, threads and locks, and which rows come before or after all accesses of the race. If no accesses at the two
+locations conflict, the program must say `no such pair`.
 
     judge_uses.py PROGRAM [TRACES [SEED]]      this many drawn traces, the first of this seed
 

@@ -46,7 +46,7 @@ pub record AreChosen (r : Recording) (ones others chosen : List Bool) : Type 0 w
   pub len : length chosen ≡ length r.variables
   pub shared : (x : ℕ) → x < length r.variables → (slice_index_or chosen x false ≡ true) ↔ IsShared r.events ones others x
 
--- the text of the table of all accesses of these variables, by location and operation
+-- the text of the table of all accesses of the chosen variables, by location and operation
 pub record IsTableText (r : Recording) (named chosen : List Bool) (text : List ℕ) : Type 0 where
   pub places : List ℕ
   pub numbers : AreNumbers r places

@@ -27,7 +27,7 @@ word_by (Some v) = op_words v.op
 abbrev pub word_of : Recording → ℕ → List ℕ
 word_of r e = word_by (slice_get r.events e)
 
--- where the accesses of a row are: in the race, before all accesses of the race, after all of them, or elsewhere
+-- where the accesses of a row are: in the race, before all accesses of the race, after all such accesses, or elsewhere
 abbrev pub side_words : Option Side → List ℕ
 side_words None = []
 side_words (Some side) = cond side.is_before (codes " before the race") (cond side.is_after (codes " after the race") [])
@@ -45,7 +45,7 @@ head_line r uses k =
 abbrev pub location_line : Recording → ℕ → List ℕ
 location_line r e = codes "  " ++ slice_index_or r.locations e [] ++ codes "\n"
 
--- at how many accesses a lock is held, if not at all `all` of them
+-- at how many accesses a lock is held, unless all `all` accesses hold it
 abbrev pub part_text : ℕ → ℕ → List ℕ
 part_text all count = cond (all == count) [] (codes " at" ++ number_text count)
 

@@ -67,7 +67,7 @@ pub(crate) fn append_location(
     Ok(())
 }
 
-/// The number at this index; 0 if there is none.
+/// The number at this index; 0 past the end.
 pub(crate) fn number_at(numbers: &[u32], at: usize) -> u32
     ensures { result ≡ slice_index numbers.now at }
 {
@@ -77,7 +77,7 @@ pub(crate) fn number_at(numbers: &[u32], at: usize) -> u32
     }
 }
 
-/// The flag at this index; false if there is none.
+/// The flag at this index; false past the end.
 pub(crate) fn flag_at(flags: &[bool], at: usize) -> bool
     ensures { result ≡ slice_index_or flags.now at false }
 {

@@ -5,7 +5,7 @@ use variable_uses::UsesRefusal;
 /// Why there is no table.
 #[derive(Clone, Copy)]
 pub enum UsesFault {
-    /// The names mean no two accesses that conflict, or one of them means accesses at several places.
+    /// The names mean no two accesses that conflict, or a name means accesses at several places.
     NoSuchPair,
     /// More than 16,777,216 locks are held at the accesses.
     TooMany,

@@ -181,7 +181,7 @@ fn append_held(
     Ok(())
 }
 
-// Appends at how many accesses a lock is held, unless it is held at all of them.
+// Appends at how many accesses a lock is held, unless all accesses hold it.
 fn append_part(out: &mut Vec<u8>, all: u32, count: u32) -> Result<(), OutOfMemory>
     ensures { Appended result out.old out.new (part_text all count) }
 {
