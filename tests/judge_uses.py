@@ -22,7 +22,6 @@ if __name__ == "__main__":
 import by_chance
 import judge_places
 import judging
-import plain
 import running
 from judging import Wrong
 
