@@ -1,11 +1,10 @@
 -- The table between two sets of events.
-use Rattle.std.proofs.Common.{◌≡◌, ◌↔◌, ℕ, ◌<◌, Bool, true, false, List, Result, Ok, Err, Vec, IfOk, IfErr, length, inl, inr}
+use Rattle.std.proofs.Common.{◌≡◌, ℕ, Bool, true, false, List, Result, Ok, Err, Vec, IfOk, IfErr, inr}
 use Rattle.std.specs.Prelude.{slice_index_or}
 use Rattle.std.specs.declared.alloc.Global.{Global}
 use Rattle.rapid_text.specs.Recording.{Recording}
 use Rattle.explain_report.specs.places.Accesses.{IsAtOnePlace}
 use Rattle.explain_report.specs.declared.places.name.Name.{Name}
-use Rattle.variable_uses.specs.Shared.{IsShared}
 use Rattle.uses_report.specs.Between.{AreChosen, AreMeant, AreNoUses, AreTooMany, AreUsesTold, HaveNoPair, HaveNoTable, IsTableOf, IsTableText, named_of}
 use Rattle.uses_report.specs.declared.refusal.UsesFault.{UsesFault}
 use Rattle.uses_report.specs.declared.refusal.UsesFault.TheVariants.{NoSuchPair, OutOfMemory, TooMany}

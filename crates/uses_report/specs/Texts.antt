@@ -1,6 +1,6 @@
 -- The text of a table. `r` is the recording of a trace, and k is the index of a row. All notions here are this
 -- project's own.
-use Rattle.std.specs.Prelude.{◌≡◌, ℕ, ◌==◌, ◌+◌, Bool, true, false, cond, List, [], ◌∷◌, ◌++◌, flat_map, length, Option, Some, None, slice_get, slice_index, slice_index_or, Vec, codes}
+use Rattle.std.specs.Prelude.{ℕ, ◌==◌, Bool, false, cond, List, [], ◌∷◌, ◌++◌, flat_map, length, Option, Some, None, slice_get, slice_index, slice_index_or, Vec, codes}
 use Rattle.std.specs.declared.alloc.Global.{Global}
 use Rattle.rapid_text.specs.Recording.{Recording}
 use Rattle.rapid_text.specs.declared.event.Event.{Event}

@@ -1,5 +1,5 @@
 -- The counts of a table. All notions here are this project's own.
-use Rattle.std.specs.Prelude.{◌≡◌, ℕ, Bool, List, length, count_by}
+use Rattle.std.specs.Prelude.{ℕ, Bool, List, count_by}
 use Rattle.std.specs.List.{sum_by}
 use Rattle.race_triage.specs.Pieces.{capped}
 use Rattle.variable_uses.specs.declared.uses.Uses.{Uses}

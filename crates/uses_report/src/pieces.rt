@@ -43,7 +43,11 @@ pub(crate) fn append_small(out: &mut Vec<u8>, number: u32) -> Result<(), OutOfMe
 }
 
 /// Appends the name of the lock. Appends nothing if the trace has no such lock.
-pub(crate) fn append_lock(out: &mut Vec<u8>, indexed: &Indexed, lock: u32) -> Result<(), OutOfMemory>
+pub(crate) fn append_lock(
+    out: &mut Vec<u8>,
+    indexed: &Indexed,
+    lock: u32,
+) -> Result<(), OutOfMemory>
     ensures { Appended result out.old out.new (slice_index_or indexed.now.locks lock []) }
 {
     let raw = indexed.trace().raw();

@@ -82,11 +82,7 @@ fn append_lines(
 }
 
 // Appends the line of a lock.
-fn append_total(
-    out: &mut Vec<u8>,
-    indexed: &Indexed,
-    held: LockCount,
-) -> Result<(), OutOfMemory>
+fn append_total(out: &mut Vec<u8>, indexed: &Indexed, held: LockCount) -> Result<(), OutOfMemory>
     ensures { Appended result out.old out.new (total_line indexed.now held) }
 {
     append_words(out, b"  ")?;

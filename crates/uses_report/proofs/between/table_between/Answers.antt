@@ -1,4 +1,4 @@
-use Rattle.std.proofs.Common.{◌≡◌, ◌∙◌, ℕ, Bool, true, false, List, IfErr, IfOk, length, ap, refl, subst, sym}
+use Rattle.std.proofs.Common.{◌≡◌, ◌∙◌, ℕ, Bool, true, false, List, IfErr, IfOk, refl, subst}
 use Rattle.std.specs.Prelude.{slice_index_or}
 use Rattle.uses_report.specs.Between.{AreChosen, AreTooMany, HaveNoTable, IsTableOf, IsTableText, named_of}
 use Rattle.uses_report.proofs.BetweenLemmas.{if_err, if_ok, no_pair, no_table, table}

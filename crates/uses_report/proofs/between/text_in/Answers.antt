@@ -9,7 +9,7 @@ returns-in_ok-uses_text-in-Ok-clause-text c = record {
   uses = c.in-Ok.uses;
   columns = c.in-Ok.ensures.uses;
   printed =
-    c.in_ok-uses_text-in-Ok.ensures.ok
-    ∙ ap (λ t. t ++ uses_words c.indexed.result.now c.args.chosen.now c.in-Ok.uses) c.new-text.ensures.items
-    ∙ ap (λ r. uses_words r c.args.chosen.now c.in-Ok.uses) c.indexed.ensures;
+      c.in_ok-uses_text-in-Ok.ensures.ok
+      ∙ ap (λ t. t ++ uses_words c.indexed.result.now c.args.chosen.now c.in-Ok.uses) c.new-text.ensures.items
+      ∙ ap (λ r. uses_words r c.args.chosen.now c.in-Ok.uses) c.indexed.ensures;
 }
