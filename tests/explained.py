@@ -5,32 +5,50 @@ chain of SHB. Each link of a chain must be one of the definition, and what no de
 true.
 """
 
-import collections
+from __future__ import annotations
 
+from collections import Counter
+from collections.abc import Callable, Mapping, Sequence
+from typing import NamedTuple
+
+import plain
 from judging import Wrong
+from plain import Listed
 
 # How many runs are printed one by one, and how many of the last where there are more.
 MOST_RUNS = 11
 LAST_RUNS = 10
 
-# A chain of a forced pair: the printed events, in order, and the reasons between each two.
-Chain = collections.namedtuple("Chain", "events reasons")
+# Two events: a pair that is judged, or the ends of a chain.
+Pair = tuple[int, int]
+# The event that begins a section, and the event before which that section has to end.
+Section = tuple[int, int]
+# Whether a reason holds between two events: in the trace, or in a list of events.
+Link = Callable[[plain.Trace, int, int], bool]
+ListedLink = Callable[[plain.Trace, Listed, int, int], bool]
+
+
+class Chain(NamedTuple):
+    """A chain of a forced pair: the printed events, in order, and the reasons between each two."""
+
+    events: list[int]
+    reasons: list[str]
 
 
 class Lines:
     """The lines of a text, which are taken one after another."""
 
-    def __init__(self, text):
+    def __init__(self, text: str) -> None:
         if text and not text.endswith("\n"):
             raise Wrong("the text ends within a line")
         self.lines = text.split("\n")[:-1]
         self.at = 0
 
-    def next(self):
+    def next(self) -> str | None:
         """The line that comes next, or None after the last."""
         return self.lines[self.at] if self.at < len(self.lines) else None
 
-    def take(self):
+    def take(self) -> str:
         """Takes the line that comes next."""
         line = self.next()
         if line is None:
@@ -38,37 +56,37 @@ class Lines:
         self.at += 1
         return line
 
-    def expect(self, *lines):
+    def expect(self, *lines: str) -> None:
         """Takes these lines."""
         for line in lines:
             found = self.take()
             if found != line:
                 raise Wrong(f"line {self.at} is {found!r}, and plainly {line!r}")
 
-    def end(self):
+    def end(self) -> None:
         if self.next() is not None:
             raise Wrong(f"line {self.at + 1} is one too many: {self.next()!r}")
 
 
-def numbered(trace, event):
+def numbered(trace: plain.Trace, event: int) -> str:
     return f"{event}  {trace.line(event)}"
 
 
-def with_locks(trace, event):
+def with_locks(trace: plain.Trace, event: int) -> list[str]:
     """The line of the event, and those of the locks that its thread holds before it."""
     return [numbered(trace, event)] + [f"    holds {lock}" for lock in trace.locks_before(event)]
 
 
-def count(number, word):
+def count(number: int, word: str) -> str:
     return f"{number} {word}" if number == 1 else f"{number} {word}s"
 
 
-def blanks_of(line):
+def blanks_of(line: str) -> int:
     """How many blanks the line begins with."""
     return len(line) - len(line.lstrip(" "))
 
 
-def event_of(trace, line, blanks):
+def event_of(trace: plain.Trace, line: str, blanks: int) -> int:
     """The number of the event whose line this is, after this many blanks."""
     number = line[blanks:].split(" ")[0]
     event = int(number) if number.isdecimal() else None
@@ -80,33 +98,33 @@ def event_of(trace, line, blanks):
 # The reasons between two events. A part of a chain along one thread is drawn together.
 
 
-def is_later(trace, first, second):
+def is_later(trace: plain.Trace, first: int, second: int) -> bool:
     return first < second and trace.thread(first) == trace.thread(second)
 
 
-def begins_thread(trace, first, second):
+def begins_thread(trace: plain.Trace, first: int, second: int) -> bool:
     return trace.base(second) == first and trace.thread(first) != trace.thread(second)
 
 
-def is_read_by(trace, first, second):
+def is_read_by(trace: plain.Trace, first: int, second: int) -> bool:
     return trace.events[second].word == "r" and trace.last_writer(second) == first
 
 
-def ends_thread(trace, first, second):
+def ends_thread(trace: plain.Trace, first: int, second: int) -> bool:
     return trace.does(second, "join", trace.thread(first)) and trace.events_of(trace.thread(first))[-1] == first
 
 
-def forks_joined(trace, first, second):
+def forks_joined(trace: plain.Trace, first: int, second: int) -> bool:
     name = trace.events[second].name
     return trace.does(second, "join", name) and trace.does(first, "fork", name) and not trace.events_of(name)
 
 
-def lets_go(trace, first, second):
+def lets_go(trace: plain.Trace, first: int, second: int) -> bool:
     lock = trace.events[first].name
     return first < second and trace.does(first, "rel", lock) and trace.does(second, "acq", lock)
 
 
-LINKS = {
+LINKS: dict[str, Link] = {
     "and later in its thread": is_later,
     "begins the thread of": begins_thread,
     "is read by": is_read_by,
@@ -117,7 +135,7 @@ SHB_LINKS = {**LINKS, "lets the lock go that is taken by": lets_go}
 READ = "is read by"
 
 
-def without_note(trace, tally, first, reason, second):
+def without_note(trace: plain.Trace, tally: Counter[str], first: int, reason: str, second: int) -> str:
     """The reason of a link without the note that a write and its read race. The note must be there exactly if the two
     are a candidate."""
     if not reason.startswith(READ):
@@ -133,9 +151,9 @@ def without_note(trace, tally, first, reason, second):
 # Races.
 
 
-def runs_of(trace, listed):
+def runs_of(trace: plain.Trace, listed: Listed) -> list[list[int]]:
     """The longest parts of the list that are of one thread."""
-    runs = []
+    runs: list[list[int]] = []
     for event in listed:
         if runs and trace.thread(runs[-1][-1]) == trace.thread(event):
             runs[-1].append(event)
@@ -144,7 +162,7 @@ def runs_of(trace, listed):
     return runs
 
 
-def folded(trace, runs):
+def folded(trace: plain.Trace, runs: Sequence[Sequence[int]]) -> list[str]:
     """The lines of the first runs of many: of each thread, in the order of their numbers, how many events they have,
     and the last."""
     events = [event for run in runs for event in run]
@@ -156,11 +174,11 @@ def folded(trace, runs):
     return lines
 
 
-def is_before_write(word):
+def is_before_write(word: str) -> ListedLink:
     """Whether the first event, which does `word`, comes before the second, a write of its variable, in each list:
     no write of it is between."""
 
-    def is_before(trace, listed, first, second):
+    def is_before(trace: plain.Trace, listed: Listed, first: int, second: int) -> bool:
         variable = trace.events[first].name
         between = listed[listed.index(first) + 1 : listed.index(second)]
         return (
@@ -172,7 +190,7 @@ def is_before_write(word):
     return is_before
 
 
-def is_last_release(trace, listed, first, second):
+def is_last_release(trace: plain.Trace, listed: Listed, first: int, second: int) -> bool:
     lock = trace.events[first].name
     between = listed[listed.index(first) + 1 : listed.index(second)]
     return (
@@ -182,7 +200,7 @@ def is_last_release(trace, listed, first, second):
     )
 
 
-def of_trace(link):
+def of_trace(link: Link) -> ListedLink:
     return lambda trace, _, first, second: link(trace, first, second)
 
 
@@ -198,9 +216,14 @@ WAITS = {
 }
 
 
-def waiters_of(trace, listed):
+def waiters_of(trace: plain.Trace, listed: Listed) -> dict[int, int]:
     """Of each event for which one of another thread waits the first that does."""
-    waiters, forks, lasts, writes, reads, releases = {}, {}, {}, {}, {}, {}
+    waiters: dict[int, int] = {}
+    forks: dict[str, int] = {}
+    lasts: dict[str, int] = {}
+    writes: dict[str, int] = {}
+    releases: dict[str, int] = {}
+    reads: dict[str, list[int]] = {}
     for event in listed:
         thread, word, name = trace.events[event]
         needs = [] if thread in lasts else [forks.get(thread)]
@@ -216,11 +239,12 @@ def waiters_of(trace, listed):
         if word == "r":
             reads.setdefault(name, []).append(event)
         lasts[thread] = event
-        {"w": writes, "rel": releases, "fork": forks}.get(word, {})[name] = event
+        if word in (latest := {"w": writes, "rel": releases, "fork": forks}):
+            latest[word][name] = event
     return waiters
 
 
-def judge_wait(trace, tally, listed, last, waiter, line):
+def judge_wait(trace: plain.Trace, tally: Counter[str], listed: Listed, last: int, waiter: int, line: str) -> None:
     """Judges a line: this event waits for the last one of a run, for the printed reason."""
     reason = line.removesuffix(f" {numbered(trace, waiter)}").removeprefix("  ")
     if line != f"  {reason} {numbered(trace, waiter)}" or reason not in WAITS:
@@ -230,7 +254,9 @@ def judge_wait(trace, tally, listed, last, waiter, line):
     tally[f"waits|{reason}"] += 1
 
 
-def judge_race(trace, tally, text, how, pair, listed, is_all):
+def judge_race(
+    trace: plain.Trace, tally: Counter[str], text: str, how: str, pair: Pair, listed: Listed, is_all: bool
+) -> None:
     """Judges the text on a pair that this list shows."""
     runs = runs_of(trace, listed)
     lines = Lines(text)
@@ -256,22 +282,22 @@ def judge_race(trace, tally, text, how, pair, listed, is_all):
 # Forced pairs.
 
 
-def chain_of(trace, lines, depth):
+def chain_of(trace: plain.Trace, lines: Lines, depth: int) -> Chain:
     """The chain that comes next, so deep."""
     blanks = 2 * depth
     chain = Chain([event_of(trace, lines.take(), blanks)], [])
-    while lines.next() is not None and blanks_of(lines.next()) == blanks + 2:
+    while (line := lines.next()) is not None and blanks_of(line) == blanks + 2:
         chain.reasons.append(lines.take()[blanks + 2 :])
         chain.events.append(event_of(trace, lines.take(), blanks))
     return chain
 
 
-def section_begun(trace, release):
+def section_begun(trace: plain.Trace, release: int) -> int:
     """The acquire that begins the section which the release ends."""
     return next(acquire for acquire in trace.acquires(range(release)) if trace.section_end(acquire) == release)
 
 
-def judge_link(trace, tally, first, reason, second):
+def judge_link(trace: plain.Trace, tally: Counter[str], first: int, reason: str, second: int) -> Section | None:
     """Judges a link of a chain. Of one that ends a section, the event that begins it and the event before which it has
     to end; else None."""
     reason = without_note(trace, tally, first, reason, second)
@@ -290,7 +316,7 @@ def judge_link(trace, tally, first, reason, second):
     return (acquire, second)
 
 
-def cause_line(trace, begun, depth):
+def cause_line(trace: plain.Trace, begun: Section, depth: int) -> list[str]:
     """The lines that may come before the chain that shows why this section began first."""
     acquire, event = begun
     lock = trace.events[acquire].name
@@ -305,10 +331,10 @@ def cause_line(trace, begun, depth):
     ]
 
 
-def judge_causes(needs):
+def judge_causes(needs: Mapping[Pair, Sequence[Section]]) -> None:
     """Judges that each needed chain was printed, and rests on no chain that rests on it. `needs` has for each chain,
     by its ends, the ends of the chains that it needs."""
-    ended = set()
+    ended: set[Pair] = set()
     while True:
         next_ended = {ends for ends, needed in needs.items() if ended.issuperset(needed)}
         if next_ended == ended:
@@ -320,14 +346,14 @@ def judge_causes(needs):
         )
 
 
-def judge_forced(trace, tally, text, pair):
+def judge_forced(trace: plain.Trace, tally: Counter[str], text: str, pair: Pair) -> None:
     """Judges the text on a forced pair."""
     lines = Lines(text)
     lines.expect(f"apart: {pair[0]} comes before {pair[1]} in every correct reordering")
     lines.expect(*with_locks(trace, pair[0]), *with_locks(trace, pair[1]), "since")
-    needs = {}
+    needs: dict[Pair, list[Section]] = {}
     # For each depth what the last chain there needs.
-    open_needs = []
+    open_needs: list[list[Section]] = []
     depth = 0
     while True:
         chain = chain_of(trace, lines, depth)
@@ -360,7 +386,7 @@ def judge_forced(trace, tally, text, pair):
 # Guarded and undecided pairs.
 
 
-def judge_guarded(trace, text, pair, lock):
+def judge_guarded(trace: plain.Trace, text: str, pair: Pair, lock: str) -> None:
     """Judges the text on a pair whose threads both hold this lock, the least."""
     lines = Lines(text)
     lines.expect(f"apart: both threads hold {lock}", *with_locks(trace, pair[0]), *with_locks(trace, pair[1]))
@@ -372,7 +398,7 @@ def judge_guarded(trace, text, pair, lock):
     lines.end()
 
 
-def judge_undecided(trace, tally, text, pair):
+def judge_undecided(trace: plain.Trace, tally: Counter[str], text: str, pair: Pair) -> None:
     """Judges the text on a pair of which nothing is known but that SHB orders it."""
     lines = Lines(text)
     lines.expect("undecided: no schedule was found, and neither order nor lock forbids one")

@@ -17,17 +17,29 @@ import pathlib
 import random
 import sys
 import tempfile
+from collections.abc import Sequence
+from typing import Any
 
 if __name__ == "__main__":
     sys.dont_write_bytecode = True
 import by_chance
-import judge_page
+import page_texts
+import page_tree
 import judging
 import missing
 import plain
 import running
 from judging import Wrong
+from page_tree import Element
 
+# An object of a report that is made here.
+Row = dict[str, Any]
+# The parts by their names, each with its objects.
+Parts = dict[str, list[Row]]
+# The texts of a row of the page: its title, its facts, its accesses, and what the parts say.
+RowTexts = tuple[str, str, list[tuple[int, str, list[str]]], list[str]]
+# The options for a report without the pairs that are apart, and with them.
+FORMS: list[list[str]] = [[], ["--apart"]]
 LISTS = 150
 PLACES = ["a.c:1 < f", "a.c:2", "b.c:10", "b.c:9", "é.c:3", "", 'q"\\.c:4', "<b>&.c:5 < </td>"]
 NAMES = ["a|b.json", 'q"\\.json', "t\tab", "l\nf", "\x01\x7f", "é", "\U0001f600", "\u2028", "{}", " ", "\ufffd"]
@@ -57,7 +69,7 @@ REACHED = [
 ]
 
 
-def access(chance, place):
+def access(chance: random.Random, place: str) -> Row:
     holds = chance.sample(["m", "n", "mü"], chance.choice([0, 0, 1, 2]))
     return {
         "event": chance.randint(0, 40),
@@ -69,7 +81,7 @@ def access(chance, place):
     }
 
 
-def row(chance, places):
+def row(chance: random.Random, places: Sequence[str]) -> Row:
     kind = chance.choice(plain.RANKS)
     found = {"accesses": [access(chance, place) for place in places], "kind": kind, "pairs": chance.randint(1, 9)}
     if kind != "apart":
@@ -85,7 +97,7 @@ def row(chance, places):
     return found
 
 
-def part(chance):
+def part(chance: random.Random) -> list[Row]:
     """The objects of a part."""
     pairs = [(one, other) for one in PLACES for other in PLACES if one <= other]
     rows = [row(chance, chance.sample(pair, 2)) for pair in chance.sample(pairs, chance.choice([0, 1, 2, 5, 12]))]
@@ -100,23 +112,23 @@ def part(chance):
     return [{"kind": "counts", "events": events, "threads": 3, **counts}, *rows]
 
 
-def line(row):
+def line(row: plain.ReportRow) -> str:
     return json.dumps(row, sort_keys=True, separators=(",", ":"), ensure_ascii=False) + "\n"
 
 
-def write(name, text):
+def write(name: str, text: bytes) -> None:
     with open(name, "wb") as out:
         out.write(text)
 
 
-def outcome_of(row):
+def outcome_of(row: plain.ReportRow) -> str:
     """What the page says of a row in short."""
     if row["kind"] == "race":
         return f"{row['how']}, a schedule with events: {row['events']}, threads: {row['threads']}"
     return f"undecided, tried: {row['tried']}" if row["kind"] == "undecided" else "apart"
 
 
-def row_of(pair, parts):
+def row_of(pair: plain.Shown, parts: Parts) -> RowTexts:
     """The texts of a row of the page: its title, its facts, its two accesses, and what the parts say."""
     row, counts, name = pair.row, pair.counts, pair.part
     uses = [
@@ -142,7 +154,7 @@ def row_of(pair, parts):
     )
 
 
-def row_in(details):
+def row_in(details: Element) -> RowTexts:
     """The same of an element of the page."""
     summary = details.one("summary")
     facts = [span.text() for span in summary.all("span") if span.attributes.get("class") == "facts"]
@@ -150,12 +162,12 @@ def row_in(details):
     return (
         summary.one("h3").text(),
         " ".join(facts),
-        [judge_page.access_of(line, lambda locks: "".join(f"{lock} " for lock in locks)) for line in lines],
+        [page_texts.access_of(line, lambda locks: "".join(f"{lock} " for lock in locks)) for line in lines],
         [paragraph.text() for paragraph in details.all("p")],
     )
 
 
-def failed(parts, races):
+def failed(parts: Parts, races: bool) -> tuple[int, bytes]:
     """The status of `--fail` if races are printed or not, and what standard error has beside notes."""
     if races:
         return 3, b""
@@ -165,13 +177,13 @@ def failed(parts, races):
 
 
 class Judge:
-    def __init__(self, run):
+    def __init__(self, run: judging.Run) -> None:
         self.program, self.seen = run.program, run.tally
 
-    def printed(self, arguments):
+    def printed(self, arguments: list[str]) -> bytes:
         return running.printed(self.program, ["merge", *arguments])
 
-    def refused(self, arguments, text):
+    def refused(self, arguments: list[str], text: str) -> None:
         """The arguments lead to this fault, and nothing is written before it."""
         if running.ended(self.program, ["merge", *arguments]) != (1, b"", f"racebench: {text}\n".encode()):
             raise Wrong(
@@ -180,13 +192,13 @@ class Judge:
             )
         self.seen["refused"] += 1
 
-    def list_of(self, chance, seed):
+    def list_of(self, chance: random.Random, seed: int) -> Parts:
         """The parts by their names, as objects; each is written into a file of its name."""
         parts = {f"{chance.choice('abc')}{number}.json": part(chance) for number in range(chance.randint(1, 5))}
         for name, objects in parts.items():
             if seed % 3 == 0:
                 running.write("trace", by_chance.trace(chance, chance.choice([8, 14])).text())
-                text = running.printed(self.program, ["triage", "trace", "--json", *chance.choice([[], ["--apart"]])])
+                text = running.printed(self.program, ["triage", "trace", "--json", *chance.choice(FORMS)])
                 parts[name] = [json.loads(row) for row in text.splitlines()]
                 write(name, text)
                 self.seen["triage"] += 1
@@ -194,7 +206,7 @@ class Judge:
                 write(name, "".join(map(line, objects)).encode())
         return parts
 
-    def note(self, parts):
+    def note(self, parts: Parts) -> None:
         for objects in parts.values():
             self.seen.update(row["kind"] for row in objects[1:])
             self.seen["no parts apart"] += objects[0]["apart"] > sum(row["kind"] == "apart" for row in objects[1:])
@@ -206,20 +218,22 @@ class Judge:
         self.seen["least"] += any(count > 1 for count in met.values())
         self.seen["unmet"] += any(count < len(parts) for count in met.values())
 
-    def same(self, arguments, parts):
+    def same(self, arguments: list[str], parts: Parts) -> None:
         """Both texts for these arguments are those of the parts."""
-        for flags in [[], ["--apart"]]:
+        for flags in FORMS:
             wanted = plain.merged(parts, bool(flags)).encode()
             found = self.printed([*arguments, *flags])
             if found != wanted:
                 raise Wrong(f"merge {arguments} {flags} prints\n{found.decode()}and not\n{wanted.decode()}")
 
-    def page(self, arguments, parts, pairs=None, left=""):
+    def page(
+        self, arguments: list[str], parts: Parts, pairs: Sequence[plain.Shown] | None = None, left: str = ""
+    ) -> None:
         """The page for these arguments has the rows of all pairs of the parts, or of `pairs`, and names what was left
         out."""
         with_apart = bool(self.seen["page"] % 2)
         found = self.printed([*arguments, "--page", *(["--apart"] if with_apart else [])])
-        root = judge_page.read(found)
+        root = page_tree.read(found)
         pairs = plain.merged_pairs(parts) if pairs is None else pairs
         kinds = [pair.row["kind"] for pair in pairs]
         races, count = kinds.count("race"), len(parts)
@@ -241,7 +255,7 @@ class Judge:
         self.seen["page"] += 1
         self.seen["escaped"] += any("<b>" in str(row_of(pair, parts)) for pair in pairs)
 
-    def judge_groups(self, chance, parts):
+    def judge_groups(self, chance: random.Random, parts: Parts) -> None:
         names = list(parts)
         whole = self.printed([*names, "--json"])
         shuffled = chance.sample(names, len(names)) + chance.sample(names, chance.randint(0, len(names)))
@@ -250,7 +264,7 @@ class Judge:
         self.page(shuffled, parts)
         if self.printed([*shuffled, "--json"]) != whole:
             raise Wrong(f"merge {shuffled} --json prints other lines than {names}")
-        groups = []
+        groups: list[str] = []
         for number in range(chance.randint(1, 3)):
             group = chance.sample(shuffled + groups, chance.randint(1, len(names)))
             write(f"group{number}", self.printed([*group, "--json"]))
@@ -264,7 +278,7 @@ class Judge:
         if self.printed(["whole", "--json"]) != whole:
             raise Wrong("a merged report that is merged alone is another one")
 
-    def judge_names(self, chance, parts):
+    def judge_names(self, chance: random.Random, parts: Parts) -> None:
         """Whatever its names are, the report has each part as it is, and is read as the same parts."""
         texts = {new: pathlib.Path(name).read_bytes() for name, new in zip(parts, chance.sample(NAMES, len(parts)))}
         for name, text in texts.items():
@@ -279,7 +293,7 @@ class Judge:
             raise Wrong(f"the report of {list(texts)} is read as another one")
         self.seen["odd names"] += 1
 
-    def judge_refusals(self, chance, parts):
+    def judge_refusals(self, chance: random.Random, parts: Parts) -> None:
         name = chance.choice(list(parts))
         with open(name, "rb") as source:
             text = source.read()
@@ -317,7 +331,7 @@ class Judge:
             write(name, "".join(map(line, changed)).encode())
             self.judge_clash(chance, name, [other for other in parts if other != name])
 
-    def judge_spoiled(self, chance, names):
+    def judge_spoiled(self, chance: random.Random, names: Sequence[str]) -> None:
         """A merged report that is cut anywhere, or in which a part is no part, is refused at that line."""
         whole = self.printed([*names, "--json"])
         at = chance.randrange(len(whole))
@@ -332,7 +346,7 @@ class Judge:
         self.refused(["spoiled"], f"spoiled line {index + 1}: no line of a report")
         self.seen["spoiled"] += 1
 
-    def judge_clash(self, chance, name, others):
+    def judge_clash(self, chance: random.Random, name: str, others: Sequence[str]) -> None:
         """The fault names the two files that have the two parts of one name, in any position among the others."""
         one, other = chance.sample(["one", name], 2)
         before, between = (chance.sample(others, chance.randint(0, len(others))) for _ in range(2))
@@ -340,7 +354,7 @@ class Judge:
         self.seen["clash"] += 1
         self.seen["clash behind others"] += before != []
 
-    def judge(self, seed):
+    def judge(self, seed: int) -> None:
         chance = random.Random(seed)
         parts = self.list_of(chance, seed)
         self.note(parts)
@@ -349,16 +363,17 @@ class Judge:
         self.judge_names(chance, parts)
         races = plain.merged(parts, False).split("\n")[1] != "races 0"
         status, line = failed(parts, races)
-        for flags in [[], ["--json"], ["--page"], ["--sarif"]]:
+        for form in ["", "--json", "--page", "--sarif"]:
+            flags = [form] * bool(form)
             found, _, err = running.ended(self.program, ["merge", *parts, "--fail", *flags])
             if (found, err) != (status, line):
-                raise Wrong(f"--fail {flags} ends with {found} and {err} and not with {status} and {line}")
+                raise Wrong(f"--fail {flags} ends with {found} and {err!r} and not with {status} and {line!r}")
         self.seen["failed"] += races
         self.seen["no events"] += status == 4
         self.judge_absent(chance, parts, races)
         self.judge_refusals(chance, parts)
 
-    def judge_absent(self, chance, parts, races):
+    def judge_absent(self, chance: random.Random, parts: Parts, races: bool) -> None:
         """Judges the report if some parts say that their recordings are not whole, by the one if none does."""
         form = chance.choice(["", "--page", "--sarif"])
         arguments = [*parts, *[form] * bool(form)]
@@ -387,7 +402,7 @@ class Judge:
         self.seen["not whole"] += 1
 
 
-def judged(run):
+def judged(run: judging.Run) -> str:
     judge = Judge(run)
     for seed in run.seeds():
         with tempfile.TemporaryDirectory() as folder, judging.about(f"seed {seed}"):
