@@ -156,9 +156,7 @@ def check_forms(run: Run, trace: deadlocked.Trace, block: Block) -> None:
     script = running.printed(run.program, ["witness", "trace", first, second, "--script"])
     running.write("script", script.decode("ascii"))
     answers = running.printed(run.program, ["replay", "trace", "script"]).decode("ascii").splitlines()
-    refusals = [
-        f"refused 46 25 lock held by T{trace.events[other][0]}" for other in (block.pair[1], block.pair[0])
-    ]
+    refusals = [f"refused 46 25 lock held by T{trace.events[other][0]}" for other in (block.pair[1], block.pair[0])]
     if answers[-2:] != refusals or any("refused" in line for line in answers[:-2]):
         raise Wrong("the script is answered otherwise:\n" + "\n".join(answers))
 
