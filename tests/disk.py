@@ -7,8 +7,11 @@ the disk. A file gets its name once it is whole and synced. An answer is written
 its folder are synced, since the lock was taken and since the last write.
 """
 
+from __future__ import annotations
+
 import itertools
-from collections import namedtuple
+from collections.abc import Iterable, Iterator
+from typing import NamedTuple
 
 from judging import Wrong
 
@@ -17,10 +20,18 @@ HEAD = 81
 # How many contents are tried after a call.
 MOST_LEFT = 3000
 
-Note = namedtuple("Note", "call file argument result data")
+
+class Note(NamedTuple):
+    """A call on a log's file: its name, the file's number, its argument, its result, and the written bytes."""
+
+    call: str
+    file: str
+    argument: str
+    result: int
+    data: bytes
 
 
-def kept_lines(file):
+def kept_lines(file: bytes | None) -> list[bytes] | None:
     """The lines that count in a log's file, or None of what is no such file."""
     if file is None or file[HEAD - 1 : HEAD] != b"\n":
         return None
@@ -28,28 +39,28 @@ def kept_lines(file):
     return [line[1:] for line in itertools.takewhile(lambda line: line.startswith(b" "), lines)]
 
 
-def notes_of(text):
+def notes_of(text: str) -> Iterator[Note]:
     """The notes: a call, the file's number, its arguments, its result, and the bytes that were written."""
     for line in text.splitlines():
         call, *fields = line.split()
         if call == "answer":
-            yield Note(call, None, None, 0, b"")
+            yield Note(call, "", "", 0, b"")
         elif call in ("fsync", "link"):
-            yield Note(call, fields[0], None, int(fields[1]), b"")
+            yield Note(call, fields[0], "", int(fields[1]), b"")
         else:
             yield Note(call, fields[0], fields[1], int(fields[2]), bytes.fromhex("".join(fields[3:])))
 
 
-def written(old, place, data):
+def written(old: bytes, place: int, data: bytes) -> bytes:
     return old[:place].ljust(place, b"\0") + data + old[place + len(data) :]
 
 
-def parts_of(size):
+def parts_of(size: int) -> Iterable[int]:
     """Where a write of this many bytes may be cut short."""
     return range(size + 1) if size <= 40 else sorted({0, 1, 2, size // 2, size - 2, size - 1, size})
 
 
-def after(old, note):
+def after(old: bytes, note: Note) -> Iterator[bytes]:
     """What may be left where this call is not yet synced: as it was, a part of it, or any bytes in its range."""
     place = int(note.argument)
     yield old
@@ -63,7 +74,7 @@ def after(old, note):
         yield written(old, place, (bytes_there * len(note.data))[: len(note.data)])
 
 
-def left_by_crash(durable, pending):
+def left_by_crash(durable: bytes, pending: Iterable[Note]) -> set[bytes]:
     """The contents that a crash may leave: of the one that is synced, and the calls that are not."""
     contents = {durable}
     for note in pending:
@@ -75,16 +86,16 @@ def left_by_crash(durable, pending):
 class Disk:
     """One session and its log's file, which held these bytes before."""
 
-    def __init__(self, before):
+    def __init__(self, before: bytes | None) -> None:
         self.seen = self.durable = before or b""
-        self.pending = []
+        self.pending: list[Note] = []
         self.is_named = before is not None
         self.is_held = self.is_synced = self.is_folder_synced = False
-        self.stood = None
-        self.crashes = []
+        self.stood: list[bytes] = []
+        self.crashes: list[tuple[str, list[bytes]]] = []
         self.turns = self.answers = 0
 
-    def lock(self, note):
+    def lock(self, note: Note) -> None:
         if note.argument == "freed":
             self.end_turn()
             return
@@ -93,7 +104,7 @@ class Disk:
         self.crashes = []
         self.turns += 1
 
-    def end_turn(self):
+    def end_turn(self) -> None:
         if self.pending:
             raise Wrong(f"the lock is free, and {self.pending[0].call} is not synced")
         lines = kept_lines(self.seen) or []
@@ -106,7 +117,7 @@ class Disk:
                 )
         self.is_held = False
 
-    def change(self, note):
+    def change(self, note: Note) -> None:
         if not self.is_held:
             raise Wrong(f"{note.call} without the lock")
         self.pending.append(note)
@@ -118,18 +129,18 @@ class Disk:
                 raise Wrong(f"a crash after {note.call} leaves no log")
             self.crashes.append((note.call, left or []))
 
-    def sync(self, note):
+    def sync(self, note: Note) -> None:
         if note.file.startswith("/"):
             self.is_folder_synced = True
             return
         self.durable, self.pending, self.is_synced = self.seen, [], True
 
-    def name(self):
+    def name(self) -> None:
         if self.pending or kept_lines(self.seen) != []:
             raise Wrong("a file gets its name before it is whole and synced")
         self.is_named, self.is_folder_synced = True, False
 
-    def answer(self):
+    def answer(self) -> None:
         self.answers += 1
         if self.is_held:
             raise Wrong("an answer is written under the lock")
@@ -138,7 +149,7 @@ class Disk:
         if not self.is_folder_synced:
             raise Wrong("an answer is written, and the file's name is not synced")
 
-    def take(self, note):
+    def take(self, note: Note) -> None:
         if note.result < 0:
             return
         if note.call == "flock":
@@ -156,7 +167,7 @@ class Disk:
             self.answer()
 
 
-def judge(text, before, left):
+def judge(text: str, before: bytes | None, left: bytes | None) -> int:
     """How many turns a session made that ended well: its log's file held the bytes `before`, and now holds `left`."""
     disk = Disk(before)
     for note in notes_of(text):
@@ -166,5 +177,5 @@ def judge(text, before, left):
     if disk.is_held:
         raise Wrong("the lock is held to the end")
     if disk.seen != left:
-        raise Wrong(f"the file holds {left}, and by the calls on it {disk.seen}")
+        raise Wrong(f"the file holds {left!r}, and by the calls on it {disk.seen!r}")
     return disk.turns

@@ -21,15 +21,18 @@ The log that a session leaves has the lines from before and those of the calls t
 if a write failed may it have those of the turn at work too, all or none. So it is for each of the calls.
 """
 
+from __future__ import annotations
+
 import os
 import pathlib
 import re
 import subprocess
-from collections import namedtuple
+from collections import Counter
+from collections.abc import Iterable, Iterator, Sequence
+from typing import NamedTuple
 
 import running
 from disk import HEAD, kept_lines
-
 from judging import Wrong
 
 TOP = pathlib.Path(__file__).resolve().parent.parent
@@ -66,22 +69,59 @@ NAME = b"racebench: "
 # How long the runs of one sweep may take, in seconds.
 LONGEST = 3600
 
-# How a run ended: its status or, below 0, its signal; whether it met the call that fails; what it wrote; and the file
-# that it left, if it is known.
-Run = namedtuple("Run", "status met out err left")
-# What is wanted, and whether scripts run in threads, whether beside workers, and whether a session answers.
-Wanted = namedtuple("Wanted", "status out err in_threads has_workers in_session")
-# A session's log: its file, the bytes of that before and as the case leaves it, or None; the client of each line, if
-# it is known; and the input.
-Log = namedtuple("Log", "name before after client text")
+# A kind of calls, and how they fail.
+Way = tuple[str, str]
 
 
-def library(folder):
+class Run(NamedTuple):
+    """How a run ended: its status or, below 0, its signal; whether it met the call that fails; what it wrote; and the
+    file that it left, if there is one."""
+
+    status: int
+    met: bool
+    out: bytes
+    err: bytes
+    left: bytes | None
+
+
+class Wanted(NamedTuple):
+    """What is wanted, and whether scripts run in threads, whether beside workers, and whether a session answers."""
+
+    status: int
+    out: bytes
+    err: bytes
+    in_threads: bool
+    has_workers: bool
+    in_session: bool
+
+
+class Log(NamedTuple):
+    """A session's log: its file, the bytes of that before and as the case leaves it, or None; the client of each line,
+    if it is known; and the input."""
+
+    name: str
+    before: bytes | None
+    after: bytes | None
+    client: bytes | None
+    text: bytes
+
+
+def library(folder: str) -> pathlib.Path:
     """The library that has calls fail, made in this folder."""
-    return running.library(pathlib.Path(folder) / "refuse.so", TOP / "tools/refuse.c", TOP / "tools/disk.c")
+    made = running.library(f"{folder}/refuse.so", str(TOP / "tools/refuse.c"), str(TOP / "tools/disk.c"))
+    return pathlib.Path(made)
 
 
-def runs_of(made, program, arguments, stdin, here, way, files, left=None):
+def runs_of(
+    made: pathlib.Path,
+    program: str | pathlib.Path,
+    arguments: Sequence[str] | Sequence[bytes],
+    stdin: pathlib.Path,
+    here: str,
+    way: Way,
+    files: pathlib.Path | None,
+    left: str | None = None,
+) -> Iterator[Run]:
     """The program's runs in the folder `here` with each call of one kind failing in turn; the last one met none. Where
     they change files, each finds those of the folder `files`. With what each left of the file `left`."""
     report = made.parent / "report"
@@ -107,12 +147,13 @@ def runs_of(made, program, arguments, stdin, here, way, files, left=None):
         ended, met, *sizes = (int(number) for number in line.split(b" "))
         texts = []
         for size in sizes:
-            texts.append(rest[:size] if size >= 0 else None)
+            texts.append(rest[: max(size, 0)])
             rest = rest[max(size, 0) :]
-        yield Run(ended, met == 1, *texts)
+        out, err, left_bytes = texts
+        yield Run(ended, met == 1, out, err, left_bytes if sizes[2] >= 0 else None)
 
 
-def says_less(line, known):
+def says_less(line: bytes, known: bytes) -> bool:
     """Whether the line is the note on a file that was not read once more, and the known note says what it looks
     like."""
     kind = rb"is (?:.+, (?:and not what|not a part: )|not the log of a session: )"
@@ -124,7 +165,7 @@ def says_less(line, known):
     return re.fullmatch(rb"note: " + re.escape(name[1]) + rb" (?:" + less + rb")", line) is not None
 
 
-def are_but_for_notes(lines, known):
+def are_but_for_notes(lines: Sequence[bytes], known: Sequence[bytes]) -> bool:
     """Whether the lines are the known ones, in their order, except for notes that are missing or say less."""
     at = 0
     for line in known:
@@ -135,7 +176,7 @@ def are_but_for_notes(lines, known):
     return at == len(lines)
 
 
-def messages_before(wanted):
+def messages_before(wanted: Wanted) -> list[bytes]:
     """The lines of standard error that the case wants and that another fault may follow: all but its own fault."""
     lines = wanted.err.splitlines()
     if wanted.status in (0, 3):
@@ -144,7 +185,7 @@ def messages_before(wanted):
     return lines[: own[-1]] if own else []
 
 
-def has_fault(run, text, wanted, behind=b""):
+def has_fault(run: Run, text: bytes, wanted: Wanted, behind: bytes = b"") -> bool:
     """Whether the run ended with this fault, after messages that the case wants, and with notes of this beginning alone
     after it."""
     lines = run.err.removesuffix(b"\n").split(b"\n")
@@ -157,17 +198,17 @@ def has_fault(run, text, wanted, behind=b""):
     return are_wanted and all(behind and note.startswith(behind) for note in lines[at + 1 :])
 
 
-def without_notes(err):
+def without_notes(err: bytes) -> list[bytes]:
     """The lines that are no notes, and no tips of the reader of arguments, which a note may replace."""
     return [line for line in err.splitlines() if line and not line.startswith((b"note: ", b"  tip: "))]
 
 
-def differs_in_notes(run, wanted):
+def differs_in_notes(run: Run, wanted: Wanted) -> bool:
     """Whether the run ended as the case wants, except for notes: the variable that turns them off was not read."""
     return (run.status, run.out) == (wanted.status, wanted.out) and without_notes(run.err) == without_notes(wanted.err)
 
 
-def lacks_a_reason(run, wanted):
+def lacks_a_reason(run: Run, wanted: Wanted) -> bool:
     """Whether the run ended with status 4 as the case wants, except for the line that says why nothing is green."""
     lines, known = run.err.splitlines(), wanted.err.splitlines()
     return (
@@ -177,13 +218,13 @@ def lacks_a_reason(run, wanted):
     )
 
 
-def lacks_notes(run, wanted):
+def lacks_notes(run: Run, wanted: Wanted) -> bool:
     """Whether the run ended as the case wants, except for notes that are missing."""
     lines, known = run.err.splitlines(), wanted.err.splitlines()
     return (run.status, run.out) == (wanted.status, wanted.out) and are_but_for_notes(lines, known)
 
 
-def lacks_a_write(err, known):
+def lacks_a_write(err: bytes, known: bytes) -> bool:
     """Whether a standard error is the known one, except for one write to it that failed: from some byte up to a line's
     start, to the end of a word there that begins a message, or up to the end."""
     starts = [0, *(at + 1 for at, byte in enumerate(known) if byte == ord("\n"))]
@@ -195,12 +236,12 @@ def lacks_a_write(err, known):
     return False
 
 
-def is_well(run, wanted):
+def is_well(run: Run, wanted: Wanted) -> bool:
     """Whether the run ended well, and wrote nothing on standard error but what the case wants of a run that does."""
     return run.status == 0 and (not run.err or (wanted.status == 0 and run.err == wanted.err))
 
 
-def is_reported_in_threads(run, wanted):
+def is_reported_in_threads(run: Run, wanted: Wanted) -> bool:
     """Whether one call's line reports out of memory, and there are lines for as many scripts as there are."""
     lines, known = run.out.splitlines(), wanted.out.splitlines()
     clients = [line for line in lines if line.startswith(b"client ")]
@@ -212,7 +253,7 @@ def is_reported_in_threads(run, wanted):
     )
 
 
-def is_reported_in_session(run, wanted):
+def is_reported_in_session(run: Run, wanted: Wanted) -> bool:
     """Whether one line is answered by out of memory, those before it as the case wants, and each after it by
     something."""
     lines, known = run.out.splitlines(), wanted.out.splitlines()
@@ -221,7 +262,7 @@ def is_reported_in_session(run, wanted):
     return is_well(run, wanted) and is_one and len(lines) == len(known) and lines[:at] == known[:at]
 
 
-def parts_of(out):
+def parts_of(out: bytes) -> tuple[list[bytes], list[bytes]] | None:
     """The lines before the log's, and its entries without their numbers, where these and their count are right; or
     None."""
     lines = out.splitlines()
@@ -233,7 +274,7 @@ def parts_of(out):
     return (lines[:at], list(entries)) if is_counted else None
 
 
-def lacks_a_slice(run, wanted):
+def lacks_a_slice(run: Run, wanted: Wanted) -> bool:
     """Whether the run ended well, and one proposal is missing of the log that the case wants."""
     found, known = parts_of(run.out), parts_of(wanted.out)
     if (run.status, run.err) != (0, b"") or found is None or known is None or found[0] != known[0]:
@@ -243,7 +284,7 @@ def lacks_a_slice(run, wanted):
     )
 
 
-def has_disk_fault(run, wanted, kind):
+def has_disk_fault(run: Run, wanted: Wanted, kind: str) -> bool:
     """Whether a call on the log's file that failed leads to a message, after the answers of the turns before."""
     is_reported = has_fault(run, b"write failed", wanted, b"note: ") or (
         kind == "flock" and has_fault(run, b"read failed", wanted, b"note: ")
@@ -251,7 +292,7 @@ def has_disk_fault(run, wanted, kind):
     return is_reported and wanted.out.startswith(run.out)
 
 
-def is_right(run, wanted, kind, how):
+def is_right(run: Run, wanted: Wanted, kind: str, how: str) -> bool:
     is_wanted = (run.status, run.out, run.err) == wanted[:3]
     if run.met and (kind, how) in DISK_WAYS and how not in ("interrupted", "short"):
         # A write of one byte is never cut.
@@ -277,25 +318,25 @@ def is_right(run, wanted, kind, how):
             and not (wanted.in_threads and run.out)
         )
         lacks_lines = lacks_notes(run, wanted) or differs_in_notes(run, wanted) or lacks_a_reason(run, wanted)
-        return is_reported or (wanted.err and lacks_lines)
+        return is_reported or (bool(wanted.err) and lacks_lines)
     if kind in ("read", "open"):
         is_begun = wanted.out.startswith(run.out) if wanted.in_session else not run.out
         is_reported = has_fault(run, b"read failed", wanted, b"note: ") or (
             wanted.in_session and kind == "open" and has_fault(run, b"write failed", wanted, b"note: ")
         )
-        return (is_reported and is_begun) or (wanted.err and lacks_notes(run, wanted))
+        return (is_reported and is_begun) or (bool(wanted.err) and lacks_notes(run, wanted))
     if run.out != wanted.out:
         return has_fault(run, b"write failed", wanted, b"note: ") and wanted.out.startswith(run.out)
     return run.status == wanted.status and lacks_a_write(run.err, wanted.err)
 
 
-def turns_of(text):
+def turns_of(text: bytes) -> list[list[bytes]]:
     """The lines that are answered at a time: the whole lines of the input; then the last one, if it has no end."""
     whole, feed, last = text.rpartition(b"\n")
     return [lines for lines in (whole.split(b"\n") if feed else [], [last] if last else []) if lines]
 
 
-def kept_by(log, lines, answers):
+def kept_by(log: Log, lines: Iterable[bytes], answers: Sequence[bytes]) -> tuple[list[bytes], int]:
     """The lines that the log gains, the first of which are answered so; and how many answers those are."""
     kept = []
     count = 0
@@ -315,7 +356,7 @@ def kept_by(log, lines, answers):
     return kept, count
 
 
-def lines_behind_turns(log, out):
+def lines_behind_turns(log: Log, out: bytes) -> list[list[bytes]]:
     """The lines of the log before the first turn, and after each that is answered whole by what was written."""
     states = [kept_lines(log.before) or []]
     answers = out.split(b"\n")[:-1]
@@ -328,7 +369,7 @@ def lines_behind_turns(log, out):
     return states
 
 
-def judge_left(run, wanted, kind, log):
+def judge_left(run: Run, wanted: Wanted, kind: str, log: Log) -> None:
     """The log that a run left must be the one from before, and all that was answered, and no part of a turn."""
     if wanted.status != 0:
         if run.left != log.before:
@@ -337,7 +378,7 @@ def judge_left(run, wanted, kind, log):
     states = lines_behind_turns(log, run.out)
     now = kept_lines(run.left)
     if run.status == 0 and len(states) == len(turns_of(log.text)) + 1:
-        head = (log.before or log.after or run.left)[:HEAD]
+        head = (log.before or log.after or run.left or b"")[:HEAD]
         if run.left != head + b"".join(b" " + line + b"\n" for line in states[-1]) + b"!":
             raise Wrong(f"it ended well, and the log that is left is {run.left!r}")
         return
@@ -355,13 +396,13 @@ def judge_left(run, wanted, kind, log):
         raise Wrong(f"the answers could not be written, and their turn is not in the log, which has {now}")
 
 
-def judge(runs, wanted, way, tally, log=None):
+def judge(runs: Iterable[Run], wanted: Wanted, way: Way, tally: Counter[str], log: Log | None = None) -> None:
     """Counts the runs, each of which must be right."""
     kind, how = way
     run = None
     for number, run in enumerate(runs, start=1):
         tally["runs"] += 1
-        tally[way] += run.met
+        tally[" ".join(way)] += run.met
         tally["told in a line"] += (
             kind == "memory" and run.met and run.status == 0 and b"\nrefused 56 out of memory\n" in run.out
         )

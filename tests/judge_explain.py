@@ -16,6 +16,7 @@ Says what is wrong, if something is, and ends with status 1 then.
 
 import random
 import sys
+from collections.abc import Iterable, Sequence
 
 if __name__ == "__main__":
     sys.dont_write_bytecode = True
@@ -33,7 +34,7 @@ SMALL = 8
 DRAWS = [by_chance.locked_trace, by_chance.locked_trace, by_chance.trace]
 # How many pairs without a conflict are tried, of each trace.
 NO_PAIRS = 3
-FORMS = [[], ["--script"], ["--std"], ["--svg"]]
+FORMS: list[list[str]] = [[], ["--script"], ["--std"], ["--svg"]]
 
 # What must be reached: each verdict, what a small trace has, folded runs, each kind of link, and a chain on which a
 # chain rests on which one rests.
@@ -55,32 +56,32 @@ REACHED = [
 class Judge:
     """Runs the program in this folder, and compares."""
 
-    def __init__(self, run):
+    def __init__(self, run: judging.Run) -> None:
         self.program, self.tally = run.program, run.tally
 
-    def printed(self, *arguments):
+    def printed(self, *arguments: str) -> str:
         """What the program prints, where it ends well."""
         status, out, err = running.ended(self.program, arguments)
         if status != 0 or err:
-            raise explained.Wrong(f"{' '.join(arguments)}: status {status}: {err[:300]!r}")
+            raise judging.Wrong(f"{' '.join(arguments)}: status {status}: {err[:300]!r}")
         return out.decode("utf-8")
 
-    def expect(self, text, *arguments):
+    def expect(self, text: str, *arguments: str) -> None:
         """Compares what the program prints with this text."""
         printed = self.printed(*arguments)
         if printed != text:
-            raise explained.Wrong(f"{' '.join(arguments)} printed\n{printed}--- and plainly\n{text}")
+            raise judging.Wrong(f"{' '.join(arguments)} printed\n{printed}--- and plainly\n{text}")
 
-    def expect_fault(self, fault, *arguments):
+    def expect_fault(self, fault: str, *arguments: str) -> None:
         """Compares why the program stops with this text; it has to print nothing else."""
         status, out, err = running.ended(self.program, arguments)
         if (status, out, err) != (1, b"", f"racebench: {fault}\n".encode("ascii")):
-            raise explained.Wrong(
+            raise judging.Wrong(
                 f"{' '.join(arguments)}: status {status}, printed {out[:300]!r}, and {err[:300]!r}, "
                 f"which is not {fault!r}"
             )
 
-    def judge_trace(self, trace, chance):
+    def judge_trace(self, trace: plain.Trace, chance: random.Random) -> None:
         """Judges all conflicting pairs of the trace, and a few others."""
         running.write("trace", trace.text())
         pairs = trace.conflicting()
@@ -99,7 +100,7 @@ class Judge:
             self.tally["reorderings"] += len(trace.reorderings())
         self.tally["traces"] += 1
 
-    def judge_pair(self, trace, pair, chance):
+    def judge_pair(self, trace: plain.Trace, pair: explained.Pair, chance: random.Random) -> None:
         """Judges what is printed of a conflicting pair, given in either order."""
         verdict, listed = verdict_of(trace, pair)
         self.tally[verdict] += 1
@@ -115,54 +116,58 @@ class Judge:
             if verdict == "forced":
                 explained.judge_forced(trace, self.tally, text, pair)
             elif verdict == "guarded":
-                explained.judge_guarded(trace, text, pair, trace.guard(*pair))
+                explained.judge_guarded(trace, text, pair, trace.guard(*pair) or "no lock")
             else:
                 explained.judge_undecided(trace, self.tally, text, pair)
-        except explained.Wrong as what:
-            raise explained.Wrong(f"{what}\n--- explain {' '.join(arguments)}, which is {verdict}\n{text}") from what
+        except judging.Wrong as what:
+            raise judging.Wrong(f"{what}\n--- explain {' '.join(arguments)}, which is {verdict}\n{text}") from what
         kind = trace.kind(*pair)
         self.expect_fault(f"not shown: {kind}", "witness", "trace", *arguments, *chance.choice(FORMS))
 
-    def judge_witness(self, trace, pair, arguments, listed):
+    def judge_witness(
+        self, trace: plain.Trace, pair: explained.Pair, arguments: Sequence[str], listed: plain.Listed | None
+    ) -> plain.Listed:
         """The schedule that is printed, where it shows the pair, and has the events of this list, if one is given."""
         lines = explained.Lines(self.printed("witness", "trace", *arguments))
-        shown = []
+        events: list[int] = []
         while lines.next() is not None:
-            shown.append(explained.event_of(trace, lines.take(), 0))
-        shown = tuple(shown)
+            events.append(explained.event_of(trace, lines.take(), 0))
+        shown = tuple(events)
         if not trace.is_reordering(shown) or not trace.shows(shown, *pair):
-            raise explained.Wrong(f"this list does not show the pair: {shown}")
+            raise judging.Wrong(f"this list does not show the pair: {shown}")
         if listed is not None and tuple(sorted(shown)) != listed:
-            raise explained.Wrong(f"the schedule is {shown}, and its events are to be {listed}")
+            raise judging.Wrong(f"the schedule is {shown}, and its events are to be {listed}")
         self.judge_script(trace, pair, arguments, shown)
         self.judge_std(trace, arguments, shown + pair)
         pictured.judge_picture(trace, self.tally, self.printed("witness", "trace", *arguments, "--svg"), pair, shown)
         return shown
 
-    def judge_script(self, trace, pair, arguments, shown):
+    def judge_script(
+        self, trace: plain.Trace, pair: explained.Pair, arguments: Sequence[str], shown: plain.Listed
+    ) -> None:
         """Judges the script of the schedule, and what `replay` answers to it."""
         script = "".join(["1 new S\n", *[f"1 add S {event}\n" for event in shown], "1 races S\n"])
         self.expect(script, "witness", "trace", *arguments, "--script")
         running.write("script", script)
         pairs = trace.shown_pairs(shown)
         if pair not in pairs:
-            raise explained.Wrong(f"the pair is none of those that are shown: {pairs}")
+            raise judging.Wrong(f"the pair is none of those that are shown: {pairs}")
         answers = [f"{number}: done\n" for number in range(len(shown) + 1)]
         self.expect(
             "".join(answers) + " ".join(["pairs", *[f"{a}-{b}" for a, b in pairs]]) + "\n", "replay", "trace", "script"
         )
 
-    def judge_std(self, trace, arguments, events):
+    def judge_std(self, trace: plain.Trace, arguments: Sequence[str], events: Sequence[int]) -> None:
         """Judges the trace with these events, the pair last, and what `info` prints about it."""
         std = plain.Trace(trace.events[event] for event in events)
         self.expect(std.text(), "witness", "trace", *arguments, "--std")
         running.write("std", std.text())
         if (len(events) - 2, len(events) - 1) not in std.candidates():
-            raise explained.Wrong(f"the pair is no candidate of the schedule's trace\n{std.text()}")
+            raise judging.Wrong(f"the pair is no candidate of the schedule's trace\n{std.text()}")
         self.expect(std.info(), "info", "std")
 
 
-def verdict_of(trace, pair):
+def verdict_of(trace: plain.Trace, pair: explained.Pair) -> tuple[str, plain.Listed | None]:
     """What is to be said of a conflicting pair, and the events of the schedule that shows it, rising: those of the
     least list in the order of the trace, or of what the search finds; or None."""
     kind = trace.kind(*pair)
@@ -179,7 +184,7 @@ def verdict_of(trace, pair):
     return ("undecided", None) if turned is None else ("turned", tuple(sorted(turned)))
 
 
-def judge_reorderings(trace, pairs):
+def judge_reorderings(trace: plain.Trace, pairs: Iterable[explained.Pair]) -> None:
     """Compares the kinds and lists of the pairs with all correct reorderings of a small trace."""
     for first, second in pairs:
         showing = [listed for listed in trace.reorderings() if trace.shows(listed, first, second)]
@@ -190,16 +195,16 @@ def judge_reorderings(trace, pairs):
         rising = [listed for listed in showing if list(listed) == sorted(listed)]
         if (least is None and rising) or (least is not None and least not in rising):
             raise plain.Contradiction(f"the least list of {first} and {second} is {least}, and {rising} show them")
-        if any(not set(least) <= set(listed) for listed in rising):
+        if least is not None and any(not set(least) <= set(listed) for listed in rising):
             raise plain.Contradiction(f"{least} is not the least list of {first} and {second}: {rising}")
 
 
-def made(*lines):
+def made(*lines: str) -> plain.Trace:
     """A trace; each line is an event with its thread, operation and name."""
     return plain.Trace(plain.Event(*line.split(" ")) for line in lines)
 
 
-def in_turns(times):
+def in_turns(times: int) -> plain.Trace:
     """Two threads that each read what the other wrote, in turns, and then write one variable."""
     turns = []
     for turn in range(times):
@@ -208,12 +213,12 @@ def in_turns(times):
     return made(*turns, "A w last", "B w last")
 
 
-def under(locks):
+def under(locks: int) -> plain.Trace:
     """A write under this many locks, and one under none."""
     return made(*[f"A acq l{lock}" for lock in range(locks)], "A w x", "B w x")
 
 
-def named(thread, variable):
+def named(thread: str, variable: str) -> plain.Trace:
     """Two writes of this variable, the first by this thread."""
     return made(f"{thread} acq {variable}", f"{thread} w {variable}", f"B w {variable}")
 
@@ -271,7 +276,7 @@ MADE = [
 ]
 
 
-def drawn(run):
+def drawn(run: judging.Run) -> list[tuple[str, plain.Trace]]:
     """The traces to be judged, each with a name."""
     traces = [(f"made {number}", trace) for number, trace in enumerate(MADE)]
     for seed in run.seeds():
@@ -280,7 +285,7 @@ def drawn(run):
     return traces
 
 
-def judged(run):
+def judged(run: judging.Run) -> str:
     judge, tally = Judge(run), run.tally
     for name, trace in drawn(run):
         with judging.about(name, "trace"):

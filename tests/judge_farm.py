@@ -14,6 +14,7 @@ import shutil
 import subprocess
 import sys
 import time
+from collections.abc import Sequence
 
 if __name__ == "__main__":
     sys.dont_write_bytecode = True
@@ -74,24 +75,24 @@ done
 """
 
 
-def executable(path, text):
+def executable(path: str, text: str) -> None:
     with open(path, "w", encoding="ascii") as out:
         out.write(text)
     os.chmod(path, 0o755)
 
 
-def ran(command, **more):
+def ran(command: Sequence[str], **more: str) -> int:
     """The status of the command, with these variables in the environment besides."""
     environment = {**os.environ, **more}
     return subprocess.run(command, capture_output=True, check=False, env=environment, timeout=900).returncode
 
 
-def read(path):
+def read(path: str) -> bytes:
     with open(path, "rb") as file:
         return file.read()
 
 
-def one_machine(program):
+def one_machine(program: str) -> bytes:
     """The report of all traces, as one machine makes it."""
     os.mkdir("one")
     for name, trace in TRACES.items():
@@ -103,14 +104,14 @@ def one_machine(program):
     return subprocess.run([program, "merge", "--json", *TRACES], capture_output=True, check=True, cwd="one").stdout
 
 
-def is_one(wanted, folder):
+def is_one(wanted: bytes, folder: str) -> None:
     if read(os.path.join(folder, "merged.json")) != wanted:
         raise Wrong(f"{folder}/merged.json is not what one machine makes")
     if not read(os.path.join(folder, "merged.txt")).startswith(b"parts 3\n"):
         raise Wrong(f"{folder}/merged.txt does not count three parts")
 
 
-def judge_names(script):
+def judge_names(script: str) -> None:
     """Reports that would have one name are refused before any job."""
     os.makedirs("other", exist_ok=True)
     shutil.copy("pdsh.std", "other/count.std")
@@ -122,7 +123,7 @@ def judge_names(script):
             raise Wrong(f"{script} takes {traces}, whose reports have one name")
 
 
-def judge_parallel(wanted):
+def judge_parallel(wanted: bytes) -> None:
     judge_names("parallel.sh")
     command = ["sh", os.path.join(FARM, "parallel.sh"), *TRACES.values()]
     # A job that is killed is run again.
@@ -154,7 +155,7 @@ def judge_parallel(wanted):
         raise Wrong(f"parallel.sh made {again} again")
 
 
-def judge_slurm(wanted):
+def judge_slurm(wanted: bytes) -> None:
     judge_names("slurm.sh")
     shutil.rmtree("failed", ignore_errors=True)
     command = ["sh", os.path.join(FARM, "slurm.sh"), *TRACES.values()]
@@ -170,7 +171,7 @@ def judge_slurm(wanted):
     is_one(wanted, "slurm")
 
 
-def judge_nodes(wanted, slurm):
+def judge_nodes(wanted: bytes, slurm: slurmed.Slurm) -> None:
     """The same with Slurm itself: two nodes, a task that is killed, a node that is lost, and a part that is made
     twice."""
     shutil.rmtree("failed", ignore_errors=True)
@@ -197,7 +198,7 @@ def judge_nodes(wanted, slurm):
         raise Wrong("Slurm did not run two tasks at once, so no part was made twice")
 
 
-def tried_nodes(wanted):
+def tried_nodes(wanted: bytes) -> str | None:
     """What was not tried of Slurm, and why; nothing if all was tried."""
     if not slurmed.is_here():
         return "Slurm is not here, so slurm.sh was not run on nodes"
@@ -209,14 +210,14 @@ def tried_nodes(wanted):
     return None
 
 
-def lines_of(name):
+def lines_of(name: str) -> list[str]:
     """The lines that the jobs of the workflow run, one for each step that has some."""
     with open(os.path.join(FARM, "matrix.yml"), encoding="ascii") as file:
         text = file.read()
     return [line for line in re.findall(r"^        run: (.*)$", text, re.MULTILINE) if name in line]
 
 
-def judge_matrix():
+def judge_matrix() -> None:
     os.mkdir("matrix")
     os.mkdir("matrix/parts")
     executable("bin/racebench-record", f'#!/bin/sh\nexec cat "{os.path.abspath("count.std")}"\n')
@@ -242,7 +243,7 @@ def judge_matrix():
         raise Wrong(f"the last job of matrix.yml ends with {done.returncode}")
 
 
-def judged(run):
+def judged(run: judging.Run) -> str:
     for name, example in EXAMPLES.items():
         shutil.copy(os.path.join(TOP, "examples", example), name)
     os.mkdir("bin")

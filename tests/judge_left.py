@@ -17,6 +17,8 @@ import os
 import random
 import sys
 import tempfile
+from collections.abc import Sequence
+from typing import Any
 
 if __name__ == "__main__":
     sys.dont_write_bytecode = True
@@ -29,9 +31,12 @@ import judging
 import plain
 import running
 from judging import Wrong
-from plain_names import without_number
+from judge_merge import Parts
 from judge_triage_file import side_of
+from plain_names import without_number
 
+# An entry of a triage file.
+Entry = dict[str, Any]
 LISTS = 120
 DAY = judge_triage_file.TODAY.isoformat()
 REACHED = [
@@ -58,14 +63,15 @@ REACHED = [
 ]
 
 
-def places_of(pair):
+def places_of(pair: plain.Shown) -> tuple[bytes, ...]:
     """The two locations of a pair, the lesser first."""
     return tuple(sorted(access["location"].encode() for access in pair.row["accesses"]))
 
 
-def named_in(text):
+def named_in(text: str) -> set[tuple[bytes, ...]]:
     """The pairs of locations that the blocks `race` of a text name."""
-    found, lines = set(), None
+    found: set[tuple[bytes, ...]] = set()
+    lines: list[str] | None = None
     for line in text.split("\n"):
         if line.startswith("race "):
             lines = []
@@ -77,7 +83,7 @@ def named_in(text):
     return found
 
 
-def is_about(entry, pair, parts):
+def is_about(entry: Entry, pair: plain.Shown, parts: Parts) -> bool:
     """Whether the entry is about the races of a pair: each race is on one variable, which the entry names."""
     one, other = (access["location"] for access in pair.row["accesses"])
     fits = judge_triage_file.fits
@@ -91,14 +97,14 @@ def is_about(entry, pair, parts):
     return all(row["variables"] == 1 and without_number(row["accesses"][0]["variable"]) in names for row in rows)
 
 
-def places_in(row):
+def places_in(row: plain.ReportRow) -> tuple[bytes, ...]:
     return tuple(sorted(access["location"].encode() for access in row["accesses"]))
 
 
 class Wanted:
     """What is left out: a text of known races, the entries of a triage file, and filters."""
 
-    def __init__(self, chance, parts, seen):
+    def __init__(self, chance: random.Random, parts: Parts, seen: collections.Counter[str]) -> None:
         pairs = plain.merged_pairs(parts)
         self.known = known_text(chance, pairs) if chance.random() < 0.6 else None
         entries = [drawn_entry(chance, pairs) for _ in range(chance.randint(1, 3))]
@@ -107,7 +113,7 @@ class Wanted:
         self.hide = [drawn_word(chance, pairs) for _ in range(chance.choice([0, 0, 1, 2]))]
         self.seen = seen
 
-    def arguments(self):
+    def arguments(self) -> list[str]:
         """The flags, after the files that they name were written."""
         arguments = [word for text in self.only for word in ("--only", text)]
         arguments += [word for text in self.hide for word in ("--hide", text)]
@@ -119,19 +125,19 @@ class Wanted:
             arguments += ["--triage", "triage.toml", "--today", DAY]
         return arguments
 
-    def keeps(self, pair):
+    def keeps(self, pair: plain.Shown) -> bool:
         """Whether the filters keep the block of a pair."""
         lines = [
             f"{access['thread']}|{access['operation']}({access['variable']})|{access['location']}"
             for access in pair.row["accesses"]
         ]
 
-        def has(text):
+        def has(text: str) -> bool:
             return any(text in line for line in lines)
 
         return not any(map(has, self.hide)) and (not self.only or any(map(has, self.only)))
 
-    def left(self, parts):
+    def left(self, parts: Parts) -> tuple[list[plain.Shown], int | None, int | None]:
         """The pairs that stay, and how many are known and hidden; None if that is not told."""
         named = named_in(self.known or "")
         known, kept = [], []
@@ -153,7 +159,7 @@ class Wanted:
         counts_known = self.known is not None or self.entries is not None
         return stay, len(known) if counts_known else None, len(kept) - len(stay) if self.only or self.hide else None
 
-    def notes(self, parts):
+    def notes(self, parts: Parts) -> bytes:
         """What standard error must have."""
         lines = []
         races = [pair for pair in plain.merged_pairs(parts) if pair.rank == 0]
@@ -175,7 +181,7 @@ class Wanted:
         return "".join(lines).encode()
 
 
-def known_text(chance, pairs):
+def known_text(chance: random.Random, pairs: Sequence[plain.Shown]) -> str:
     """A text with the blocks of some pairs, of which some say that they are races."""
     blocks = []
     for pair in chance.sample(pairs, chance.randint(0, len(pairs))):
@@ -184,11 +190,12 @@ def known_text(chance, pairs):
         head, *lines = plain.block({**row, "accesses": accesses})
         if chance.random() < 0.3:
             head = "race " + head
-        blocks.append("\n".join([head, *lines, *chance.choice([[], ["    part b.json"], ["known 3"]])]) + "\n")
+        more = chance.choice(["", "    part b.json", "known 3"])
+        blocks.append("\n".join([head, *lines, *[more] * bool(more)]) + "\n")
     return "races 3\n" * chance.randint(0, 1) + "".join(blocks)
 
 
-def drawn_entry(chance, pairs):
+def drawn_entry(chance: random.Random, pairs: Sequence[plain.Shown]) -> Entry:
     """An entry that resembles a pair, or anything."""
     pair = chance.choice(pairs) if pairs and chance.random() < 0.9 else None
     accesses = (
@@ -198,7 +205,7 @@ def drawn_entry(chance, pairs):
     sides = [side_of(location) for location in locations]
     if chance.random() < 0.4:
         sides.reverse()
-    entry = {"paths": [path for path, _, _ in sides]}
+    entry: Entry = {"paths": [path for path, _, _ in sides]}
     if chance.random() < 0.6:
         entry["functions"] = [function if chance.random() < 0.9 else "" for _, _, function in sides]
     if chance.random() < 0.5:
@@ -208,44 +215,45 @@ def drawn_entry(chance, pairs):
     return entry | {"verdict": chance.choice(judge_triage_file.VERDICTS)}
 
 
-def drawn_word(chance, pairs):
+def drawn_word(chance: random.Random, pairs: Sequence[plain.Shown]) -> str:
     """A text that a block may have."""
     if not pairs:
         return "x"
     access = chance.choice(chance.choice(pairs).row["accesses"])
-    return chance.choice(["(x)", "T1|", "w(", access["location"][:5] or "T2", access["variable"], "nowhere"])
+    words: list[str] = ["(x)", "T1|", "w(", access["location"][:5] or "T2", access["variable"], "nowhere"]
+    return chance.choice(words)
 
 
 class Judge(judge_merge.Judge):
-    def __init__(self, run):
+    def __init__(self, run: judging.Run) -> None:
         super().__init__(run)
         self.sarif = judge_merged_sarif.Judge(run.program)
         self.sarif.tally = collections.Counter()
 
-    def ends(self, arguments, status, out, err):
+    def ends(self, arguments: list[str], status: int, out: bytes, err: bytes) -> None:
         """The program ends so."""
         found = running.ended(self.program, arguments)
         if found != (status, out, err):
             printed, wanted = (found[1] + found[2]).decode(), (out + err).decode()
             raise Wrong(f"{arguments} ends with {found[0]}, and prints\n{printed}and not\n{wanted}")
 
-    def texts(self, parts, wanted, arguments):
+    def texts(self, parts: Parts, wanted: Wanted, arguments: list[str]) -> None:
         """The text, with its notes and its status."""
         stay, known, hidden = wanted.left(parts)
         races = any(pair.rank == 0 for pair in stay)
         counts = [("known", known), ("hidden", hidden)]
         tail = "".join(f"{word} {count}\n" for word, count in counts if count is not None)
-        for flags in [[], ["--apart"], ["--fail"]]:
+        for flags in [*judge_merge.FORMS, ["--fail"]]:
             text = plain.merged_of(stay, len(parts), "--apart" in flags) + tail
             status, line = judge_merge.failed(parts, races) if flags == ["--fail"] else (0, b"")
             self.ends(["merge", *parts, *arguments, *flags], status, text.encode(), wanted.notes(parts) + line)
             self.seen["no events"] += status == 4
         self.seen["failed" if races else "not failed"] += 1
 
-    def lines(self, parts, wanted, arguments):
+    def lines(self, parts: Parts, wanted: Wanted, arguments: list[str]) -> None:
         """The JSON: what stays, how much is left out, and all parts whole."""
         stay, known, hidden = wanted.left(parts)
-        head = {"kind": "merged", "parts": len(parts), "pairs": len(stay), "version": 1}
+        head: judge_merge.Row = {"kind": "merged", "parts": len(parts), "pairs": len(stay), "version": 1}
         head |= {name: count for name, count in [("known", known), ("hidden", hidden)] if count is not None}
         _, out, err = running.ended(self.program, ["merge", *parts, *arguments, "--json"])
         objects = [json.loads(line) for line in out.decode().splitlines()]
@@ -256,7 +264,7 @@ class Judge(judge_merge.Judge):
             raise Wrong("the parts are not whole")
         named = {places_of(pair) for pair in stay}
 
-        def ends(line):
+        def ends(line: bytes) -> tuple[bytes, ...]:
             return tuple(json.loads(line)[name].encode() for name in ("first", "second"))
 
         pairs = [line for line in whole[1 + len(parts) : -1] if ends(line) in named]
@@ -267,11 +275,12 @@ class Judge(judge_merge.Judge):
             raise Wrong("what was left out is not there when the report is merged again")
         self.seen["merged again"] += 1
 
-    def logs(self, parts, wanted, arguments):
+    def logs(self, parts: Parts, wanted: Wanted, arguments: list[str]) -> None:
         """The log: a result for each pair that stays, and how much is left out."""
         stay, known, hidden = wanted.left(parts)
         left = {name: count for name, count in [("known", known), ("hidden", hidden)] if count is not None}
-        for flags, folder in [([], ""), (["--apart"], ""), (["--apart"], "code")]:
+        without_apart, with_apart = judge_merge.FORMS
+        for flags, folder in [(without_apart, ""), (with_apart, ""), (with_apart, "code")]:
             code = ["--source", folder] if folder else []
             _, out, err = running.ended(self.program, ["merge", *parts, *arguments, *flags, "--sarif", *code])
             if err != wanted.notes(parts):
@@ -280,7 +289,7 @@ class Judge(judge_merge.Judge):
             self.sarif.check_run(json.loads(out)["runs"][0], parts, shown, folder, left)
         self.seen["line of code"] = self.sarif.tally["line of code"]
 
-    def pages(self, parts, wanted, arguments):
+    def pages(self, parts: Parts, wanted: Wanted, arguments: list[str]) -> None:
         """The page: a row for each pair that stays, and how much is left out."""
         stay, known, hidden = wanted.left(parts)
         counts = f"; {compiled.counted(known, 'known race')} left out" if known is not None else ""
@@ -289,14 +298,14 @@ class Judge(judge_merge.Judge):
         self.page([*parts, *arguments], parts, stay, counts)
         self.seen["page without a race"] += bool(known) and all(pair.rank for pair in stay)
 
-    def printed(self, arguments):
+    def printed(self, arguments: list[str]) -> bytes:
         """As in judge_merge, except for the notes."""
         status, out, err = running.ended(self.program, ["merge", *arguments])
         if status != 0 or any(not line.startswith(b"racebench: ") for line in err.splitlines()):
             raise Wrong(f"merge {arguments} ends with {status}: {err.decode()}")
         return out
 
-    def windows(self, chance):
+    def windows(self, chance: random.Random) -> None:
         """`triage --windows` prints what `merge` prints of the report of its windows."""
         running.write("trace", by_chance.trace(chance, chance.choice([8, 14, 20])).text())
         most = f"--windows={chance.choice([4, 6, 9])}"
@@ -308,7 +317,7 @@ class Judge(judge_merge.Judge):
         if not arguments:
             return
         code = ["--sarif", "--source", "code"]
-        for flags in [[], ["--apart"], ["--json"], ["--page"], ["--sarif"], code, ["--fail"]]:
+        for flags in [*judge_merge.FORMS, ["--json"], ["--page"], ["--sarif"], code, ["--fail"]]:
             if flags == ["--apart"]:
                 apart = running.printed(self.program, ["triage", "trace", most, "--json", *flags])
                 judge_merge.write("windows.json", apart)
@@ -326,7 +335,7 @@ class Judge(judge_merge.Judge):
                 )
         self.seen["windows"] += 1
 
-    def judge(self, seed):
+    def judge(self, seed: int) -> None:
         chance = random.Random(seed)
         parts = self.list_of(chance, seed)
         write_code()
@@ -341,7 +350,7 @@ class Judge(judge_merge.Judge):
         self.windows(chance)
 
 
-def write_code():
+def write_code() -> None:
     """Writes a folder with the code of places that drawn parts name."""
     os.mkdir("code")
     for place in judge_merge.PLACES:
@@ -350,7 +359,7 @@ def write_code():
             judge_merge.write(f"code/{path}", b"".join(b"  line %d;\n" % number for number in range(1, 40)))
 
 
-def judged(run):
+def judged(run: judging.Run) -> str:
     judge = Judge(run)
     for seed in run.seeds():
         with tempfile.TemporaryDirectory() as folder, judging.about(f"seed {seed}"):

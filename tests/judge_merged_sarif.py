@@ -18,6 +18,7 @@ import os
 import random
 import sys
 import tempfile
+from collections.abc import Mapping, Sequence
 
 if __name__ == "__main__":
     sys.dont_write_bytecode = True
@@ -29,6 +30,8 @@ import judging
 import plain
 import running
 import sarif_rules
+from code_folders import CodeFolder
+from judge_merge import Parts, Row
 from plain_names import without_number
 
 LISTS = 60
@@ -52,16 +55,16 @@ REACHED = [
 class Access(judge_sarif.Event):
     """An access of a row."""
 
-    def __init__(self, fields):
+    def __init__(self, fields: plain.ReportRow) -> None:
         self.thread, self.word, self.name = fields["thread"], fields["operation"], fields["variable"]
         self.location = fields["location"]
 
-    def text(self):
+    def text(self) -> str:
         verb = {"r": "reads", "w": "writes"}.get(self.word, self.word)
         return f"{self.thread} {verb} {self.name} at {self.place() or '?'}"
 
 
-def side(access, root):
+def side(access: Access, root: CodeFolder | None) -> str:
     """What a fingerprint has of an access. `root` is the folder of the code, if there is one."""
     file, number = judge_sarif.place_parts(access.place())
     shown = access.place() if file is None else file
@@ -70,11 +73,11 @@ def side(access, root):
     return f"{shown}\n{judge_sarif.calls_of(access.location)[0]}\n{without_number(access.name)}\n{line}"
 
 
-def print_of(accesses, root):
+def print_of(accesses: Sequence[Access], root: CodeFolder | None) -> str:
     return "\n".join(sorted((side(access, root) for access in accesses), key=str.encode))
 
 
-def message_of(pair, accesses, parts):
+def message_of(pair: plain.Shown, accesses: Sequence[Access], parts: int) -> str:
     """What a result has to say of a pair of places."""
     first, second = accesses
     kind = pair.row["kind"]
@@ -89,7 +92,7 @@ def message_of(pair, accesses, parts):
 
 
 class Judge(judge_sarif.Judge):
-    def check_pair(self, result, pair, parts, root):
+    def check_pair(self, result: Row, pair: plain.Shown, parts: int, root: CodeFolder | None) -> None:
         kind = pair.row["kind"]
         self.tally[kind] += 1
         self.tally["several parts"] += sum(pair.counts) > 1
@@ -109,20 +112,23 @@ class Judge(judge_sarif.Judge):
         self.equal(print_, print_of(accesses, root), "the fingerprint")
         self.tally["line of code"] += root is not None and any(line.endswith(";") for line in print_.split("\n"))
 
-    def run_of(self, arguments):
+    def run_of(self, arguments: Sequence[str]) -> Row:
         out = running.printed(self.program, arguments)
         self.equal((out[-1:], out.count(b"\n")), (b"\n", 1), "the end of the log")
         log = json.loads(out.decode("utf-8"))
         sarif_rules.check(log)
-        return log["runs"][0]
+        run: Row = log["runs"][0]
+        return run
 
-    def check_log(self, parts, flags, folder):
+    def check_log(self, parts: Parts, flags: Sequence[str], folder: str) -> list[Row]:
         """Judges the log of the parts; its results."""
         run = self.run_of(["merge", *parts, "--sarif", *flags, *(["--source", folder] if folder else [])])
         pairs = [pair for pair in plain.merged_pairs(parts) if flags or pair.rank < 2]
         return self.check_run(run, parts, pairs, folder)
 
-    def check_run(self, run, parts, pairs, folder, left=None):
+    def check_run(
+        self, run: Row, parts: Parts, pairs: Sequence[plain.Shown], folder: str, left: Mapping[str, int] | None = None
+    ) -> list[Row]:
         """The run has a result for each pair, and counts what was left out."""
         self.equal(len(run["results"]), len(pairs), "the number of results")
         self.tally["no results"] += not pairs
@@ -131,9 +137,10 @@ class Judge(judge_sarif.Judge):
             self.check_pair(result, pair, len(parts), code)
         self.equal(run["properties"], left or {}, "what was left out")
         self.equal(run["originalUriBaseIds"], judge_sarif.base_of(code), "the folder of the code")
-        return run["results"]
+        results: list[Row] = run["results"]
+        return results
 
-    def check_same(self, name, folder):
+    def check_same(self, name: str, folder: str) -> None:
         """The results of one trace and of its part have the same fingerprints."""
         source = ["--source", folder] if folder else []
         of_trace = self.run_of(["triage", "trace", "--sarif", *source])["results"]
@@ -145,7 +152,7 @@ class Judge(judge_sarif.Judge):
         self.equal(prints[1], prints[0], "the fingerprints of a part")
         self.tally["one fingerprint"] += len(of_part)
 
-    def part_of(self, chance, seed, name):
+    def part_of(self, chance: random.Random, seed: int, name: str) -> list[Row]:
         """Writes a part of this name, and answers its objects."""
         if seed % 2:
             objects = judge_merge.part(chance)
@@ -155,13 +162,13 @@ class Judge(judge_sarif.Judge):
             return objects
         with open("trace", "w", encoding="utf-8") as out:
             out.write("".join(line + "\n" for line in judge_sarif.drawn(chance, seed)))
-        text = running.printed(self.program, ["triage", "trace", "--json", *chance.choice([[], ["--apart"]])])
+        text = running.printed(self.program, ["triage", "trace", "--json", *chance.choice(judge_merge.FORMS)])
         judge_merge.write(name, text)
         for folder in ("", "code"):
             self.check_same(name, folder)
         return [json.loads(row) for row in text.splitlines()]
 
-    def judge(self, seed):
+    def judge(self, seed: int) -> None:
         chance = random.Random(seed)
         for name, text in CODE.items():
             os.makedirs(os.path.dirname(f"code/{name}"), exist_ok=True)
@@ -170,7 +177,7 @@ class Judge(judge_sarif.Judge):
         parts = {
             name: self.part_of(chance, seed, name) for name in chance.sample(NAMES, chance.randint(1, len(NAMES)))
         }
-        for flags in ([], ["--apart"]):
+        for flags in judge_merge.FORMS:
             for folder in ("", "code", os.path.abspath("code")):
                 self.check_log(parts, flags, folder)
         judge_merge.write("whole", running.printed(self.program, ["merge", *parts, "--json"]))
@@ -178,7 +185,7 @@ class Judge(judge_sarif.Judge):
         self.equal(whole, running.printed(self.program, ["merge", *parts, "--sarif"]), "the log of a merged report")
 
 
-def judged(run):
+def judged(run: judging.Run) -> str:
     judge = Judge(run.program)
     judge.tally = run.tally = collections.Counter()
     for seed in run.seeds():

@@ -17,6 +17,7 @@ import shutil
 import subprocess
 import sys
 import tempfile
+from types import ModuleType
 
 if __name__ == "__main__":
     sys.dont_write_bytecode = True
@@ -27,27 +28,27 @@ import man_pages
 TOP = os.path.dirname(os.path.dirname(os.path.abspath(__file__)))
 
 
-def printed(*command, **more):
-    return subprocess.run(command, capture_output=True, text=True, check=True, **more).stdout
+def printed(*command: str, cwd: str | None = None) -> str:
+    return subprocess.run(command, capture_output=True, text=True, check=True, cwd=cwd).stdout
 
 
-def text_of(*path):
+def text_of(*path: str) -> str:
     with open(os.path.join(TOP, *path), encoding="utf-8") as file:
         return file.read()
 
 
-def part(pattern, text, what):
+def part(pattern: str, text: str, what: str) -> str:
     """What the pattern's group finds in a text. If the text has another form by now, this judge has to follow it."""
     found = re.search(pattern, text, re.MULTILINE | re.DOTALL)
     if not found:
         raise judging.Wrong(f"there is no {what}; the pattern is {pattern!r}")
-    return found[1]
+    return str(found[1])
 
 
 class Words:
     """What `--help` of the program names."""
 
-    def __init__(self, program):
+    def __init__(self, program: str) -> None:
         whole = printed(program, "--help")
         listed = part(r"^Commands:\n((?:  [^\n]*\n)+)", whole, "commands in --help")
         self.offered = re.findall(r"^  (\w[\w-]*)", listed, re.MULTILINE)
@@ -59,17 +60,17 @@ class Words:
         self.script = re.findall(r"^  (\w+)", script, re.MULTILINE)
 
     @staticmethod
-    def flags_of(text):
+    def flags_of(text: str) -> list[str]:
         options = part(r"^Options:\n((?: [^\n]*\n)+)", text, "options in --help")
         return re.findall(
             r"(?<![\w-])--?[A-Za-z][\w-]*", "\n".join(re.findall(r"^ +(-.*?)(?:  |$)", options, re.MULTILINE))
         )
 
-    def all_flags(self):
+    def all_flags(self) -> list[str]:
         return sorted({flag for flags in self.flags.values() for flag in flags})
 
 
-def page_lacks(commands):
+def page_lacks(commands: Words) -> list[str]:
     page = re.sub(r"\\f[A-Z]", "", text_of("package", "racebench.1")).replace("\\-", "-").replace("\\ ", " ")
     faults = part(
         r"^## Faults\n(.*?)^### ", text_of("docs", "formats", "faults.md"), "table of faults in docs/formats/faults.md"
@@ -87,13 +88,14 @@ def page_lacks(commands):
     return wanted
 
 
-def zsh_lacks(commands):
+def zsh_lacks(commands: Words) -> list[str]:
     text = text_of("package", "_racebench")
     lacks = [
         f"command {name}" for name in commands.offered if f"'{name}:" not in text or f"        {name})" not in text
     ]
     for command in commands.commands:
-        case = (re.search(rf"^        {command}\)(.*?);;", text, re.MULTILINE | re.DOTALL) or [None, ""])[1]
+        found = re.search(rf"^        {command}\)(.*?);;", text, re.MULTILINE | re.DOTALL)
+        case = found[1] if found else ""
         lacks += [
             f"flag {flag} of {command}"
             for flag in commands.flags[command]
@@ -104,7 +106,7 @@ def zsh_lacks(commands):
     ]
 
 
-def completed(*typed, command="racebench"):
+def completed(*typed: str, command: str = "racebench") -> list[str]:
     """What bash offers for the last argument, after the command."""
     line = (
         'source package/$0.bash; COMP_WORDS=($0 "$@"); COMP_CWORD=$#; _${0//-/_}; printf \'%s\\n\' "${COMPREPLY[@]}"'
@@ -112,7 +114,7 @@ def completed(*typed, command="racebench"):
     return printed("bash", "-c", line, command, *typed, cwd=TOP).split()
 
 
-def bash_lacks(commands):
+def bash_lacks(commands: Words) -> list[str]:
     lacks = []
     for typed in ([""], ["help", ""]):
         offered = completed(*typed)
@@ -124,7 +126,7 @@ def bash_lacks(commands):
     return lacks
 
 
-def screen_commands():
+def screen_commands() -> tuple[list[str], list[str]]:
     """The options of the screen, and its arguments."""
     help_text = printed("/usr/bin/python3", "screen/screen", "--help", cwd=TOP)
     options = re.findall(
@@ -133,19 +135,19 @@ def screen_commands():
     return options, re.findall(r"^  ([A-Z]+)$", help_text, re.MULTILINE)
 
 
-def screen_lacks(name):
+def screen_lacks(name: str) -> list[str]:
     """Each option and each argument of the screen that a file does not have."""
     page = text_of("package", name).replace("\\-", "-")
     options, arguments = screen_commands()
     return [word for word in options + arguments if not re.search(rf"(?<![\w-]){word}(?![\w-])", page, re.IGNORECASE)]
 
 
-def screen_bash_lacks():
+def screen_bash_lacks() -> list[str]:
     """Each option of the screen that bash does not offer, and each that it offers and the screen lacks."""
     return sorted(set(screen_commands()[0]) ^ set(completed("-", command="racebench-screen")))
 
 
-def recorder_page_lacks(command, page):
+def recorder_page_lacks(command: str, page: str) -> list[str]:
     """Each option that a command of the recorder names, and each part that a page has."""
     page = page.replace("\\-", "-").replace("\\fB", "").replace("\\fR", "")
     wanted = [f"section {name}" for name in ("NAME", "SYNOPSIS", "DESCRIPTION") if f"\n.SH {name}\n" not in page]
@@ -155,7 +157,7 @@ def recorder_page_lacks(command, page):
     return wanted + [f"option {word}" for word in sorted(named) if not re.search(rf"(?<![\w-]){word}(?![\w-])", page)]
 
 
-def recorder_pages():
+def recorder_pages() -> list[tuple[str, list[str]]]:
     """What is wrong with each page that is made of what a command of the recorder says of itself."""
     judged = []
     for command in man_pages.COMMANDS:
@@ -167,7 +169,7 @@ def recorder_pages():
     return judged
 
 
-def page_warnings(name):
+def page_warnings(name: str) -> list[str]:
     if shutil.which("man") is None:
         print(f"package/{name}: not read by man, which is not here")
         return []
@@ -179,22 +181,25 @@ def page_warnings(name):
     return warnings.stderr.splitlines()
 
 
-def packing():
+def packing() -> ModuleType:
     """tools/package, as a module."""
     loader = importlib.machinery.SourceFileLoader("packing", os.path.join(TOP, "tools", "package"))
     spec = importlib.util.spec_from_loader("packing", loader)
+    if spec is None:
+        raise judging.Wrong("tools/package can't be loaded as a module")
     module = importlib.util.module_from_spec(spec)
     loader.exec_module(module)
     return module
 
 
-def languages_lack():
+def languages_lack() -> list[str]:
     """Each package that tools/needs names for a language, and no package of a language depends on; each package of a
     language that is made otherwise; what lintian says of it, if lintian is here."""
     module, lacks = packing(), []
     needed = part(r'^languages="([^"]*)"', text_of("tools", "needs"), "list of languages in tools/needs").split()
     facts = {"version": "0.1.0", "date": "Mon, 30 Nov 2026 06:00:00 +0000"}
-    there, paths = set(), []
+    there: set[str] = set()
+    paths: list[str] = []
     with tempfile.TemporaryDirectory() as folder:
         for word in module.LANGUAGES:
             paths.append(module.language_package(word, facts, folder, 1_000_000_000))
@@ -209,7 +214,7 @@ def languages_lack():
     return lacks + [f"{name}, which tools/needs names" for name in needed if name not in there]
 
 
-def judged(run):
+def judged(run: judging.Run) -> None:
     commands = Words(run.program)
     run.case("package/racebench.1 lacks", page_lacks(commands))
     run.case("package/_racebench lacks", zsh_lacks(commands))

@@ -20,6 +20,7 @@ import subprocess
 import sys
 import tempfile
 import threading
+from typing import IO
 
 if __name__ == "__main__":
     sys.dont_write_bytecode = True
@@ -27,6 +28,8 @@ import judging
 import recorded_rust
 
 TOP = pathlib.Path(__file__).resolve().parent.parent
+# A command that is not typed: its page, how it begins, and why.
+Entry = tuple[str, str, str]
 LINKED = ("examples", "record", "screen")
 # A command may take this many seconds.
 LONGEST = 900
@@ -40,7 +43,7 @@ TRIES = 12
 # The version of Rust whose library the page about Rust has been recorded with.
 RUST_OF_PAGE = "1.96.0"
 # Commands that are not typed: the page, how the command begins, and why.
-LEFT_OUT = [
+LEFT_OUT: list[Entry] = [
     ("README.md", "racebench triage watchdog.std", "names events of one recording of a program that sleeps"),
     ("README.md", "record/confirm", "counts races of a program that sleeps"),
     ("docs/BUILDS.md", "bazel", "needs Bazel and a project"),
@@ -71,21 +74,23 @@ if shutil.which("parallel") is None:
     ]
 
 
-def commands(text):
+def commands(text: str) -> list[tuple[int, str, list[str]]]:
     """The commands of a page: the line's number, the command, and the lines that are shown after it."""
-    found, here = [], False
+    found: list[tuple[int, str, list[str]]] = []
+    here = False
+    output: list[str] | None = None
     for number, line in enumerate(text.splitlines(), start=1):
         if line.startswith("```"):
-            here, open_one = line == "```text", None
+            here, output = line == "```text", None
         elif here and line.startswith("$ "):
-            open_one = (number, line[2:], [])
-            found.append(open_one)
-        elif here and open_one:
-            open_one[2].append(line)
+            output = []
+            found.append((number, line[2:], output))
+        elif here and output is not None:
+            output.append(line)
     return found
 
 
-def settled(command, lines):
+def settled(command: str, lines: list[str]) -> list[str]:
     """The lines without what is another in each build, and of a program that sleeps also in each recording."""
     text = re.sub(r"\b0x[0-9a-f]{5,}\b(?:\.\.)?|\b[0-9a-f]{10,}\b", "ADDRESS", "\n".join(lines))
     if re.search(SLEEPS, command):
@@ -95,7 +100,7 @@ def settled(command, lines):
     return text.splitlines()
 
 
-def as_shown(command, printed, shown):
+def as_shown(command: str, printed: str, shown: list[str]) -> bool:
     """Whether the command printed what the page shows."""
     printed = "".join(f"{line}\n" for line in settled(command, printed.splitlines()))
     shown = settled(command, shown)
@@ -106,7 +111,7 @@ def as_shown(command, printed, shown):
 class Folder:
     """The folder in which the commands of a page are typed."""
 
-    def __init__(self, path, program):
+    def __init__(self, path: pathlib.Path, program: str) -> None:
         self.path, self.status = path, 0
         for name in LINKED:
             (path / name).symlink_to(TOP / name)
@@ -116,31 +121,39 @@ class Folder:
         wrapper.chmod(0o755)
         self.more = {**os.environ, "PATH": f"{wrapper.parent}:{os.environ['PATH']}", "LC_ALL": "C.UTF-8"}
 
-    def start(self, command, **pipes):
-        """Starts the command in a shell that has the last command's status."""
+    def start(self, command: str, stdin: int) -> subprocess.Popen[bytes]:
+        """Starts the command in a shell that has the last command's status. What it prints goes into one pipe."""
         text = f"(exit {self.status})\n{command}\n"
-        pipes |= {"stderr": subprocess.STDOUT, "cwd": self.path, "env": self.more}
-        return subprocess.Popen(["bash", "-c", text], start_new_session=True, **pipes)
+        return subprocess.Popen(
+            ["bash", "-c", text],
+            stdin=stdin,
+            stdout=subprocess.PIPE,
+            stderr=subprocess.STDOUT,
+            cwd=self.path,
+            env=self.more,
+            start_new_session=True,
+        )
 
-    def printed(self, command):
+    def printed(self, command: str) -> str:
         """What the command prints; its status is kept for the next."""
-        with self.start(command, stdin=subprocess.DEVNULL, stdout=subprocess.PIPE) as process:
+        with self.start(command, subprocess.DEVNULL) as process:
             timer = end_after(process)
             out = process.communicate()[0]
             timer.cancel()
         self.status = process.returncode
         return out.decode(errors="replace")
 
-    def typed(self, command, shown):
+    def typed(self, command: str, shown: list[str]) -> str:
         """The lines of a session, of which every other one is typed. `Killed` at the end is a kill of the session."""
         killed = shown[-1:] == ["Killed"]
         came = []
-        with self.start(f"exec {command}", stdin=subprocess.PIPE, stdout=subprocess.PIPE) as process:
+        with self.start(f"exec {command}", subprocess.PIPE) as process:
             timer = end_after(process)
+            feed, out = pipes_of(process)
             for line in shown[: len(shown) - killed : 2]:
-                process.stdin.write(f"{line}\n".encode())
-                process.stdin.flush()
-                came += [line, process.stdout.readline().decode(errors="replace").rstrip("\n")]
+                feed.write(f"{line}\n".encode())
+                feed.flush()
+                came += [line, out.readline().decode(errors="replace").rstrip("\n")]
             if killed:
                 process.kill()
                 came.append("Killed")
@@ -149,14 +162,21 @@ class Folder:
         return "".join(f"{line}\n" for line in came) + rest
 
 
-def end_after(process):
+def pipes_of(process: subprocess.Popen[bytes]) -> tuple[IO[bytes], IO[bytes]]:
+    """The standard input and the standard output of a process that was started with pipes."""
+    if process.stdin is None or process.stdout is None:
+        raise ValueError("the process has no pipes")
+    return process.stdin, process.stdout
+
+
+def end_after(process: subprocess.Popen[bytes]) -> threading.Timer:
     """Ends the command and all that it started if it takes too long."""
     timer = threading.Timer(LONGEST, os.killpg, (process.pid, signal.SIGKILL))
     timer.start()
     return timer
 
 
-def answered(folder, command, shown):
+def answered(folder: Folder, command: str, shown: list[str]) -> str:
     """What the command prints; a recording that was disturbed is made again, and so is what hangs on the time."""
     if command.startswith("racebench session "):
         return folder.typed(command, shown)
@@ -170,12 +190,12 @@ def answered(folder, command, shown):
     return printed
 
 
-def why_left_out(page, command):
+def why_left_out(page: str, command: str) -> Entry | None:
     """The entry of LEFT_OUT for a command, or None."""
     return next((entry for entry in LEFT_OUT if entry[0] == page and command.startswith(entry[1])), None)
 
 
-def judge_page(page, run, used):
+def judge_page(page: str, run: judging.Run, used: set[Entry]) -> int:
     """Types the commands of a page, each a case; answers how many were left out."""
     left = 0
     with tempfile.TemporaryDirectory(prefix="pages") as temporary:
@@ -193,20 +213,21 @@ def judge_page(page, run, used):
     return left
 
 
-def all_pages():
+def all_pages() -> list[str]:
     docs = sorted(f"docs/{path.name}" for path in (TOP / "docs").glob("*.md"))
     return ["README.md", *docs, "record/README.md", "screen/README.md"]
 
 
-def prepare(program):
+def prepare(program: str) -> tuple[str, int]:
     """Compiles and records a program once: what the recorder says as it is built for the first time is on no page."""
     with tempfile.TemporaryDirectory(prefix="pages") as temporary:
         folder = Folder(pathlib.Path(temporary), program)
         return folder.printed("record/cc examples/count.c -o count && record/run ./count > count.std"), folder.status
 
 
-def judged(run):
-    pages, used = run.texts or all_pages(), set()
+def judged(run: judging.Run) -> None:
+    pages = run.texts or all_pages()
+    used: set[Entry] = set()
     printed, status = prepare(run.program)
     if status:
         print(f"examples/count.c is not recorded: {printed}")

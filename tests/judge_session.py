@@ -123,7 +123,7 @@ def at_rest(what: str) -> None:
         fail(f"{what}: the file ends with {data[-20:]!r}, and there are {os.listdir('.')}")
 
 
-def judge_scripts(sessions: Sessions, seed: int) -> None:
+def judge_scripts(sessions: Sessions, seed: float) -> None:
     """A script, cut into some sessions, is answered as `replay` does; the lines of the log are answered again as calls
     of it."""
     chance = random.Random(seed)
@@ -192,7 +192,7 @@ def read_lines(process: subprocess.Popen[bytes], lines: list[bytes]) -> None:
         lines.append(data)
 
 
-def judge_kills(sessions: Sessions, kills: int, seed: int = 1) -> None:
+def judge_kills(sessions: Sessions, kills: int, seed: float = 1) -> None:
     """A session is killed while it answers a script: what was answered stands in the log, and the next one goes on."""
     chance = random.Random(seed)
     for number in range(kills):
@@ -367,7 +367,7 @@ def judge_shorter(sessions: Sessions) -> None:
         fail(f"of a file that is shorter is said {printed!r} {error!r}")
 
 
-def judge_at_once(sessions: Sessions, seed: int, count: int = CALLS_AT_ONCE) -> None:
+def judge_at_once(sessions: Sessions, seed: float, count: int = CALLS_AT_ONCE) -> None:
     """Sessions of four clients at once, each with this many calls, in pieces of one or more lines."""
     chance = random.Random(seed)
     fresh()

@@ -5,10 +5,18 @@ reader sees it: which lines of text lie in which box, in which order the boxes s
 box, and where the arrows lead.
 """
 
-import collections
-import xml.etree.ElementTree
+from __future__ import annotations
 
-from explained import Wrong, WAITS, count, runs_of, waiters_of
+import xml.etree.ElementTree
+from collections import Counter
+from collections.abc import Sequence, Set
+from typing import NamedTuple
+from xml.etree.ElementTree import Element
+
+import plain
+from explained import WAITS, Pair, count, runs_of, waiters_of
+from judging import Wrong
+from plain import Listed
 
 SVG = "{http://www.w3.org/2000/svg}"
 # A line of text has at most this many bytes, and takes this many pixels for each character.
@@ -37,7 +45,7 @@ MOST_LISTED = 2000
 SHOWN = 1.2
 NARROW = 376
 # The tags of a picture with what each may have.
-TAGS = {
+TAGS: dict[str, set[str]] = {
     "svg": {"viewBox", "width", "height"},
     **{name: set() for name in ["title", "desc", "style", "defs"]},
     "marker": {"id", "viewBox", "refX", "refY", "markerWidth", "markerHeight", "markerUnits", "orient"},
@@ -46,31 +54,52 @@ TAGS = {
     "text": {"class", "x", "y"},
 }
 
-Box = collections.namedtuple("Box", "left top right bottom")
+# A line of text in a box: its class, and the text.
+Drawn = tuple[str | None, str]
+# The edges of a shade, as they are computed.
+Shade = tuple[float, float, float, float]
 
 
-def cut(text):
+class Box(NamedTuple):
+    left: int
+    top: int
+    right: int
+    bottom: int
+
+
+def cut(text: str) -> str:
     """The text as it is drawn."""
     begin = text.encode()[: MOST_BYTES - 1].decode("utf-8", "ignore")
     return text if len(text.encode()) <= MOST_BYTES else begin + "…"
 
 
-def described(listed):
+def described(listed: Listed) -> str:
     """The description of a picture of this schedule."""
     if len(listed) > MOST_LISTED:
         return f"Its {len(listed)} events are those that racebench witness prints"
     return " ".join(["Its events:", *map(str, listed)])
 
 
-def label(trace, event):
+def label(trace: plain.Trace, event: int) -> str:
     _, word, name = trace.events[event]
     return cut(f"{event}  {word}({name}) {trace.location(event)}")
+
+
+def attribute(element: Element, name: str) -> str:
+    found = element.get(name)
+    if found is None:
+        raise Wrong(f"an element of the picture has no {name}: {element.tag} with {sorted(element.attrib)}")
+    return found
+
+
+def number(element: Element, name: str) -> int:
+    return int(attribute(element, name))
 
 
 class Picture:
     """The boxes, lines and arrows of a picture."""
 
-    def __init__(self, text):
+    def __init__(self, text: str) -> None:
         try:
             self.root = xml.etree.ElementTree.fromstring(text)
         except xml.etree.ElementTree.ParseError as what:
@@ -79,21 +108,21 @@ class Picture:
             name = element.tag.removeprefix(SVG)
             if not element.tag.startswith(SVG) or not set(element.attrib) <= TAGS.get(name, set()):
                 raise Wrong(f"no part of a picture: {element.tag} with {sorted(element.attrib)}")
-        _, _, self.width, self.height = map(int, self.root.get("viewBox").split(" "))
+        _, _, self.width, self.height = map(int, attribute(self.root, "viewBox").split(" "))
         self.boxes = {kind: [box_of(rect) for rect in self.all("rect", kind)] for kind in ["box", "race"]}
 
-    def all(self, name, kind):
+    def all(self, name: str, kind: str) -> list[Element]:
         return [element for element in self.root.iter(SVG + name) if element.get("class") == kind]
 
-    def one(self, name):
+    def one(self, name: str) -> str | None:
         (found,) = self.root.iter(SVG + name)
         return found.text
 
-    def lines_in(self, box):
+    def lines_in(self, box: Box) -> list[Drawn]:
         """The lines of text in the box from top to bottom, each with its class; each has to fit into it."""
         lines = []
         for element in self.root.iter(SVG + "text"):
-            left, base = int(element.get("x")), int(element.get("y"))
+            left, base = number(element, "x"), number(element, "y")
             if box.left <= left < box.right and box.top <= base <= box.bottom:
                 if left + CHARACTER * len(element.text or "") > box.right:
                     raise Wrong(f"a line runs over its box: {element.text!r}")
@@ -104,19 +133,19 @@ class Picture:
         return [(kind, line) for _, kind, line in sorted(lines)]
 
 
-def box_of(rect):
-    left, top, width, height = (int(rect.get(name)) for name in ["x", "y", "width", "height"])
+def box_of(rect: Element) -> Box:
+    left, top, width, height = (number(rect, name) for name in ["x", "y", "width", "height"])
     return Box(left, top, left + width, top + height)
 
 
-def judge_waiter(trace, listed, last, waiter, line):
+def judge_waiter(trace: plain.Trace, listed: Listed, last: int, waiter: int, line: str) -> None:
     """Judges the line that tells that this event waits for the last one of a run, and why."""
     text, _, number = line.rpartition(" ")
     if number != str(waiter) or text not in WAITS or not WAITS[text](trace, listed, last, waiter):
         raise Wrong(f"for {last} waits {waiter}, and the line is {line!r}")
 
 
-def drawn_of(trace, listed, runs):
+def drawn_of(trace: plain.Trace, listed: Listed, runs: Sequence[Sequence[int]]) -> list[int]:
     """The numbers, from 0, of the runs that are drawn one by one: all of a few; else the last, and the last of those
     for which one of these waited."""
     if len(runs) <= MOST_RUNS:
@@ -128,7 +157,9 @@ def drawn_of(trace, listed, runs):
     return waited[LAST_RUNS - MOST_RUNS :] + last
 
 
-def judge_run(trace, listed, number, run, waiter, lines):
+def judge_run(
+    trace: plain.Trace, listed: Listed, number: int, run: Sequence[int], waiter: int | None, lines: Sequence[Drawn]
+) -> None:
     """Judges the lines of a run's box, for which this event waits if one does."""
     wanted = [
         ("note", cut(f"run {number}, {count(len(run), 'event')} of {trace.thread(run[0])}")),
@@ -144,9 +175,10 @@ def judge_run(trace, listed, number, run, waiter, lines):
         judge_waiter(trace, listed, run[-1], waiter, line)
 
 
-def has_locks(trace, listed):
+def has_locks(trace: plain.Trace, listed: Listed) -> set[int]:
     """The events of the list before or after which their threads hold a lock."""
-    holds, depths = set(), collections.Counter()
+    holds: set[int] = set()
+    depths: Counter[str] = Counter()
     for event in listed:
         thread, word, _ = trace.events[event]
         before = depths[thread]
@@ -156,10 +188,10 @@ def has_locks(trace, listed):
     return holds
 
 
-def shades_of(run, holds):
+def shades_of(run: Sequence[int], holds: Set[int]) -> list[tuple[int, int]]:
     """From which event of the run to which its thread holds a lock, by their places in it; several times, if it holds
     none between."""
-    shades = []
+    shades: list[tuple[int, int]] = []
     for place, event in enumerate(run):
         if event in holds and place and run[place - 1] in holds:
             shades[-1] = (shades[-1][0], place + 1)
@@ -168,10 +200,10 @@ def shades_of(run, holds):
     return shades
 
 
-def quarters_of(run, holds):
+def quarters_of(run: Sequence[int], holds: Set[int]) -> list[tuple[float, float]]:
     """The quarters of the run in which its thread holds a lock, neighbours as one, by their places in the run."""
     bounds = [len(run) * quarter // 4 for quarter in range(5)]
-    shades = []
+    shades: list[tuple[int, int]] = []
     for quarter, (start, end) in enumerate(zip(bounds, bounds[1:])):
         if any(event in holds for event in run[start:end]):
             if shades and shades[-1][1] == quarter:
@@ -181,17 +213,27 @@ def quarters_of(run, holds):
     return [(start * len(run) / 4, end * len(run) / 4) for start, end in shades]
 
 
-def all_shades(runs, holds, tally):
+def all_shades(
+    runs: Sequence[Sequence[int]], holds: Set[int], tally: Counter[str]
+) -> Sequence[Sequence[tuple[float, float]]]:
     """The shades of each run: all; or if all runs have too many, the quarters of a run with more than two."""
     shades = [shades_of(run, holds) for run in runs]
     if sum(map(len, shades)) <= MOST_SHADES:
         tally["pictures of 100 shades"] += sum(map(len, shades)) == MOST_SHADES
         return shades
     tally["pictures of 101 shades"] += sum(map(len, shades)) == MOST_SHADES + 1
-    return [quarters_of(run, holds) if len(found) > FEW_SHADES else found for run, found in zip(runs, shades)]
+    few: list[Sequence[tuple[float, float]]] = []
+    for run, found in zip(runs, shades):
+        if len(found) > FEW_SHADES:
+            few.append(quarters_of(run, holds))
+        else:
+            few.append(found)
+    return few
 
 
-def judge_bars(picture, boxes, runs, holds, tally):
+def judge_bars(
+    picture: Picture, boxes: Sequence[Box], runs: Sequence[Sequence[int]], holds: Set[int], tally: Counter[str]
+) -> int:
     """Judges the bars at the left edges of the boxes: each is as high as its box, beside the lines, and shaded from
     and to where the parts of a height that has one part for each event begin and end."""
     bars = [box_of(rect) for rect in picture.all("rect", "edge")]
@@ -205,7 +247,7 @@ def judge_bars(picture, boxes, runs, holds, tally):
             wanted.append((box.left, box.top + start * part, box.left + BAR, box.top + end * part))
     wanted.sort()
 
-    def is_near(shade, plain):
+    def is_near(shade: Box, plain: Shade) -> bool:
         return all(abs(one - other) <= 1 for one, other in zip(shade, plain))
 
     if len(found) != len(wanted) or not all(map(is_near, found, wanted)):
@@ -215,7 +257,7 @@ def judge_bars(picture, boxes, runs, holds, tally):
     return len(found)
 
 
-def judge_earlier(trace, picture, boxes, runs):
+def judge_earlier(trace: plain.Trace, picture: Picture, boxes: Sequence[Box], runs: Sequence[Sequence[int]]) -> None:
     """Judges the box of the runs that are not drawn one by one."""
     found = [picture.lines_in(box) for box in boxes]
     threads = {trace.thread(run[0]) for run in runs}
@@ -225,10 +267,12 @@ def judge_earlier(trace, picture, boxes, runs):
         raise Wrong(f"the box of earlier runs has {found}, and plainly {wanted}")
 
 
-def judge_places(trace, picture, boxes, runs, pair):
+def judge_places(
+    trace: plain.Trace, picture: Picture, boxes: Sequence[Box], runs: Sequence[Sequence[int]], pair: Pair
+) -> bool:
     """Judges that the boxes stand in columns, those of the pair first, downwards, and within the picture, which is not
     too wide."""
-    columns = {}
+    columns: dict[str, int] = {}
     for box, run in zip(boxes, runs):
         if columns.setdefault(trace.thread(run[0]), box.left) != box.left:
             raise Wrong(f"the thread of {run[0]} has two columns")
@@ -241,7 +285,7 @@ def judge_places(trace, picture, boxes, runs, pair):
     if any(columns[thread] != lefts[0] + wide[thread] * step for thread in columns):
         raise Wrong(f"the columns are {columns}, and plainly {wide}")
     names = sorted(
-        (int(line.get("x")), line.text or "") for line in picture.all("text", "name") if int(line.get("y")) == NAMES
+        (number(line, "x"), line.text or "") for line in picture.all("text", "name") if number(line, "y") == NAMES
     )
     heads = [(lefts[0] + wide[thread] * step, cut(thread)) for thread in threads if not is_shared or thread in own]
     if names != sorted(heads + [(lefts[0] + 2 * step, "other threads")] * is_shared):
@@ -251,15 +295,21 @@ def judge_places(trace, picture, boxes, runs, pair):
     for box in [*picture.boxes["box"], *picture.boxes["race"]]:
         if box.left < 0 or box.top < 0 or box.right > picture.width or box.bottom > picture.height:
             raise Wrong(f"{box} lies beyond the picture")
-    if int(picture.root.get("width")) > WIDEST:
+    if number(picture.root, "width") > WIDEST:
         raise Wrong(f"the picture is {picture.root.get('width')} wide")
-    shown = [int(picture.root.get(name)) for name in ("width", "height")]
+    shown = [number(picture.root, name) for name in ("width", "height")]
     if shown != [size + size // 5 for size in (picture.width, picture.height)]:
         raise Wrong(f"of {picture.width} and {picture.height} the picture is shown {shown} large")
     return is_shared
 
 
-def judge_arrows(trace, picture, boxes, runs, waiters):
+def judge_arrows(
+    trace: plain.Trace,
+    picture: Picture,
+    boxes: Sequence[Box],
+    runs: Sequence[Sequence[int]],
+    waiters: Sequence[int | None],
+) -> None:
     """Judges that an arrow leads from each run to the box of the event that waits for it."""
     wanted = []
     for box, waiter in zip(boxes, waiters):
@@ -269,7 +319,7 @@ def judge_arrows(trace, picture, boxes, runs, waiters):
             ]
     found = []
     for path in picture.all("path", "arrow"):
-        start, _, ends = path.get("d")[1:].partition("C")
+        start, _, ends = attribute(path, "d")[1:].partition("C")
         numbers = list(map(int, (start + " " + ends).split(" ")))
         wide = boxes[0].right - boxes[0].left
         starts = [
@@ -280,7 +330,7 @@ def judge_arrows(trace, picture, boxes, runs, waiters):
         raise Wrong(f"the arrows lead {sorted(found)}, and plainly {sorted(wanted)}")
 
 
-def judge_accesses(trace, picture, pair):
+def judge_accesses(trace: plain.Trace, picture: Picture, pair: Pair) -> None:
     """Judges the boxes of the two accesses: they stand one below the other, under all runs, and at the left edge."""
     boxes = sorted(picture.boxes["race"], key=lambda box: box.top)
     found = [picture.lines_in(box) for box in boxes]
@@ -305,14 +355,16 @@ def judge_accesses(trace, picture, pair):
         raise Wrong(f"the boxes of the accesses are not both seen on a narrow page: {boxes}")
 
 
-def judge_texts(picture, pair, listed, runs, boxes):
+def judge_texts(
+    picture: Picture, pair: Pair, listed: Listed, runs: Sequence[Sequence[int]], boxes: Sequence[Box]
+) -> None:
     """Judges the line on top and the one over the accesses, and that no line stands outside of the boxes but these and
     the names."""
     after = f"after {count(len(listed), 'event')} in {count(len(runs), 'run')}"
     under = max((box.bottom for box in boxes), default=0)
     over = min(box.top for box in picture.boxes["race"])
     wanted = [f"{pair[0]} and {pair[1]}: {after} both are next", "then both are next:"]
-    names = sorted((int(line.get("y")), line.text or "") for line in picture.all("text", "name"))
+    names = sorted((number(line, "y"), line.text or "") for line in picture.all("text", "name"))
     alone = [(base, text) for base, text in names if base < NAMES or under < base < over and base != NAMES]
     if [text for _, text in alone] != wanted or not alone[0][0] < NAMES < alone[1][0]:
         raise Wrong(f"alone stand {alone}, and plainly {wanted}")
@@ -322,7 +374,9 @@ def judge_texts(picture, pair, listed, runs, boxes):
         raise Wrong("a line stands in no box")
 
 
-def note_kinds(trace, tally, pair, runs, drawn):
+def note_kinds(
+    trace: plain.Trace, tally: Counter[str], pair: Pair, runs: Sequence[Sequence[int]], drawn: Sequence[Sequence[int]]
+) -> None:
     """Counts what kind of picture it is."""
     threads = {trace.thread(event) for event in [*pair, *(run[0] for run in drawn)]}
     texts = [text.encode() for event in pair for text in [trace.thread(event), label(trace, event)]]
@@ -340,7 +394,7 @@ def note_kinds(trace, tally, pair, runs, drawn):
         tally["accesses under more locks"] += len(trace.locks_before(event)) > MOST_LOCKS
 
 
-def judge_picture(trace, tally, text, pair, listed):
+def judge_picture(trace: plain.Trace, tally: Counter[str], text: str, pair: Pair, listed: Listed) -> None:
     """Judges the picture of this schedule, which shows the pair."""
     picture = Picture(text)
     runs = runs_of(trace, listed)

@@ -1,6 +1,8 @@
 """A Slurm of a judge's own, for tests/judge_farm.py: a controller, two node daemons with a processor each, and their
 munge daemon. They run as this user in a folder, with ports of their own, and end with the judge."""
 
+from __future__ import annotations
+
 import getpass
 import os
 import pathlib
@@ -9,6 +11,7 @@ import signal
 import socket
 import subprocess
 import time
+from collections.abc import Callable, Sequence
 
 from judging import Wrong
 
@@ -51,11 +54,11 @@ class Unstarted(Exception):
     """The daemons do not start on this machine."""
 
 
-def is_here():
+def is_here() -> bool:
     return all(shutil.which(daemon, path=PATH) for daemon in [*DAEMONS, "sbatch", "squeue", "sinfo"])
 
 
-def free_ports(count):
+def free_ports(count: int) -> list[int]:
     sockets = [socket.socket() for _ in range(count)]
     for each in sockets:
         each.bind(("127.0.0.1", 0))
@@ -65,7 +68,7 @@ def free_ports(count):
     return ports
 
 
-def wait_for(what, is_so, patience=PATIENCE):
+def wait_for(what: str, is_so: Callable[[], bool], patience: int = PATIENCE) -> None:
     """Waits until this is so."""
     end = time.monotonic() + patience
     while not is_so():
@@ -77,25 +80,25 @@ def wait_for(what, is_so, patience=PATIENCE):
 class Slurm:
     """The daemons, as a context: they are killed when it ends."""
 
-    def __init__(self, folder):
+    def __init__(self, folder: str) -> None:
         self.folder = pathlib.Path(folder).resolve()
         self.environment = {**os.environ, "PATH": PATH, "SLURM_CONF": str(self.folder / "slurm.conf")}
-        self.daemons = {}
+        self.daemons: dict[str, subprocess.Popen[bytes]] = {}
 
-    def start(self, name, command):
+    def start(self, name: str, command: Sequence[str]) -> None:
         """Starts a daemon in the foreground, so that its number is known."""
         with open(self.folder / f"{name}.log", "wb") as log:
             self.daemons[name] = subprocess.Popen(
                 command, stdin=subprocess.DEVNULL, stdout=log, stderr=log, env=self.environment
             )
 
-    def answer_of(self, command):
+    def answer_of(self, command: Sequence[str]) -> str:
         """What a command of Slurm's prints."""
         return subprocess.run(
             command, capture_output=True, env=self.environment, check=False, timeout=PATIENCE
         ).stdout.decode()
 
-    def configure(self):
+    def configure(self) -> None:
         self.folder.mkdir()
         for name in ["state", *NODES]:
             (self.folder / name).mkdir()
@@ -108,10 +111,10 @@ class Slurm:
         )
         (self.folder / "slurm.conf").write_text(text, encoding="ascii")
 
-    def idle(self):
+    def idle(self) -> int:
         return self.answer_of(["sinfo", "-h", "-N", "-o", "%T"]).split().count("idle")
 
-    def __enter__(self):
+    def __enter__(self) -> Slurm:
         self.configure()
         files = [
             f"--{word}={self.folder}/munge.{word.removesuffix('-file')}"
@@ -130,7 +133,7 @@ class Slurm:
             raise Unstarted(f"{wrong}: {[log.splitlines()[-1:] for log in logs]}") from wrong
         return self
 
-    def __exit__(self, *_):
+    def __exit__(self, *_: object) -> None:
         self.answer_of(["scancel", "--user", getpass.getuser()])
         end = time.monotonic() + 10
         while self.has_jobs() and time.monotonic() < end:
@@ -143,14 +146,14 @@ class Slurm:
             except subprocess.TimeoutExpired:
                 daemon.kill()
 
-    def has_jobs(self):
+    def has_jobs(self) -> bool:
         return bool(self.answer_of(["squeue", "-h"]).strip())
 
-    def wait(self):
+    def wait(self) -> None:
         """Waits until no job is left."""
         wait_for("the end of all jobs", lambda: not self.has_jobs())
 
-    def lose(self, node, task):
+    def lose(self, node: str, task: int) -> None:
         """The node daemon is lost, with its task of this number and all that this runs under."""
         self.daemons[node].kill()
         numbers = [task]
@@ -160,7 +163,7 @@ class Slurm:
             os.kill(number, signal.SIGKILL)
 
 
-def parent_of(number):
+def parent_of(number: int) -> int:
     """The process that started this one."""
     status = pathlib.Path(f"/proc/{number}/status").read_text()
     parent = int(status.split("\nPPid:")[1].split()[0])
