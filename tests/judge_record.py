@@ -16,6 +16,7 @@ import signal
 import subprocess
 import sys
 import tempfile
+from collections.abc import Callable, Iterable, Iterator, Mapping, Sequence
 
 if __name__ == "__main__":
     sys.dont_write_bytecode = True
@@ -45,7 +46,7 @@ import recorded_strangers
 import recorded_tries
 import recorded_whole
 import second_tries
-from judging import Wrong
+from judging import Case, Wrong
 
 TOP = os.path.dirname(os.path.dirname(os.path.abspath(__file__)))
 RECORD = os.path.join(TOP, "record")
@@ -57,9 +58,11 @@ SEEDS = (1, 2, 3)
 MANY = tuple(range(1, 21))
 # A recording is made again so often if the machine was so busy that a thread lost its turn by force.
 AGAIN = recorded_places.AGAIN
+# Two lines of a source, the lesser first.
+Lines = tuple[str, ...]
 # Each program, the options of the recorder, and the pairs of lines that race in it: RACE are the lines marked so, and
 # TRIAGED the same if locks come between, so that no candidate but a schedule shows it.
-PROGRAMS = [
+PROGRAMS: list[tuple[str, list[str], set[Lines | str]]] = [
     ("examples/count.c", [], {("count.c:13", "count.c:7")}),
     ("tests/recorded/each_kind.c", [], {"RACE"}),
     ("tests/recorded/each_kind.c", ["--yield", "1"], {"RACE"}),
@@ -90,22 +93,22 @@ OPENMP = ("openmp.c", "teams.c", "region.c", "taskloop.c")
 FORKS = "each_kind.c"
 
 
-def done(command, wanted=0, **more):
+def done(command: Sequence[str], wanted: int = 0, env: Mapping[str, str] | None = None) -> tuple[str, str]:
     """What a command wrote on standard output and on standard error."""
-    ran = names_of_runs.run(command, capture_output=True, timeout=PATIENCE, check=False, **more)
+    ran = names_of_runs.run(command, PATIENCE, env)
     if ran.returncode != wanted:
         raise Wrong(f"{' '.join(command)}: status {ran.returncode}: {ran.stderr.decode(errors='replace')[:600]}")
     return ran.stdout.decode(), ran.stderr.decode(errors="replace")
 
 
-def compilers():
+def compilers() -> Iterator[tuple[str, str | None]]:
     """The pairs of a C and a C++ compiler that are here and have the hooks; the second may be missing (None)."""
     for c, cxx in (("gcc", "g++"), ("clang", "clang++")):
         if has_hooks(c, "c"):
             yield c, cxx if has_hooks(cxx, "c++") else None
 
 
-def has_hooks(compiler, language):
+def has_hooks(compiler: str, language: str) -> bool:
     try:
         command = [compiler, "-fsanitize=thread", "-pthread", "-x", language, "-", "-c", "-o", os.devnull]
         text = "#include <pthread.h>\nint main() { return 0; }\n"
@@ -114,7 +117,7 @@ def has_hooks(compiler, language):
         return False
 
 
-def lines_at_race(source):
+def lines_at_race(source: str) -> Lines:
     """The pair of lines of a source that say RACE after their code; one line is a pair with itself."""
     with open(os.path.join(TOP, source), encoding="utf-8") as text:
         found = [
@@ -125,7 +128,7 @@ def lines_at_race(source):
     return tuple(sorted(found * 2 if len(found) == 1 else found))
 
 
-def candidates(racebench, trace):
+def candidates(racebench: str, trace: str) -> set[Lines]:
     """The pairs of lines of the candidates of a trace, as `info` prints them."""
     with open(trace, encoding="utf-8", errors="surrogateescape") as text:
         places = [line.split("|", 2)[2].split(" < ")[0] for line in recorded_places.events_in(text.read())]
@@ -134,7 +137,7 @@ def candidates(racebench, trace):
     return {tuple(sorted((places[int(first)], places[int(second)]))) for first, second in pairs}
 
 
-def shown(racebench, trace):
+def shown(racebench: str, trace: str) -> set[Lines]:
     """The pairs of lines of the races of a trace, as `triage` prints them, and no undecided ones."""
     printed, _ = done([racebench, "triage", trace])
     blocks = re.findall(r"^race \d.*\n((?:  .*\n)+)", printed, re.MULTILINE)
@@ -142,7 +145,7 @@ def shown(racebench, trace):
     return {tuple(sorted(pair)) for pair in places}
 
 
-def compiled(source, c, cxx):
+def compiled(source: str, c: str, cxx: str | None) -> None:
     """Compiles a source, in one call or in two, to `program`."""
     environment = dict(os.environ, RECORD_CC=c, RECORD_CXX=cxx or "")
     path, language = os.path.join(TOP, source), os.path.join(RECORD, "c++" if source.endswith(".cpp") else "cc")
@@ -154,7 +157,7 @@ def compiled(source, c, cxx):
         done([language, "part.o", "-o", "program"], env=environment)
 
 
-def recorded(options, seed, forks=False):
+def recorded(options: list[str], seed: int, forks: bool = False) -> str:
     """Records `program`; the trace is in `trace.std`. It is whole, if the program does not fork."""
     for _ in range(AGAIN):
         run = [os.path.join(RECORD, "run"), "--seed", str(seed), *options, "./program"]
@@ -173,8 +176,16 @@ def recorded(options, seed, forks=False):
     return trace
 
 
-def judge_program(racebench, source, options, races, c, cxx, seeds):
-    wanted = {lines_at_race(source) if pair in ("RACE", "TRIAGED") else pair for pair in races}
+def judge_program(
+    racebench: str,
+    source: str,
+    options: list[str],
+    races: set[Lines | str],
+    c: str,
+    cxx: str | None,
+    seeds: Iterable[int],
+) -> None:
+    wanted = {lines_at_race(source) if isinstance(pair, str) else pair for pair in races}
     found_in = shown if "TRIAGED" in races else candidates
     compiled(source, c, cxx)
     for seed in seeds:
@@ -187,7 +198,7 @@ def judge_program(racebench, source, options, races, c, cxx, seeds):
     recorded_options.judge_decoder(source, [*options, "--seed", "1"], c)
 
 
-def judge_barrier(racebench, trace):
+def judge_barrier(racebench: str, trace: str) -> None:
     """Each thread's first read at the barrier that saw the other's coming may not come before it."""
     events = [line.split("|")[:2] for line in recorded_places.events_in(trace)]
     writer = None
@@ -207,7 +218,7 @@ def judge_barrier(racebench, trace):
         raise Wrong("nobody came to the barrier")
 
 
-def judge_example(c, cxx):
+def judge_example(c: str, cxx: str | None) -> None:
     """examples/count.std is what the page says that it is: the trace of count.c with the first seed, without calls."""
     compiled("examples/count.c", c, cxx)
     with open(os.path.join(TOP, "examples/count.std"), encoding="ascii") as text:
@@ -215,16 +226,16 @@ def judge_example(c, cxx):
             raise Wrong("the trace of examples/count.c is another than examples/count.std")
 
 
-def judge_stranger():
+def judge_stranger() -> None:
     """A program that was not compiled so is refused, and nothing is written."""
     out, errors = done([os.path.join(RECORD, "run"), "true"], wanted=1)
     if out or "was not compiled with record/cc" not in errors:
         raise Wrong(f"a program without the recorder: {out}{errors}")
 
 
-def cases_of(racebench, pairs):
+def cases_of(racebench: str, pairs: Sequence[tuple[str, str | None]]) -> list[Case]:
     """Each case: its name, the function that judges it, and its arguments."""
-    cases = [("a program without the recorder", judge_stranger, ()), *recorded_java.all_cases(racebench)]
+    cases: list[Case] = [("a program without the recorder", judge_stranger, ()), *recorded_java.all_cases(racebench)]
     for place, (c, cxx) in enumerate(pairs):
         seeds = SEEDS if place == 0 else SEEDS[:1]
         cases.append((f"count.std, {c}", judge_example, (c, cxx)))
@@ -257,7 +268,7 @@ def cases_of(racebench, pairs):
     return cases
 
 
-def wrong_of(judge, about):
+def wrong_of(judge: Callable[..., None], about: Sequence[object]) -> list[str]:
     """What is wrong with a case, which is judged in its own folder."""
     with tempfile.TemporaryDirectory() as folder:
         os.chdir(folder)
@@ -273,19 +284,20 @@ def wrong_of(judge, about):
 
 
 # The cases of this run. Workers have them by a fork, since not every judge can be sent to one.
-cases = []
+cases: list[Case] = []
 
 
-def wrong_with(number):
-    return wrong_of(*cases[number][1:])
+def wrong_with(number: int) -> list[str]:
+    _, judge, about = cases[number]
+    return wrong_of(judge, about)
 
 
-def workers():
+def workers() -> int:
     """How many cases are judged side by side: three for four processors."""
     return max(1, len(os.sched_getaffinity(0)) * 3 // 4)
 
 
-def judged(run):
+def judged(run: judging.Run) -> str | None:
     pairs = list(compilers())
     if not pairs:
         run.tally["no compiler"] += 1
@@ -299,13 +311,14 @@ def judged(run):
     return None
 
 
-def judge_cases(run):
+def judge_cases(run: judging.Run) -> None:
     """Judges all cases side by side, and then those that failed once more, one after another: threads and real
     programs depend on what else the machine does. A case that passes at its second try is a defect to be mended, of
     the recorder or of the case."""
     # A job that a shell starts by `&` ignores control-C, and what a case starts would ignore it too.
     signal.signal(signal.SIGINT, signal.default_int_handler)
-    context, failed = multiprocessing.get_context("fork"), []
+    context = multiprocessing.get_context("fork")
+    failed: list[int] = []
     with context.Pool(workers()) as pool:
         for number, wrong in enumerate(pool.imap(wrong_with, range(len(cases)))):
             if wrong:

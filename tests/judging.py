@@ -22,6 +22,8 @@ from collections.abc import Callable, Iterable, Iterator, Mapping, Sequence
 from second_tries import last_line
 
 HERE = os.path.dirname(os.path.abspath(__file__))
+# A case of a judge with many: its name, the function that judges it, and that function's arguments.
+Case = tuple[str, Callable[..., None], tuple[object, ...]]
 
 # Judges compare the line of a fault. Notes follow it only in the runs that ask for them.
 os.environ["RACEBENCH_NOTES"] = "0"

@@ -9,6 +9,7 @@ import os
 import subprocess
 import sys
 import tempfile
+from collections.abc import Mapping, Sequence
 
 from judging import Wrong
 
@@ -25,14 +26,14 @@ MOST_EVENTS = 100_000
 
 
 @functools.cache
-def python():
+def python() -> str:
     for path in PYTHONS:
         if subprocess.run([path, "-c", "import elftools"], capture_output=True, check=False).returncode == 0:
             return path
     raise Wrong("the judge of the decoder needs Debian's package python3-pyelftools")
 
 
-def decoder():
+def decoder() -> str:
     """The path of the decoder, which is compiled if it is not there yet."""
     text = "import sys; sys.path.insert(0, sys.argv[1]); import decoders; print(decoders.path())"
     done = subprocess.run([sys.executable, "-c", text, RECORD], capture_output=True, timeout=COMPILING, check=False)
@@ -41,19 +42,29 @@ def decoder():
     return done.stdout.decode().strip()
 
 
-def run(command, **more):
-    """As subprocess.run. A run that writes no raw file has no names."""
+def run(
+    command: Sequence[str],
+    timeout: float,
+    env: Mapping[str, str] | None = None,
+    cwd: str | None = None,
+    text: bytes | None = None,
+) -> subprocess.CompletedProcess[bytes]:
+    """Runs a command and keeps its output; `text` is its input. A run that writes no raw file has no names."""
+
+    def ran(words: Sequence[str]) -> subprocess.CompletedProcess[bytes]:
+        return subprocess.run(words, capture_output=True, timeout=timeout, check=False, env=env, cwd=cwd, input=text)
+
     if command[0] != RUN or "--raw" in command:
-        return subprocess.run(command, **more)
+        return ran(command)
     with tempfile.TemporaryDirectory() as folder:
         raw = os.path.join(folder, "names.raw")
-        done = subprocess.run([RUN, "--raw", raw, *command[1:]], **more)
+        done = ran([RUN, "--raw", raw, *command[1:]])
         if os.path.exists(raw) and os.path.getsize(raw):
             judge(raw, folder)
     return done
 
 
-def judge(raw, folder):
+def judge(raw: str, folder: str) -> int:
     """Judges the names that the decoder gives in a raw file; how many there are."""
     trace, numbers = os.path.join(folder, "names.std"), os.path.join(folder, "names.numbers")
     with open(trace, "wb") as out:

@@ -13,8 +13,9 @@ import signal
 import sys
 import tempfile
 from collections import Counter
+from collections.abc import Callable, Iterator
 
-from judging import Wrong
+from judging import Case, Wrong
 from recorded_follow import RECORD, ran
 
 if sys.path[0] != RECORD:
@@ -100,19 +101,19 @@ GIVES = [
 ]  # fmt: skip
 
 
-def access(chance, thread):
+def access(chance: random.Random, thread: int | str) -> str:
     place = chance.choice(
         ["v[%d]" % chance.randrange(4), "v[%d]" % chance.randrange(2), "h[%d]" % chance.randrange(3)]
     )
     return chance.choice([f"{place} = {chance.randrange(100)};", f"seen[{thread}] = {place};"])
 
 
-def filled(chance, step, thread, number):
+def filled(chance: random.Random, step: str, thread: int, number: int) -> str:
     step = re.sub("A[CD]", lambda _: access(chance, thread), step)
     return re.sub(r"\bT\b", str(thread), re.sub(r"\bK\b", str(number), step))
 
 
-def program(chance):
+def program(chance: random.Random) -> str:
     """A program in which no thread waits for ever, and whose branches hang on tries of locks alone."""
     threads = chance.randint(2, 4)
     bodies = [[chance.choice(STEPS) for _ in range(chance.randint(2, 6))] for _ in range(threads)]
@@ -166,7 +167,7 @@ TEAM_STEPS = [
 KINDS = ["static", "static, 1", "dynamic", "dynamic, 2", "guided"]
 
 
-def team_program(chance):
+def team_program(chance: random.Random) -> str:
     """A program of some teams of OpenMP, all of whose threads come to the same constructs."""
     lines = [TEAM_HEAD]
     for _ in range(chance.randint(1, 2)):
@@ -181,10 +182,17 @@ def team_program(chance):
     return "".join(lines) + "    return 0;\n}\n"
 
 
-def writers(data):
+# A record by its thread and its clock.
+Who = tuple[int, int]
+
+
+def writers(data: bytes) -> dict[Who, Who | None]:
     """For each record its thread and clock, and for a read those of the last write to its first byte; a free writes
     its block."""
-    head, last, found, sizes = raw_file.Head(data), {}, {}, {}
+    head = raw_file.Head(data)
+    last: dict[int, Who] = {}
+    found: dict[Who, Who | None] = {}
+    sizes: dict[int, int] = {}
     for _, record in raw_file.all_records(data, head):
         who = record.thread, record.pos
         there = range(record.at, record.at + min(record.size, 4096))
@@ -202,7 +210,7 @@ def writers(data):
 
 
 @contextlib.contextmanager
-def quiet():
+def quiet() -> Iterator[None]:
     """What a program says of its broken heap is not shown."""
     kept = os.dup(2)
     with open(os.devnull, "wb") as nowhere:
@@ -214,7 +222,7 @@ def quiet():
         os.close(kept)
 
 
-def follow(clock, command, racebench, pair):
+def follow(clock: clocks.Clock, command: list[str], racebench: str, pair: tuple[str, str]) -> tuple[str, int]:
     """What is wrong with a race that is followed; nothing if all is right. And how many reads were compared."""
     witness, _ = ran([racebench, "witness", "program.std", *pair])
     with open("witness.txt", "w", encoding="utf-8") as file:
@@ -251,7 +259,7 @@ def follow(clock, command, racebench, pair):
     return "", reads
 
 
-def judge(racebench, seed, tally, make=program):
+def judge(racebench: str, seed: int, tally: Counter[str], make: Callable[[random.Random], str] = program) -> None:
     """A program, recorded with two seeds, and all of its races."""
     with open("program.c", "w", encoding="ascii") as file:
         file.write(make(random.Random(seed)))
@@ -271,9 +279,11 @@ def judge(racebench, seed, tally, make=program):
         trace, _ = ran([os.path.join(RECORD, "run"), *arguments], None)
         with open("program.std", "w", encoding="utf-8") as file:
             file.write(trace)
-        clock = clocks.Clock("program.clock") if trace else None
-        printed, _ = ran([racebench, "triage", "program.std"]) if trace else ("", "")
         tally["recordings"] += 1
+        if not trace:
+            continue
+        clock = clocks.Clock("program.clock")
+        printed, _ = ran([racebench, "triage", "program.std"])
         for pair in re.findall(r"^race (\d+) (\d+) ", printed, re.MULTILINE):
             why, reads = follow(clock, ["./program"], racebench, pair)
             if why:
@@ -282,31 +292,32 @@ def judge(racebench, seed, tally, make=program):
             tally["reads"] += reads
 
 
-def judge_few(racebench):
+def judge_few(racebench: str) -> None:
     """Some programs, the same in each run of the tests."""
-    tally = Counter()
+    tally: Counter[str] = Counter()
     for seed in FEW:
         judge(racebench, seed, tally)
     if tally["races"] < LEAST_RACES:
         raise Wrong(f"programs by chance have {tally['races']} races alone: {dict(tally)}")
 
 
-def judge_teams(racebench):
+def judge_teams(racebench: str) -> None:
     """The same of programs of OpenMP."""
-    tally = Counter()
+    tally: Counter[str] = Counter()
     for seed in FEW_TEAMS:
         judge(racebench, seed, tally, team_program)
     if tally["races"] < LEAST_OF_TEAMS:
         raise Wrong(f"programs of OpenMP by chance have {tally['races']} races alone: {dict(tally)}")
 
 
-def cases(racebench):
+def cases(racebench: str) -> list[Case]:
     return [("programs by chance", judge_few, (racebench,)), ("teams by chance", judge_teams, (racebench,))]
 
 
-def soak(racebench, first, programs):
+def soak(racebench: str, first: int, programs: int) -> int:
     """This many programs; how many differ from their recordings."""
-    tally, wrong = Counter(), 0
+    tally: Counter[str] = Counter()
+    wrong = 0
     top = os.getcwd()
     for seed in range(first, first + programs):
         with tempfile.TemporaryDirectory() as folder:

@@ -11,9 +11,10 @@ import shutil
 import signal
 import stat
 import subprocess
+from collections.abc import Mapping, Sequence
 
 import sarif_rules
-from judging import Wrong
+from judging import Case, Wrong
 from recorded_places import RECORD, TOP, ran
 
 FOLDER = os.path.join(TOP, "examples", "ci")
@@ -39,7 +40,7 @@ FAKED = {"sudo": 'exec "$@"', "apt-get": 'echo "$@" >> installed'}
 DEB = "ci/planecarmine_0.1.0_amd64.deb"
 
 
-def scripts(name):
+def scripts(name: str) -> list[str]:
     """The scripts that a service runs, one after another."""
     with open(os.path.join(FOLDER, name), encoding="ascii") as file:
         text = file.read()
@@ -50,7 +51,7 @@ def scripts(name):
     return re.findall(r"^ *sh '(.*)'$", text, re.MULTILINE)
 
 
-def served(name, environment):
+def served(name: str, environment: Mapping[str, str]) -> tuple[int, str, str]:
     """Runs what a service runs, up to the first script that fails: its status, what all printed, and what was said as
     an error. A shell that traces says its commands."""
     shell, sets = SERVICES[name]
@@ -68,7 +69,7 @@ def served(name, environment):
     return done.returncode, printed, errors
 
 
-def lay_out(racebench):
+def lay_out(racebench: str) -> dict[str, str]:
     """A repository that is built so, and commands with the names that the package has."""
     os.makedirs("bin")
     os.makedirs("ci")
@@ -94,7 +95,7 @@ def lay_out(racebench):
     return dict(os.environ, PATH=folder + os.pathsep + os.environ["PATH"], RACEBENCH=os.path.join(folder, "racebench"))
 
 
-def judge_log(rules):
+def judge_log(rules: list[str]) -> None:
     """The log for code-scanning pages has results of these rules, whose files are in the folder."""
     with open("races/races.sarif", encoding="utf-8") as file:
         log = json.load(file)
@@ -108,7 +109,7 @@ def judge_log(rules):
             raise Wrong(f"races/races.sarif names {uri}, which is not there")
 
 
-def judge_service(racebench, name):
+def judge_service(racebench: str, name: str) -> None:
     environment = lay_out(racebench)
     status, printed, errors = served(name, environment)
     if status != 3 or "Traceback" in errors:
@@ -127,7 +128,7 @@ def judge_service(racebench, name):
     judge_log([])
 
 
-def judge_no_green(racebench):
+def judge_no_green(racebench: str) -> None:
     """A program without hooks, a program that is not there, and a racebench that refuses: no build is green."""
     environment = lay_out(racebench)
     judge = ["bash", "-ec", scripts("github.yml")[2]]
@@ -150,16 +151,16 @@ def judge_no_green(racebench):
         raise Wrong("a trace that is not judged is not said")
 
 
-def check(racebench, *arguments, wanted=3):
+def check(racebench: str, *arguments: str, wanted: int = 3) -> tuple[list[str], str]:
     """The lines that record/check prints of `tests`, and what it says of its work."""
-    arguments = [os.path.join(RECORD, "check"), "--racebench", racebench, *arguments]
-    done = subprocess.run(arguments, capture_output=True, text=True, check=False)
+    command = [os.path.join(RECORD, "check"), "--racebench", racebench, *arguments]
+    done = subprocess.run(command, capture_output=True, text=True, check=False)
     if done.returncode != wanted or "Traceback" in done.stderr:
-        raise Wrong(f"{' '.join(arguments)}: status {done.returncode}, and not {wanted}: {done.stdout}{done.stderr}")
+        raise Wrong(f"{' '.join(command)}: status {done.returncode}, and not {wanted}: {done.stdout}{done.stderr}")
     return done.stdout.splitlines(), done.stderr
 
 
-def judge_check(racebench):
+def judge_check(racebench: str) -> None:
     """The worst race comes first, with what it leads to; what was followed is written down; each file is there."""
     lay_out(racebench)
     source = os.path.join(TOP, "tests", "recorded", "races", "freed_early.c")
@@ -197,7 +198,7 @@ def judge_check(racebench):
         raise Wrong(f"known races: {lines}")
 
 
-def judge_command(racebench, command, source, followed):
+def judge_command(racebench: str, command: Sequence[str], source: str, followed: str) -> None:
     """A check of a program in any language, which has one race: its seeds are whole, its race is followed and reported,
     and is known at the next time."""
     lines, errors = check(racebench, "--jobs", "1", "--seeds", "1-3", "--out", "kept", *command)
@@ -225,7 +226,7 @@ def judge_command(racebench, command, source, followed):
         raise Wrong(f"known races of {command}: {lines}")
 
 
-def judge_stopped(racebench):
+def judge_stopped(racebench: str) -> None:
     """A signal ends a check: what was recorded so far is reported, and no file is half written."""
     lay_out(racebench)
     source = os.path.join(TOP, "tests", "recorded", "races", "served.c")
@@ -244,6 +245,7 @@ def judge_stopped(racebench):
     ]
     with subprocess.Popen(command, stdout=subprocess.PIPE, stderr=subprocess.PIPE, text=True) as started:
         with open("pipe", "w", encoding="ascii"):
+            assert started.stderr
             line = started.stderr.readline()
         started.send_signal(signal.SIGTERM)
         out, more = started.communicate()
@@ -256,8 +258,8 @@ def judge_stopped(racebench):
         raise Wrong(f"a check that was stopped leaves {os.listdir('races')}")
 
 
-def cases(racebench):
+def cases(racebench: str) -> list[Case]:
     names = ("github.yml", "gitlab.yml", "Jenkinsfile")
-    found = [(f"words of examples/ci/{name}", judge_service, (racebench, name)) for name in names]
+    found: list[Case] = [(f"words of examples/ci/{name}", judge_service, (racebench, name)) for name in names]
     found += [("a check", judge_check, (racebench,)), ("a check that is stopped", judge_stopped, (racebench,))]
     return [*found, ("a build without a judgement is not green", judge_no_green, (racebench,))]

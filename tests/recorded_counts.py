@@ -7,11 +7,11 @@ import os
 import re
 import subprocess
 
-from judging import Wrong
+from judging import Case, Wrong
 from recorded_places import PATIENCE, RECORD, SOURCES, ran
 
 # The word for counts.c, the options, and the line that says what was counted.
-COUNTED = [
+COUNTED: list[tuple[str, list[str], str]] = [
     ("sections", [], r"1 locks were let go by another thread than took them; they are written as semaphores"),
     ("order", [], r"6 atomic accesses are written with more order than they have, at counts\.c:32, counts\.c:41"),
     ("parts", [], r"some accesses have more than 64 parts, and the rest of these was left out"),
@@ -29,7 +29,7 @@ PLAIN = (
 )
 
 
-def notes_of(*arguments):
+def notes_of(*arguments: str) -> str:
     """What record/run says of a run of `program`."""
     command = [os.path.join(RECORD, "run"), "--partial", "--all", *arguments]
     done = subprocess.run(command, capture_output=True, timeout=PATIENCE, check=False)
@@ -39,7 +39,7 @@ def notes_of(*arguments):
     return notes
 
 
-def judge_counts(c):
+def judge_counts(c: str) -> None:
     """Each count is printed by a run that has it, and by no other."""
     command = [os.path.join(RECORD, "cc"), "-O1", os.path.join(SOURCES, "counts.c"), "-o", "program"]
     ran(command, env=dict(os.environ, RECORD_CC=c))
@@ -66,7 +66,7 @@ int main(void) {
 """
 
 
-def judge_wide(c):
+def judge_wide(c: str) -> None:
     """An access of many parts gives all parts if there is room for them."""
     with open("wide.c", "w", encoding="ascii") as source:
         source.write(WIDE)
@@ -77,7 +77,7 @@ def judge_wide(c):
         raise Wrong(f"of 700 parts of an access {len(names)} are there")
 
 
-def judge_turns():
+def judge_turns() -> None:
     """With --yield 1 turns are short, and with a large one long, except those of young threads; neither run prints
     anything else."""
     turns = []
@@ -91,7 +91,7 @@ def judge_turns():
         raise Wrong(f"there are {turns} turns with --yield 1 and 100000")
 
 
-def cases(c):
+def cases(c: str) -> list[Case]:
     return [
         (f"what is counted of a run, {c}", judge_counts, (c,)),
         (f"an access of many parts, {c}", judge_wide, (c,)),

@@ -9,7 +9,7 @@ import signal
 import subprocess
 import time
 
-from judging import Wrong
+from judging import Case, Wrong
 from recorded_places import PATIENCE, RECORD, events_in, ran
 from recorded_tries import compiled, run
 
@@ -19,7 +19,7 @@ FORKS = "; ".join(
     for k in range(1, 6)
 )
 # Each program with the options of its recordings, and what is said of it if it hangs. Some seed has to hang.
-HANGING = {
+HANGING: dict[str, tuple[list[str], str]] = {
     "abba": (
         [],
         "T1 waits at abba.c:8 for b, which T2 holds since abba.c:15; T2 waits at abba.c:16 for a, which T1 "
@@ -58,12 +58,12 @@ IN_DEADLOCK = "record/run: the program is in a deadlock: "
 A_WHILE = 4
 
 
-def deadlock_in(notes):
+def deadlock_in(notes: str) -> str:
     """What record/run says of a deadlock; empty if it says nothing."""
     return "".join(line[len(IN_DEADLOCK) :] for line in notes.splitlines() if line.startswith(IN_DEADLOCK))
 
 
-def check_hang(about, found, text):
+def check_hang(about: str, found: tuple[int, str, str], text: str) -> None:
     """A recording of a program that hung."""
     status, trace, notes = found
     last = f"recording|end(LEFT OUT 0 FROM {len(events_in(trace))}: DEADLOCK)|"
@@ -73,7 +73,7 @@ def check_hang(about, found, text):
         raise Wrong(f"{about}: the last line is not {last}: {trace[-200:]!r}")
 
 
-def judge_hanging(c, cxx):
+def judge_hanging(c: str, cxx: str | None) -> None:
     """In the seeds that hang the line says who waits for whom, and other seeds end as they do."""
     for name, (options, text) in HANGING.items():
         compiled(f"{name}.c", c, cxx)
@@ -87,7 +87,7 @@ def judge_hanging(c, cxx):
             raise Wrong(f"{name}: no seed hangs")
 
 
-def judge_ending(c, cxx):
+def judge_ending(c: str, cxx: str | None) -> None:
     """Programs that can't hang are recorded whole."""
     for name in ENDING:
         if name == "scoped" and not cxx:
@@ -99,7 +99,7 @@ def judge_ending(c, cxx):
                 raise Wrong(f"{name} {seed}: status {status}: {notes}")
 
 
-def judge_kinds(c, cxx):
+def judge_kinds(c: str, cxx: str | None) -> None:
     """Each kind of lock may be in the circle; a thread may wait for itself."""
     compiled("kinds.c", c, cxx, "-fopenmp")
     for kind, lock in KINDS.items():
@@ -113,12 +113,12 @@ def judge_kinds(c, cxx):
     check_hang("self", run("./self"), "T1 waits at self.c:7 for a, which T1 holds since self.c:6")
 
 
-def hanging_seed():
+def hanging_seed() -> str:
     """A seed in which abba hangs."""
     return next(seed for seed in map(str, SEEDS) if run("--seed", seed, "./abba")[0] == 5)
 
 
-def judge_options(racebench, c, cxx):
+def judge_options(racebench: str, c: str, cxx: str | None) -> None:
     """The statuses with other options; `triage --fail` is not green; record/check finds the deadlock."""
     compiled("abba.c", c, cxx)
     seed = hanging_seed()
@@ -136,12 +136,12 @@ def judge_options(racebench, c, cxx):
     ran([racebench, "triage", "--fail", "abba.std"], wanted=4)
     command = [os.path.join(RECORD, "check"), "--seeds", f"{seed}-{seed}", "--racebench", racebench, "./abba"]
     done = subprocess.run(command, capture_output=True, timeout=PATIENCE, check=False)
-    wanted = f"deadlock: {HANGING['abba'][1]}: seeds {seed}\n"
-    if done.returncode != 5 or wanted not in done.stdout.decode():
+    said = f"deadlock: {HANGING['abba'][1]}: seeds {seed}\n"
+    if done.returncode != 5 or said not in done.stdout.decode():
         raise Wrong(f"record/check: status {done.returncode}: {done.stdout.decode()}{done.stderr.decode()}")
 
 
-def judge_followed(racebench, c, cxx):
+def judge_followed(racebench: str, c: str, cxx: str | None) -> None:
     """A race before a deadlock is followed, and then the program hangs: it is not waited for."""
     compiled("both.c", c, cxx)
     status, trace, notes = run("--clock", "both.clock", "./both")
@@ -155,7 +155,7 @@ def judge_followed(racebench, c, cxx):
         raise Wrong(f"record/confirm: {found}")
 
 
-def judge_lost(c, cxx):
+def judge_lost(c: str, cxx: str | None) -> None:
     """A lost signal is no deadlock: the program hangs until a signal ends it."""
     compiled("lost.c", c, cxx)
     with subprocess.Popen(
@@ -168,8 +168,8 @@ def judge_lost(c, cxx):
         raise Wrong(f"a lost signal: {notes.decode()}")
 
 
-def cases(racebench, c, cxx):
-    found = [
+def cases(racebench: str, c: str, cxx: str | None) -> list[Case]:
+    found: list[Case] = [
         (f"deadlocks that hang, {c}", judge_hanging, (c, cxx)),
         (f"deadlocks that never come, {c}", judge_ending, (c, cxx)),
         (f"deadlocks, options, {c}", judge_options, (racebench, c, cxx)),

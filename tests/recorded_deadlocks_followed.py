@@ -10,8 +10,10 @@ import os
 import re
 import shutil
 import subprocess
+from collections.abc import Iterator, Mapping, Sequence
+from typing import Any
 
-from judging import Wrong
+from judging import Case, Wrong
 from recorded_places import PATIENCE, RECORD, events_in
 from recorded_tries import FOLDER, compiled, run
 
@@ -62,15 +64,21 @@ DEPARTURES = {
 }
 
 
-def ran(command, wanted=0, **more):
-    done = subprocess.run(command, capture_output=True, timeout=PATIENCE, check=False, **more)
+# What record/confirm found of a deadlock: an object of JSON.
+Found = dict[str, Any]
+
+
+def ran(
+    command: Sequence[str], wanted: int = 0, env: Mapping[str, str] | None = None, text: bytes | None = None
+) -> tuple[str, str]:
+    done = subprocess.run(command, capture_output=True, timeout=PATIENCE, check=False, env=env, input=text)
     out, errors = done.stdout.decode(errors="replace"), done.stderr.decode(errors="replace")
     if done.returncode != wanted or "Traceback" in errors:
         raise Wrong(f"{' '.join(command)}: status {done.returncode}, and not {wanted}: {out}{errors[-900:]}")
     return out, errors
 
 
-def recorded(name, *arguments, seed="1"):
+def recorded(name: str, *arguments: str, seed: int = 1) -> bool:
     """Records a program: NAME.std and NAME.clock. Whether it did not hang."""
     status, trace, notes = run("--seed", str(seed), "--clock", f"{name}.clock", f"./{name}", *arguments)
     if status not in (0, 5):
@@ -80,12 +88,14 @@ def recorded(name, *arguments, seed="1"):
     return status == 0
 
 
-def confirmed(racebench, name, *options, wanted=0, **more):
+def confirmed(
+    racebench: str, name: str, *options: str, wanted: int = 0, env: Mapping[str, str] | None = None
+) -> list[Found]:
     """What record/confirm found of each deadlock."""
     command = [*CONFIRM, "--deadlocks", "--racebench", racebench, "--json", f"{name}.json", *options]
-    out, _ = ran([*command, f"{name}.std", f"{name}.clock"], wanted, **more)
+    out, _ = ran([*command, f"{name}.std", f"{name}.clock"], wanted, env)
     with open(f"{name}.json", encoding="ascii") as lines:
-        found = [json.loads(line) for line in lines]
+        found: list[Found] = [json.loads(line) for line in lines]
     stand = sum(one["ended"] == "stands" for one in found)
     if out.splitlines()[-1] != f"deadlocks {len(found)}, stand {stand}, departed {len(found) - stand}":
         raise Wrong(f"{name}: the last line counts other deadlocks than there are: {out}")
@@ -100,13 +110,13 @@ def confirmed(racebench, name, *options, wanted=0, **more):
     return found
 
 
-def turned_by_one(text):
+def turned_by_one(text: str) -> set[str]:
     """A text about a deadlock from each of its threads on."""
     waits = text.split("; ")
     return {"; ".join(waits[k:] + waits[:k]) for k in range(len(waits))}
 
 
-def judge_standing(racebench, c, cxx):
+def judge_standing(racebench: str, c: str, cxx: str | None) -> None:
     """Each deadlock of several recordings comes about, and the text says who waits for whom."""
     for name, (lines, text) in STANDING.items():
         compiled(f"{name}.c", c, cxx)
@@ -121,7 +131,7 @@ def judge_standing(racebench, c, cxx):
                 raise Wrong(f"{name}, seed {seed}: {found[0]['places']}")
 
 
-def judge_none(racebench, c, cxx):
+def judge_none(racebench: str, c: str, cxx: str | None) -> None:
     """Nothing is listed that can't be: a lock that is only tried, a common lock, an order by a condition."""
     for name in ("tries", "gate", "ordered", *(["scoped"] if cxx else [])):
         compiled(f"{name}.cpp" if name == "scoped" else f"{name}.c", c, cxx)
@@ -131,7 +141,7 @@ def judge_none(racebench, c, cxx):
                 raise Wrong(f"{name}, seed {seed}: {found}")
 
 
-def judge_kinds(racebench, c, cxx):
+def judge_kinds(racebench: str, c: str, cxx: str | None) -> None:
     """Each kind of lock may be waited for, also by the return of a condition's wait."""
     compiled("each_lock.c", c, cxx, "-fopenmp")
     for kind, lock in KINDS.items():
@@ -142,12 +152,20 @@ def judge_kinds(racebench, c, cxx):
             raise Wrong(f"{kind}: {found}")
 
 
-def follow(racebench, name, events, *options, wanted=0, **more):
+def follow(
+    racebench: str,
+    name: str,
+    events: Sequence[object],
+    *options: str,
+    wanted: int = 0,
+    env: Mapping[str, str] | None = None,
+    text: bytes | None = None,
+) -> tuple[str, str]:
     command = [*FOLLOW, "--racebench", racebench, "--trace", f"{name}.std", *options, f"{name}.clock"]
-    return ran([*command, *map(str, events)], wanted, **more)
+    return ran([*command, *map(str, events)], wanted, env, text)
 
 
-def judge_departures(racebench, c, cxx):
+def judge_departures(racebench: str, c: str, cxx: str | None) -> None:
     """A thread that does not wait, and one that waits for a lock of a thread outside of the deadlock."""
     compiled("other_lock.c", c, cxx)
     recorded("other_lock")
@@ -166,30 +184,27 @@ def judge_departures(racebench, c, cxx):
             raise Wrong(f"{variable}: {errors}")
 
 
-def judge_follow(racebench, c, cxx):
+def judge_follow(racebench: str, c: str, cxx: str | None) -> None:
     """Both stacks, in any order of the requests; the program ends there, or hangs. Other orders are refused."""
     compiled("abba.c", c, cxx)
     recorded("abba")
     stands = f"record/follow: the deadlock stands: {STANDING['abba'][1]}\n"
     stacks = r"  T1, lock of b at \w+\n    #0 first abba.c:8\n  T2, lock of a at \w+\n    #0 second abba.c:16\n"
     hangs = "record/follow: the program hangs in a deadlock\n"
-    for events, options, end in (
-        ((3, 9), [], ""),
-        ((9, 3), ["--then", "stop"], ""),
-        ((3, 9, "./abba"), ["--then", "hang"], hangs),
-    ):
-        out, errors = follow(racebench, "abba", events, *options)
+    for words, then, end in (((3, 9), "", ""), ((9, 3), "stop", ""), ((3, 9, "./abba"), "hang", hangs)):
+        out, errors = follow(racebench, "abba", words, *["--then", then] * bool(then))
         if not re.fullmatch(re.escape(stands) + stacks + end, errors) or out:
-            raise Wrong(f"{events} {options}: {out}{errors}")
-    for options, events in ((["--then", "first"], (3, 9)), (["--then", "both"], (3, 9)), ([], [3, 9] * 5)):
-        follow(racebench, "abba", events, *options, wanted=2)
+            raise Wrong(f"{words} {then}: {out}{errors}")
+    for then in ("first", "both"):
+        follow(racebench, "abba", (3, 9), "--then", then, wanted=2)
+    follow(racebench, "abba", [3, 9] * 5, wanted=2)
     if shutil.which("gdb"):
-        out, _ = follow(racebench, "abba", (3, 9), "--gdb", input=b"bt\nkill\nquit\n")
+        out, _ = follow(racebench, "abba", (3, 9), "--gdb", text=b"bt\nkill\nquit\n")
         if '"T1 waits"' not in out or "racebench_deadlock_stands" not in out or " second (" not in out:
             raise Wrong(f"under gdb: {out}")
 
 
-def judge_refusals(racebench, c, cxx):
+def judge_refusals(racebench: str, c: str, cxx: str | None) -> None:
     """Events that are no requests of a deadlock, and a schedule of another one, are refused."""
     compiled("abba.c", c, cxx)
     compiled("tries.c", c, cxx)
@@ -205,26 +220,26 @@ def judge_refusals(racebench, c, cxx):
         ((2, 3), [0, 1], "this is a witness of another deadlock than 2 3"),
     ):
         text = "".join(f"{event}  {lines[event]}\n" for event in schedule)
-        _, errors = ran([*FOLLOW, "abba.clock", *map(str, events)], 3, input=text.encode())
+        _, errors = ran([*FOLLOW, "abba.clock", *map(str, events)], 3, text=text.encode())
         if errors != f"record/follow: {said}\n":
             raise Wrong(f"{events}: {errors}")
     with open("tries.std", encoding="utf-8") as file:
         lines = events_in(file.read())
-    events = [k for k, line in enumerate(lines) if "acq(b)|tries.c:8" in line or "acq(a)|tries.c:17" in line]
-    _, errors = follow(racebench, "tries", events, wanted=3)
+    tries = [k for k, line in enumerate(lines) if "acq(b)|tries.c:8" in line or "acq(a)|tries.c:17" in line]
+    _, errors = follow(racebench, "tries", tries, wanted=3)
     if "does not wait for a lock: it tries, or waits for a time" not in errors:
         raise Wrong(f"a try: {errors}")
     for options in (["--triage", "--apart"], ["--longest", "9"]):
         ran([*CONFIRM, "--deadlocks", "--racebench", racebench, *options, "abba.std", "abba.clock"], 2)
 
 
-def reported(racebench, report, trace, wanted=0):
+def reported(racebench: str, report: str, trace: str, wanted: int = 0) -> str:
     """The answers of record/reported."""
     out, errors = ran([os.path.join(RECORD, "reported"), "--racebench", racebench, report, trace], wanted)
     return out + errors
 
 
-def lock_orders(name):
+def lock_orders(name: str) -> Iterator[bytes]:
     """Reports of a program by ThreadSanitizer, with the first locks and without, and by Helgrind, as text and as
     XML."""
     source = os.path.join(FOLDER, f"{name}.c")
@@ -244,7 +259,7 @@ def lock_orders(name):
         yield file.read()
 
 
-def judge_reports(racebench, c, cxx):
+def judge_reports(racebench: str, c: str, cxx: str | None) -> None:
     """Lock orders of real reports: a deadlock is one here too, a common lock makes none, a cut report is one."""
     has_verdicts = subprocess.run([racebench, "deadlocks", "--help"], capture_output=True, check=False).returncode == 0
     no_deadlock = "1 apart, 0 undecided" if has_verdicts else "0 apart, 1 undecided"
@@ -266,10 +281,13 @@ def judge_reports(racebench, c, cxx):
                 judge_other_report(racebench, report)
 
 
-def judge_other_report(racebench, report):
+def judge_other_report(racebench: str, report: bytes) -> None:
     """A report of abba that is cut after its first line, and one of another program."""
+    first_line = re.search(rb"lock.order", report)
+    if first_line is None:
+        raise Wrong(f"no report of an order of locks: {report!r}")
     with open("report", "wb") as file:
-        file.write(report[: re.search(rb"lock.order", report).end() + 60])
+        file.write(report[: first_line.end() + 60])
     if "cut" not in reported(racebench, "report", "abba.std", 1):
         raise Wrong("a report that is cut is taken")
     with open("report", "wb") as file:
@@ -280,8 +298,8 @@ def judge_other_report(racebench, report):
         raise Wrong(f"a report of another program: {out}")
 
 
-def cases(racebench, c, cxx):
-    found = [(f"deadlocks that stand, {c}", judge_standing, (racebench, c, cxx))]
+def cases(racebench: str, c: str, cxx: str | None) -> list[Case]:
+    found: list[Case] = [(f"deadlocks that stand, {c}", judge_standing, (racebench, c, cxx))]
     found += [(f"deadlocks that are none, {c}", judge_none, (racebench, c, cxx))]
     if c == "gcc":
         judges = {

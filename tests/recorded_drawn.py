@@ -12,11 +12,12 @@ import os
 import random
 import sys
 import tempfile
+from collections.abc import Sequence
 
 if __name__ == "__main__":
     sys.dont_write_bytecode = True
 import recorded_options
-from judging import Wrong
+from judging import Case, Wrong
 from recorded_places import RECORD, ran
 
 # The seeds of the programs that are always judged.
@@ -63,7 +64,7 @@ THINGS = (
 OTHERS = ("&whole.b", "&whole.in.c[0]", "&own.a", "&own.in.c[1]", "up")
 
 
-def sharing(chance, ints):
+def sharing(chance: random.Random, ints: Sequence[str]) -> str:
     """A use of some ints by threads, and by the function itself."""
     some = [chance.choice(ints) for _ in range(chance.randint(1, 5))]
     uses = " ".join(f"++*{chance.choice(ints)};" for _ in range(chance.randint(0, 2)))
@@ -71,7 +72,7 @@ def sharing(chance, ints):
     return f"{{ struct list list = {{{{{listed}}}, {len(some)}}}; share(&list, {chance.randint(1, 2)}); }} {uses}"
 
 
-def block(chance, number, ints, level):
+def block(chance: random.Random, number: int, ints: Sequence[str], level: int) -> list[str]:
     """The statements of a function or a block in it."""
     lines, ints, frees = [], list(ints), []
     for _ in range(chance.randint(1, 3)):
@@ -99,7 +100,7 @@ def block(chance, number, ints, level):
     return lines + frees
 
 
-def program(seed):
+def program(seed: int) -> str:
     """A program in C, whose functions call those before them and themselves."""
     chance, parts, count = random.Random(seed), [HEAD], 0
     for count in range(1, chance.randint(2, 4)):
@@ -108,7 +109,7 @@ def program(seed):
     return "".join(parts) + MAIN % (count - 1, chance.randrange(count))
 
 
-def judge(seed):
+def judge(seed: int) -> int:
     with open("drawn.c", "w", encoding="ascii") as file:
         file.write(program(seed))
     level = LEVELS[seed % len(LEVELS)]
@@ -124,16 +125,16 @@ def judge(seed):
     return len(lines)
 
 
-def judge_few():
+def judge_few() -> None:
     for seed in FEW:
         judge(seed)
 
 
-def cases():
+def cases() -> list[Case]:
     return [("names of drawn programs", judge_few, ())]
 
 
-def main(count, first=0):
+def main(count: int, first: int = 0) -> None:
     events = 0
     for seed in range(first, first + count):
         with tempfile.TemporaryDirectory() as folder, contextlib.chdir(folder):

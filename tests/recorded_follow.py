@@ -16,8 +16,10 @@ import signal
 import subprocess
 import sys
 import tempfile
+from collections.abc import Mapping, Sequence
+from typing import Any
 
-from judging import Wrong
+from judging import Case, Wrong
 from recorded_places import PATIENCE, events_in
 
 if (RECORD := os.path.join(os.path.dirname(os.path.dirname(os.path.abspath(__file__))), "record")) not in sys.path:
@@ -34,11 +36,14 @@ OKAY, ASSERTION, FAULT = "status 0", "signal 6 (SIGABRT)", "signal 11 (SIGSEGV)"
 ANY = (OKAY, ASSERTION, FAULT)
 BAD = (ASSERTION, FAULT)
 ENDING = re.compile(r"status \d+|signal \d+ \(\w+\)|hangs|departed")
+# The lines of a race's two accesses, the lower first, and how the program may end in each of four orders.
+Endings = tuple[str, ...]
+Race = tuple[int, int, Endings, Endings, Endings, Endings]
 # For each program the options of the recorder, and for each of its races: the lines of both accesses, the lower first,
 # and how the program may end in each of four orders. Those are: the lower access first, and its thread goes on; the
 # same, and the other thread goes on; the higher access first, and its thread goes on; the same, and the other thread
 # goes on. Of two accesses in one line either is the lower.
-PROGRAMS = {
+PROGRAMS: dict[str, tuple[list[str], list[Race]]] = {
     "lost.c": ([], [(6, 6, (OKAY,), (OKAY,), (ASSERTION,), (ASSERTION,))]),
     "checked_twice.c": (
         [],
@@ -123,16 +128,24 @@ DRAWN, MOST_WRONG = {2: 100_000, 4: 30_000, 6: 30_000}, 0.001
 ORDERS = ["a-a", "a-b", "b-b", "b-a", "far-first", "far-second"]
 
 
-def ran(command, wanted=0, text=None, **more):
+# What record/confirm found of a race: an object of JSON.
+Found = dict[str, Any]
+
+
+def ran(
+    command: Sequence[str], wanted: int | None = 0, text: str | None = None, env: Mapping[str, str] | None = None
+) -> tuple[str, str]:
     stdin = text.encode("utf-8", "surrogateescape") if text is not None else None
-    done = subprocess.run(command, input=stdin, capture_output=True, timeout=PATIENCE, check=False, **more)
+    done = subprocess.run(command, input=stdin, capture_output=True, timeout=PATIENCE, check=False, env=env)
     out, errors = done.stdout.decode("utf-8", "surrogateescape"), done.stderr.decode(errors="replace")
     if wanted is not None and done.returncode != wanted:
         raise Wrong(f"{' '.join(command)}: status {done.returncode}, and not {wanted}: {errors[-900:]}")
     return out, errors
 
 
-def recorded(source, options, name="program", flags=(), args=()):
+def recorded(
+    source: str, options: Sequence[str], name: str = "program", flags: Sequence[str] = (), args: Sequence[str] = ()
+) -> None:
     """Compiles and records a program: NAME, NAME.std and NAME.clock."""
     compiler = "c++" if source.endswith(".cpp") else "cc"
     ran([os.path.join(RECORD, compiler), "-O1", *flags, source, "-o", name])
@@ -143,7 +156,9 @@ def recorded(source, options, name="program", flags=(), args=()):
         file.write(trace)
 
 
-def confirmed(racebench, name="program", *options, wanted=0, **more):
+def confirmed(
+    racebench: str, name: str = "program", *options: str, wanted: int | None = 0, env: Mapping[str, str] | None = None
+) -> list[Found]:
     """What record/confirm found of each race."""
     out, _ = ran(
         [
@@ -158,10 +173,10 @@ def confirmed(racebench, name="program", *options, wanted=0, **more):
             name + ".clock",
         ],
         wanted,
-        **more,
+        env=env,
     )
     with open(name + ".json", encoding="ascii") as lines:
-        found = [json.loads(line) for line in lines]
+        found: list[Found] = [json.loads(line) for line in lines]
     if not out.splitlines()[-1].startswith(f"races {len(found)}, stand "):
         raise Wrong(f"the last line counts other races than there are: {out}")
     with open(name + ".std", encoding="utf-8", errors="surrogateescape") as file:
@@ -177,7 +192,7 @@ def confirmed(racebench, name="program", *options, wanted=0, **more):
     return found
 
 
-def judge_races(racebench):
+def judge_races(racebench: str) -> None:
     """Each race is shown, and each order leads to the endings of the table."""
     stood = 0
     for source, (options, _) in PROGRAMS.items():
@@ -191,7 +206,7 @@ def judge_races(racebench):
         raise Wrong(f"{stood} races stood, and {ALL_RACES} have to")
 
 
-def why_wrong(source, one):
+def why_wrong(source: str, one: Found) -> str:
     """Why a race is not what it must be; nothing if it is."""
     if one["ended"] != "stands" or not one["same_memory"]:
         return f"does not stand: {one['text']}"
@@ -200,18 +215,23 @@ def why_wrong(source, one):
     ways = [endings, endings[2:] + endings[:2]]
     ways = ways[: 1 + (lines[0] == lines[1])] if lines[0] <= lines[1] else ways[1:]
     for low, high, *allowed in PROGRAMS[source][1]:
-        if [low, high] == sorted(lines) and any(all(map(set.issubset, way, map(set, allowed))) for way in ways):
+        if [low, high] == sorted(lines) and any(
+            all(ending <= set(may) for ending, may in zip(way, allowed)) for way in ways
+        ):
             return ""
     return f"lines {lines}: {one['endings']}"
 
 
-def witness_of(racebench, name):
+def witness_of(racebench: str, name: str) -> tuple[tuple[str, str], str]:
     out, _ = ran([racebench, "triage", name + ".std"])
-    pair = re.search(r"^race (\d+) (\d+) ", out, re.MULTILINE).groups()
+    race = re.search(r"^race (\d+) (\d+) ", out, re.MULTILINE)
+    if race is None:
+        raise Wrong(f"{name} has no race: {out}")
+    pair = (race[1], race[2])
     return pair, ran([racebench, "witness", name + ".std", *pair])[0]
 
 
-def judge_orders(racebench):
+def judge_orders(racebench: str) -> None:
     """The two accesses of count.c come in the requested order: the value after both shows which was last."""
     recorded(os.path.join(TOP, "examples", "count.c"), [])
     pair, witness = witness_of(racebench, "program")
@@ -227,7 +247,7 @@ def judge_orders(racebench):
             raise Wrong(f"count.c, {then}: {errors}")
 
 
-def judge_outputs(racebench):
+def judge_outputs(racebench: str) -> None:
     """The order matters if outputs depend on it alone; it is not known whether it matters if they vary by
     themselves."""
     recorded(os.path.join(SOURCES, "outputs.c"), [])
@@ -243,7 +263,7 @@ def judge_outputs(racebench):
             raise Wrong(f"outputs that show {shown}, {tries} tries: {errors}")
 
 
-def judge_freed(racebench):
+def judge_freed(racebench: str) -> None:
     """The recorder reports each use of a freed block, also if nothing else shows it. It reports none in a program that
     frees nothing too early."""
     for source, (text, without) in FREED.items():
@@ -260,9 +280,12 @@ def judge_freed(racebench):
             raise Wrong(f"{source}: {used}")
 
 
-def drawn_verdict(chances, endings, rates, orders):
+def drawn_verdict(
+    chances: random.Random, endings: Sequence[str], rates: Sequence[float], orders: Sequence[str]
+) -> tuple[verdicts.Verdict, int]:
     """The verdict on orders that share one distribution of endings, and how many runs each had."""
-    names, runs = dict(zip(orders, orders)), {order: [] for order in orders}
+    names = dict(zip(orders, orders))
+    runs: dict[str, list[verdicts.Outcome]] = {order: [] for order in orders}
     while True:
         for order in orders:
             runs[order].append(verdicts.Outcome(chances.choices(endings, rates)[0], b""))
@@ -271,7 +294,7 @@ def drawn_verdict(chances, endings, rates, orders):
             return verdict, len(runs[orders[0]])
 
 
-def judge_rule(_):
+def judge_rule(racebench: str) -> None:
     """Orders that lead to the same hardly ever `matter`: with two, four and six orders, one to four endings
     and any rates. Two orders with one ending each that differ `matter` after six runs."""
     for count, draws in DRAWN.items():
@@ -288,7 +311,7 @@ def judge_rule(_):
     judge_known_verdicts()
 
 
-def judge_known_verdicts():
+def judge_known_verdicts() -> None:
     """Verdicts on runs of two orders: how often each came, the endings and outputs, and what must be said."""
     good, bad, endless = (verdicts.Outcome(text, b"") for text in (OKAY, FAULT, "hangs"))
     gone = verdicts.Outcome("departed", b"")
@@ -312,7 +335,7 @@ def judge_known_verdicts():
             raise Wrong(f"{first} and {second}: {found}, and not {wanted}")
 
 
-def judge_ended(racebench):
+def judge_ended(racebench: str) -> None:
     """A signal ends record/confirm and its program. The rows that were known stay, and no other has a verdict."""
     recorded(os.path.join(SOURCES, "eight.c"), [])
     command = [os.path.join(RECORD, "confirm"), "--racebench", racebench, *LIMITS]
@@ -324,6 +347,7 @@ def judge_ended(racebench):
             text=True,
             preexec_fn=lambda: signal.signal(signal.SIGINT, signal.default_int_handler),
         ) as started:
+            assert started.stdout
             rows = [started.stdout.readline(), started.stdout.readline()]
             started.send_signal(number)
             out, errors = started.communicate(timeout=PATIENCE)
@@ -338,7 +362,7 @@ def judge_ended(racebench):
             raise Wrong(f"ended by {number.name}: {len(found)} races are known")
 
 
-def judge_beside(racebench):
+def judge_beside(racebench: str) -> None:
     """A command runs beside each run: here it is the client that ends a server."""
     recorded(os.path.join(SOURCES, "served.c"), [])
     os.mkfifo("pipe")
@@ -349,7 +373,7 @@ def judge_beside(racebench):
         raise Wrong(f"a server with a client: {out}")
 
 
-def judge_program(racebench):
+def judge_program(racebench: str) -> None:
     """racebench is named by either option or by the variable."""
     recorded(os.path.join(SOURCES, "lost.c"), [])
     confirm = [os.path.join(RECORD, "confirm"), *LIMITS, "program.std", "program.clock"]
@@ -362,7 +386,7 @@ def judge_program(racebench):
         raise Wrong(f"three ways to name racebench: {texts}")
 
 
-def judge_departs(racebench):
+def judge_departs(racebench: str) -> None:
     """A run with other addresses goes another way: the message has the places of both ways."""
     recorded(os.path.join(SOURCES, "departs.c"), [])
     if [one["ended"] for one in confirmed(racebench)] != ["stands"]:
@@ -377,7 +401,7 @@ def judge_departs(racebench):
         raise Wrong(f"a run with other addresses: {errors}")
 
 
-def judge_teams(racebench):
+def judge_teams(racebench: str) -> None:
     """Races of OpenMP teams are shown: who comes first has the next part of a loop, a section, and what one thread
     does."""
     for source, seed in itertools.product(("region.c", "teams.c", "openmp.c"), ("1", "2")):
@@ -387,7 +411,7 @@ def judge_teams(racebench):
             raise Wrong(f"{source}, seed {seed}: {found}")
 
 
-def judge_debugger(racebench):
+def judge_debugger(racebench: str) -> None:
     """Under gdb the program gets its recorded arguments, and both threads wait at their accesses."""
     if not shutil.which("gdb"):
         return
@@ -402,7 +426,7 @@ def judge_debugger(racebench):
         raise Wrong(f"under gdb: {out}{errors}")
 
 
-def judge_waits(racebench):
+def judge_waits(racebench: str) -> None:
     """A thread that waits right before its access is not at the access."""
     recorded(os.path.join(SOURCES, "waits.c"), [])
     found = confirmed(racebench, wanted=1)
@@ -411,7 +435,7 @@ def judge_waits(racebench):
         raise Wrong(f"a thread that waits for a relaxed flag: {found}")
 
 
-def judge_recorded_order(racebench):
+def judge_recorded_order(racebench: str) -> None:
     """A schedule from which the run departs is tried again in the order of the recording."""
     recorded(os.path.join(SOURCES, "told_relaxed.cpp"), [])
     found = confirmed(racebench, wanted=1)
@@ -426,7 +450,7 @@ def judge_recorded_order(racebench):
     ran([*FOLLOW, "program.clock", *map(str, found[1]["events"]), "./program"], text="\n".join(lines) + "\n")
 
 
-def judge_refusals(racebench):
+def judge_refusals(racebench: str) -> None:
     """A witness, a clock, a trace and a program of other recordings are refused with 3."""
     recorded(os.path.join(SOURCES, "lost.c"), [])
     recorded(os.path.join(SOURCES, "bank.c"), [], "other")
@@ -477,7 +501,7 @@ JUDGES = [
 ]
 
 
-def soak(racebench):
+def soak(racebench: str) -> int:
     """Follows the races of all programs in recordings of several seeds and lengths of turns; how many departed, or led
     to something else."""
     stood = departed = 0
@@ -496,5 +520,5 @@ def soak(racebench):
     return 1 if departed or not stood else 0
 
 
-def cases(racebench):
+def cases(racebench: str) -> list[Case]:
     return [(name, functools.partial(judge, racebench), ()) for name, judge in JUDGES]

@@ -198,7 +198,7 @@ def judge_options() -> None:
 
 def judge_refused() -> None:
     """Wrong options and missing tools are refused with one line."""
-    for arguments, text in (
+    refused: list[tuple[list[str], str]] = [
         (["--no-free", "-cp", ".", "Main"], "a Java program frees nothing"),
         (["--all", "Main"], "--all is not there for Java: the trace leaves out no access"),
         (["--ordered", "to", "Main"], "--ordered is not there for Java: the trace leaves out no access"),
@@ -207,7 +207,8 @@ def judge_refused() -> None:
         (["--frames", "9", "Main"], "--frames is from 0 to 8"),
         ([], "say what java runs"),
         (["--read", "kept.raw", "Main"], "--jar and --read run nothing"),
-    ):
+    ]
+    for arguments, text in refused:
         status, out, errors = recorded_java.ran(recorded_java.RECORD, *arguments)
         if status != 2 or out or text not in errors.splitlines()[-1]:
             raise Wrong(f"{arguments}: status {status}: {errors[-300:]}")

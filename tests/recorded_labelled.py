@@ -11,7 +11,7 @@ import os
 import subprocess
 
 import recorded_pass
-from judging import Wrong
+from judging import Case, Wrong
 
 TOP = os.path.dirname(os.path.dirname(os.path.abspath(__file__)))
 RUN = os.path.join(TOP, "bench", "labelled", "run")
@@ -63,7 +63,7 @@ def judge_judge(racebench: str) -> None:
         raise Wrong("a race by an address in a line of assembly is not missed")
 
 
-def cases(racebench: str) -> list[tuple[str, object, tuple[str, ...]]]:
+def cases(racebench: str) -> list[Case]:
     wanted = GROUPS | (OF_PASS if recorded_pass.has_headers("gcc") else {})
     groups = [(f"labelled: {name}", judge_group, (racebench, programs)) for name, programs in wanted.items()]
     return [*groups, ("labelled: what is missed", judge_judge, (racebench,))]

@@ -10,10 +10,11 @@ import re
 import shutil
 import subprocess
 import zlib
+from collections.abc import Iterable, Sequence
 
 import names_of_runs
 import recorded_options
-from judging import Wrong
+from judging import Case, Wrong
 from recorded_places import PATIENCE, RECORD, SOURCES, events_in, ran
 
 # The names of variables that a source has, and those of its locks.
@@ -87,20 +88,27 @@ OTHERS = ("heap:", "stack:", "memory:")
 OPERATION = re.compile(r"T\d+\|(\w+)\((.*)\)\|")
 
 
-def names_of(command, *options):
+def names_of(command: Sequence[str], *options: str) -> tuple[set[str], set[str]]:
     """The names of variables and of locks in a recording of `program`."""
-    variables, locks = set(), set()
+    variables: set[str] = set()
+    locks: set[str] = set()
     for line in events_in(ran([os.path.join(RECORD, "run"), "--all", *options, *command])):
-        word, name = OPERATION.match(line).groups()
-        (variables if word in "rw" else locks if word == "acq" else set()).add(name)
+        operation = OPERATION.match(line)
+        if operation is None:
+            raise Wrong(f"no line of a trace: {line!r}")
+        word, name = operation.groups()
+        if word in "rw":
+            variables.add(name)
+        elif word == "acq":
+            locks.add(name)
     return variables, locks
 
 
-def of_source(names):
+def of_source(names: Iterable[str]) -> set[str]:
     return {name for name in names if not name.removeprefix("atomic:").startswith(OTHERS)}
 
 
-def judge_names(source, compilers, level):
+def judge_names(source: str, compilers: tuple[str, str | None], level: str) -> None:
     language = "c++" if source.endswith(".cpp") else "cc"
     environment = dict(os.environ, RECORD_CC=compilers[0], RECORD_CXX=compilers[1] or "")
     options = ["-std=c++17"] if language == "c++" else []
@@ -116,7 +124,7 @@ def judge_names(source, compilers, level):
     judge_raw(variables)
 
 
-def judge_raw(variables):
+def judge_raw(variables: set[str]) -> None:
     """With --names raw a variable is a symbol and an offset, and there are as many."""
     raw, _ = names_of(["./program"], "--names", "raw")
     symbols = {re.sub(PIECE, "", name) for name in raw}
@@ -129,7 +137,7 @@ def judge_raw(variables):
 PIECE = r"\.(\d+|count)$"
 
 
-def judge_frame_names(about):
+def judge_frame_names(about: str) -> tuple[set[str], set[str]]:
     """The names of frames.c as `program` has them: its variables and locks."""
     variables, locks = names_of(["./program"])
     wanted = {f"{function}:{name}" for function, names in FRAMES.items() for name in names.split()} | OF_THREADS
@@ -141,7 +149,7 @@ def judge_frame_names(about):
     return variables, locks
 
 
-def judge_frames(c, level):
+def judge_frames(c: str, level: str) -> None:
     """Variables of frames and of threads have names of the source. Each activation is another object, and the names are
     the same wherever the stack is."""
     path = os.path.join(SOURCES, "frames.c")
@@ -155,7 +163,7 @@ def judge_frames(c, level):
     recorded_options.judge_decoder("frames.c", [], c)
 
 
-def judge_forms(c):
+def judge_forms(c: str) -> None:
     """Debug information of each version, compressed or split, gives the same names."""
     path, cc, environment = (
         os.path.join(SOURCES, "frames.c"),
@@ -168,13 +176,13 @@ def judge_forms(c):
         judge_frame_names(form)
 
 
-def cut(name):
+def cut(name: str) -> str:
     """A name as a trace has it: 255 bytes at most."""
     whole = name.encode()
     return name if len(whole) <= 255 else f"{name[:246]}~{zlib.crc32(whole):08x}"
 
 
-def judge_hostile(cxx):
+def judge_hostile(cxx: str) -> None:
     """Names that are long, or have signs of the trace's own, are cut and replaced, and stay apart."""
     with open(HOSTILE_FILE, "w", encoding="ascii") as source:
         source.write(HOSTILE_SOURCE.replace("LONG", LONG))
@@ -210,7 +218,7 @@ int main() {
 OF_ELSEWHERE = {"global.seen", "main:local.cents", "heap:main.cpp:5 Account.seen"}
 
 
-def judge_elsewhere(cxx, level):
+def judge_elsewhere(cxx: str, level: str) -> None:
     """Objects of a class that another file defines have the names of their members."""
     for name, text in ELSEWHERE.items():
         with open(name, "w", encoding="ascii") as source:
@@ -224,14 +232,14 @@ def judge_elsewhere(cxx, level):
         raise Wrong(f"{cxx} {level}: {sorted(OF_ELSEWHERE - variables)} is not in {sorted(variables)}")
 
 
-def debug_sections(program):
+def debug_sections(program: str) -> list[tuple[int, int]]:
     """Where a program has sections of debug information, and their sizes."""
     listed = ran(["readelf", "-SW", program])
     found = re.findall(r" \.debug_\w+ +PROGBITS +\w+ (\w+) (\w+) ", listed)
     return [(int(start, 16), int(size, 16)) for start, size in found if int(size, 16)]
 
 
-def judge_damaged(source, compilers):
+def judge_damaged(source: str, compilers: tuple[str, str | None]) -> None:
     """Damaged debug information does not end the decoder."""
     language = "c++" if source.endswith(".cpp") else "cc"
     environment = dict(os.environ, RECORD_CC=compilers[0], RECORD_CXX=compilers[1] or "")
@@ -240,7 +248,7 @@ def judge_damaged(source, compilers):
         env=environment,
     )
     ran([os.path.join(RECORD, "run"), "--raw", "kept.raw", "./program"])
-    sections, decoder = debug_sections("program"), recorded_options.decoder()
+    sections, decoder = debug_sections("program"), names_of_runs.decoder()
     with open("program", "rb") as file:
         whole = file.read()
     for seed in range(DAMAGED):
@@ -255,7 +263,7 @@ def judge_damaged(source, compilers):
             raise Wrong(f"{source}, damaged by seed {seed}: the decoder ended with status {ended.returncode}")
 
 
-def judge_types(source, compilers, level):
+def judge_types(source: str, compilers: tuple[str, str | None], level: str) -> None:
     """A block has the type that was allocated, if that can be known, and no other one. The source has a path in the
     folder of the compiler, and the program runs in another one."""
     language = "c++" if source.endswith(".cpp") else "cc"
@@ -273,7 +281,7 @@ def judge_types(source, compilers, level):
         raise Wrong(f"{source} {level}: the locks are {sorted(locks)}")
 
 
-def judge_stripped(c):
+def judge_stripped(c: str) -> None:
     """Without debug information a variable is a symbol and an offset."""
     path = os.path.join(SOURCES, "named.c")
     environment = dict(os.environ, RECORD_CC=c)
@@ -293,7 +301,7 @@ WRONG_NAMES = (
 )
 
 
-def judge_wrong_names(c):
+def judge_wrong_names(c: str) -> None:
     """raw_objects.py sees names that are wrong in the same way all the time, and one that changes."""
     path = os.path.join(SOURCES, "frames.c")
     ran([os.path.join(RECORD, "cc"), "-O0", path, "-o", "program"], env=dict(os.environ, RECORD_CC=c))
@@ -312,8 +320,8 @@ def judge_wrong_names(c):
             raise Wrong("names that are wrong are not seen")
 
 
-def cases(c, cxx):
-    found = [(f"names without debug information, {c}", judge_stripped, (c,))]
+def cases(c: str, cxx: str | None) -> list[Case]:
+    found: list[Case] = [(f"names without debug information, {c}", judge_stripped, (c,))]
     found.append((f"names by forms of debug information, {c}", judge_forms, (c,)))
     found.append((f"names that are wrong, {c}", judge_wrong_names, (c,)))
     if cxx:

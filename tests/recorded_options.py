@@ -8,8 +8,9 @@ of which a part of the accesses is missing, a limit without a message.
 import os
 import re
 import subprocess
+from collections.abc import Iterable, Sequence
 
-from judging import Wrong
+from judging import Case, Wrong
 from names_of_runs import decoder, python
 from recorded_places import PATIENCE, RECORD, SOURCES, TOP, events_in, ran
 
@@ -18,7 +19,7 @@ MOST_EVENTS = 1_048_576
 THREADS = 600
 
 
-def run(*arguments):
+def run(*arguments: str) -> tuple[list[str], str]:
     """The events that record/run writes of `program`, and what it says. The recording may be not whole."""
     done = subprocess.run(
         [os.path.join(RECORD, "run"), *arguments], capture_output=True, timeout=PATIENCE, check=False
@@ -37,7 +38,7 @@ INTERPRETED = (
 ).split()
 
 
-def decoded(*options):
+def decoded(*options: str) -> tuple[list[str], str]:
     """The trace of the records in `kept.raw`, and the facts of it."""
     done = subprocess.run([decoder(), *options, "kept.raw"], capture_output=True, timeout=PATIENCE, check=False)
     if done.returncode:
@@ -45,12 +46,12 @@ def decoded(*options):
     return events_in(done.stdout.decode()), done.stderr.decode(errors="replace")
 
 
-def interpreted(*options):
+def interpreted(*options: str) -> list[str]:
     """The trace of `kept.raw` as its judge computes it."""
     return ran([python(), os.path.join(TOP, "tests", "raw_trace.py"), *options, "kept.raw"]).splitlines()
 
 
-def judge_decoder(source, options, c):
+def judge_decoder(source: str, options: Sequence[str], c: str) -> None:
     """The trace of a run is the one of the records that were kept, and the one that its judge computes from them. The
     pyelftools of Debian 12 do not know the checksums in clang's tables of lines."""
     run = [os.path.join(RECORD, "run"), *options, "--partial", "--names", "raw", "--raw", "kept.raw", "./program"]
@@ -68,12 +69,13 @@ def judge_decoder(source, options, c):
     judge_objects(decoded()[0], interpreted("--frames"))
 
 
-def judge_objects(lines, expected):
+def judge_objects(lines: Sequence[str], expected: Sequence[str]) -> None:
     """The names of the source match the objects and places that the judge finds, one to one: no two share a name, and
     each keeps its own."""
     if len(lines) != len(expected):
         raise Wrong(f"with names of the source there are {len(lines)} events, and the judge finds {len(expected)}")
-    named, places = {}, {}
+    named: dict[str, str] = {}
+    places: dict[str, str] = {}
     for line, other in zip(lines, expected):
         (name, rest), (place, wanted) = operand(line), operand(other)
         if rest != wanted or named.setdefault(place, name) != name or places.setdefault(name, place) != place:
@@ -82,16 +84,16 @@ def judge_objects(lines, expected):
             )
 
 
-def operand(line):
+def operand(line: str) -> tuple[str, tuple[str, str]]:
     """What an event is of, and the line without it."""
     before, _, rest = line.partition("(")
     name, _, after = rest.partition(")|")
     return name, (before, after)
 
 
-def held_wrongly(lines):
+def held_wrongly(lines: Iterable[str]) -> str | None:
     """The first release of a lock that its thread does not have."""
-    held = {}
+    held: dict[tuple[str, str], int] = {}
     for line in lines:
         thread, operation, _ = line.split("|", 2)
         word, name = operation.split("(", 1)
@@ -102,14 +104,14 @@ def held_wrongly(lines):
     return None
 
 
-def judge_beginning():
+def judge_beginning() -> None:
     """A trace from an event on has what comes after it; before that it has the acquires of the locks that are held
     there, and nothing else."""
     run("--raw", "kept.raw", "./program")
     whole, _ = decoded()
     for first in range(1, len(whole), 197):
         rest, facts = decoded("--from", str(first))
-        before = int(re.search(r"^fact before (\d+)$", facts, re.MULTILINE)[1])
+        before = int("".join(re.findall(r"^fact before (\d+)$", facts, re.MULTILINE)))
         added, tail = rest[: len(rest) - len(whole) + before], whole[before:]
         if not first <= before < first + 40 or rest[len(added) :] != tail:
             raise Wrong(f"--from {first}: the trace does not end as the whole one does")
@@ -117,7 +119,7 @@ def judge_beginning():
             raise Wrong(f"--from {first}: begins with {added}, and {held_wrongly(rest)} lets go what nobody has")
 
 
-def judge_only():
+def judge_only() -> None:
     """The trace has the variables that the file accesses, with all their accesses; everything else is as in the
     whole trace."""
     whole, _ = run("--raw", "kept.raw", "./program")
@@ -127,7 +129,7 @@ def judge_only():
         raise Wrong(f"--only p/util.c: {some}, and {notes}")
 
 
-def judge_length():
+def judge_length() -> None:
     """A trace may have more events than are read at once, and a line says how it is read; --max limits it, and --for
     ends it while the program goes on."""
     whole, notes = run("--yield", "5000", "./program", str(MOST_EVENTS // 4 + 100))
@@ -141,7 +143,7 @@ def judge_length():
     judge_seconds()
 
 
-def judge_threads(racebench, c):
+def judge_threads(racebench: str, c: str) -> None:
     """A trace has threads without a limit, and `triage --windows` reads it; with --max it ends before the 257th."""
     compile_with(c, "many_threads.c")
     whole, notes = run("./program")
@@ -158,7 +160,7 @@ def judge_threads(racebench, c):
         raise Wrong(f"with --max: {len(short)} events, and {notes}")
 
 
-def judge_seconds():
+def judge_seconds() -> None:
     """--for ends the trace early, and the program goes on. A turn of its loop pauses for 10 ms at least, so with four
     times as many turns as fit into the time a part is left out. On a slow machine the time may be over before much is
     recorded, or the end may come late, when the program has ended: then the time is longer, up to a minute."""
@@ -172,14 +174,14 @@ def judge_seconds():
     raise Wrong(f"--for {seconds}: {len(short)} events, and {notes}")
 
 
-def compile_with(c, *sources):
+def compile_with(c: str, *sources: str) -> None:
     ran(
         [os.path.join(RECORD, "cc"), "-O1", *[os.path.join(SOURCES, name) for name in sources], "-o", "program"],
         env=dict(os.environ, RECORD_CC=c),
     )
 
 
-def judge_options(c):
+def judge_options(c: str) -> None:
     compile_with(c, "each_kind.c")
     judge_beginning()
     os.unlink("kept.raw")
@@ -189,16 +191,16 @@ def judge_options(c):
     judge_length()
 
 
-def refused(*arguments):
+def refused(*arguments: str) -> list[str]:
     """The lines that record/run says if it writes no event and ends with status 1."""
-    arguments = [os.path.join(RECORD, "run"), *arguments]
-    done = subprocess.run(arguments, capture_output=True, timeout=PATIENCE, check=False)
+    command = [os.path.join(RECORD, "run"), *arguments]
+    done = subprocess.run(command, capture_output=True, timeout=PATIENCE, check=False)
     if done.returncode != 1 or events_in(done.stdout.decode()):
-        raise Wrong(f"{arguments[1:]}: status {done.returncode}, {done.stdout[:300]!r}")
+        raise Wrong(f"{list(arguments)}: status {done.returncode}, {done.stdout[:300]!r}")
     return done.stderr.decode(errors="replace").splitlines()
 
 
-def judge_refusals(c):
+def judge_refusals(c: str) -> None:
     """A file that can't be written is refused before the program runs; what is no program is called so; and if the
     options leave out all events, it is not said that there are none."""
     decoder()
@@ -219,7 +221,7 @@ def judge_refusals(c):
     judge_no_decoder()
 
 
-def judge_no_decoder():
+def judge_no_decoder() -> None:
     """If the decoder can't be compiled, one line says what to install, and the program does not run."""
     for compiler, reason in (("false", "false failed"), ("no-such-compiler", "there is no no-such-compiler")):
         environment = dict(os.environ, RECORD_CXX=compiler, XDG_CACHE_HOME=os.path.join(os.getcwd(), "cache"))
@@ -235,15 +237,15 @@ def judge_no_decoder():
             raise Wrong(f"the compiler {compiler}: status {done.returncode}: {lines}")
 
 
-def judge_versions(racebench):
+def judge_versions(racebench: str) -> None:
     """The commands of the recorder print the version of racebench."""
     for command in ("run", "follow", "confirm", "check", "reported"):
         if ran([os.path.join(RECORD, command), "--version"]) != ran([racebench, "--version"]):
             raise Wrong(f"record/{command} --version prints another version than racebench")
 
 
-def cases(racebench, c):
-    versions = ("versions of the recorder", judge_versions, (racebench,))
-    refusals = (f"refusals of options, {c}", judge_refusals, (c,))
-    threads = (f"more threads than a trace has, {c}", judge_threads, (racebench, c))
+def cases(racebench: str, c: str) -> list[Case]:
+    versions: Case = ("versions of the recorder", judge_versions, (racebench,))
+    refusals: Case = (f"refusals of options, {c}", judge_refusals, (c,))
+    threads: Case = (f"more threads than a trace has, {c}", judge_threads, (racebench, c))
     return [versions, refusals, (f"beginning, files and length of a trace, {c}", judge_options, (c,)), threads]

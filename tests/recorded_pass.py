@@ -10,7 +10,7 @@ import os
 import re
 import sys
 
-from judging import Wrong
+from judging import Case, Wrong
 from recorded_places import RECORD, TOP, ran
 
 SOURCE = os.path.join(TOP, "tests", "recorded", "handed_over.c")
@@ -44,15 +44,18 @@ def races(racebench: str, seed: int) -> set[tuple[str, str]]:
 def judge_hands(racebench: str, c: str, option: str) -> None:
     """What is handed over under a lock is no race. What is written after that is one."""
     environment = dict(os.environ, RECORD_CC=c)
-    for twin, wanted in (([], set()), (["-DRACY"], {(place, place) for place in lines_of_hands()})):
-        ran([os.path.join(RECORD, "cc"), option, *twin, SOURCE, "-o", "program"], env=environment)
+    for is_racy in (False, True):
+        wanted = {(place, place) for place in lines_of_hands()} if is_racy else set()
+        ran([os.path.join(RECORD, "cc"), option, *["-DRACY"] * is_racy, SOURCE, "-o", "program"], env=environment)
         for seed in SEEDS:
             found = races(racebench, seed)
             if found != wanted:
-                raise Wrong(f"{option} {twin}, seed {seed}: the races are {sorted(found)}, and not {sorted(wanted)}")
+                raise Wrong(
+                    f"{option}, RACY {is_racy}, seed {seed}: the races are {sorted(found)}, and not {sorted(wanted)}"
+                )
 
 
-def cases(racebench: str, c: str) -> list[tuple[str, object, tuple[str, ...]]]:
+def cases(racebench: str, c: str) -> list[Case]:
     if not has_headers(c):
         print(f"record/: our pass is not tested with {c}, since its headers for plugins are not here")
         return []

@@ -8,9 +8,10 @@ and two places of one name.
 import functools
 import os
 import re
+from collections.abc import Mapping, Sequence
 
 import names_of_runs
-from judging import Wrong
+from judging import Case, Wrong
 
 TOP = os.path.dirname(os.path.dirname(os.path.abspath(__file__)))
 RECORD = os.path.join(TOP, "record")
@@ -25,19 +26,19 @@ AGAIN = 5
 COMMON = ["p_work", "both main.c:8", "down main.c:15", "down main.c:13"]
 
 
-def events_in(trace):
+def events_in(trace: str) -> list[str]:
     """The lines of a trace that are events: the first and the last say whether the recording is whole."""
     return [line for line in trace.splitlines() if not line.startswith("recording|")]
 
 
-def ran(command, wanted=0, **more):
-    done = names_of_runs.run(command, capture_output=True, timeout=PATIENCE, check=False, **more)
+def ran(command: Sequence[str], wanted: int = 0, env: Mapping[str, str] | None = None, cwd: str | None = None) -> str:
+    done = names_of_runs.run(command, PATIENCE, env, cwd)
     if done.returncode != wanted:
         raise Wrong(f"{' '.join(command)}: status {done.returncode}: {done.stderr.decode(errors='replace')[:600]}")
     return done.stdout.decode()
 
 
-def locations(*options):
+def locations(*options: str) -> list[tuple[str, str, list[str]]]:
     """The locations of a recording of `program`: operation, first place, and what is after it."""
     found = []
     for line in events_in(ran([os.path.join(RECORD, "run"), "--all", *options, "./program"])):
@@ -49,7 +50,7 @@ def locations(*options):
     return found
 
 
-def judge_names():
+def judge_names() -> None:
     """Two files of one name are two places; the calls stand after them, those in their place too; recursion is
     written once."""
     found = locations()
@@ -62,7 +63,7 @@ def judge_names():
         raise Wrong(f"the calls around the accesses of p/util.c are {calls}")
 
 
-def judge_free():
+def judge_free() -> None:
     """A block that is given back is written at `free in FUNCTION`, and with --no-free it is not."""
     frees = [(place, calls) for _, place, calls in locations() if calls and calls[0].startswith("free")]
     if frees != [("main.c:23", ["free in give_back"])]:
@@ -71,7 +72,7 @@ def judge_free():
         raise Wrong("with --no-free a block is written where it is given back")
 
 
-def judge_frames():
+def judge_frames() -> None:
     """--frames says how many calls a location has."""
     for most in (0, 1, 3, 8):
         longest = max(len(calls) for _, _, calls in locations("--frames", str(most)))
@@ -80,9 +81,9 @@ def judge_frames():
 
 
 @functools.cache
-def files_by_name():
+def files_by_name() -> dict[str, list[str]]:
     """The sources of the tests, and the headers of the compilers that are here."""
-    found = {}
+    found: dict[str, list[str]] = {}
     for folder in (
         SOURCES,
         "/usr/include/c++",
@@ -96,12 +97,12 @@ def files_by_name():
     return found
 
 
-def lines_in(path):
+def lines_in(path: str) -> list[str]:
     with open(path, encoding="utf-8", errors="replace") as file:
         return file.read().splitlines()
 
 
-def lines_of(name):
+def lines_of(name: str) -> int | None:
     """How many lines the file of a place has; None where it is found nowhere."""
     for path in files_by_name().get(os.path.basename(name), []):
         if path.endswith("/" + name):
@@ -109,12 +110,12 @@ def lines_of(name):
     return None
 
 
-def is_within(calls):
+def is_within(calls: Sequence[str]) -> bool:
     """Whether the calls after the function of the access are those of each_kind.cpp."""
     return all(call.split(" ")[-1].startswith("each_kind.cpp:") for call in calls[1:])
 
 
-def judge_lines(cxx):
+def judge_lines(cxx: str) -> None:
     """Each line of a location is in its file; what the program does to its own variables is in its own file, and
     not in the library's."""
     source = os.path.join(SOURCES, "each_kind.cpp")
@@ -146,13 +147,13 @@ def judge_lines(cxx):
     found = [one for one in found if (one[0], one[1]) not in ended]
     places = {place.split(" ")[-1] for _, place, calls in found for place in [place, *calls[1:]]}
     for place in sorted(places):
-        parted = PLACE.match(place)
-        most = lines_of(parted[1]) if parted else None
-        if most is None or not 1 <= int(parted[2]) <= most:
+        parts = PLACE.match(place)
+        most = lines_of(parts[1]) if parts else None
+        if parts is None or most is None or not 1 <= int(parts[2]) <= most:
             raise Wrong(f"{place}: the file has {most} lines")
 
 
-def judge_stripped():
+def judge_stripped() -> None:
     """A program without lines has places all the same, and two accesses have two."""
     ran(["strip", "program"])
     places = {place for operation, place, _ in locations() if operation.startswith(("r(", "w("))}
@@ -160,7 +161,7 @@ def judge_stripped():
         raise Wrong(f"the places of a program without lines are {sorted(places)}")
 
 
-def judge_places(c):
+def judge_places(c: str) -> None:
     sources = [os.path.join(SOURCES, "places", name) for name in ("main.c", "p/util.c", "q/util.c")]
     for form in ("-gdwarf-4", "-gz", "-g"):
         command = [os.path.join(RECORD, "cc"), "-O1", form, *sources, "-o", "program"]
@@ -189,7 +190,7 @@ int main(void) {
 """
 
 
-def judge_no_line(c):
+def judge_no_line(c: str) -> None:
     """Code of line 0, as compilers have it for what they made themselves, has the line before it."""
     with open("made.c", "w", encoding="ascii") as source:
         source.write(NO_LINE)
@@ -200,7 +201,7 @@ def judge_no_line(c):
         raise Wrong(f"the places of line 0 are {sorted(places)}")
 
 
-def cases(c, cxx):
+def cases(c: str, cxx: str | None) -> list[Case]:
     """The cases for a C compiler, and for its C++ compiler where there is one."""
-    found = [(f"places, {c}", judge_places, (c,)), (f"code without a line, {c}", judge_no_line, (c,))]
+    found: list[Case] = [(f"places, {c}", judge_places, (c,)), (f"code without a line, {c}", judge_no_line, (c,))]
     return found + ([(f"lines of places, {cxx}", judge_lines, (cxx,))] if cxx else [])

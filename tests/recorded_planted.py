@@ -12,8 +12,9 @@ import random
 import re
 import sys
 import tempfile
+from collections.abc import Iterator
 
-from judging import Wrong
+from judging import Case, Wrong
 from recorded_strangers import judge_stranger, labels_of
 
 # The seeds of the programs that are always tried, how many races they have at least, and how many scenarios each has.
@@ -255,30 +256,32 @@ ASIDE = [
 class Scenario:
     """The declarations of a scenario, the bodies of its threads, and the threads that main starts."""
 
-    def __init__(self, chance, number):
+    def __init__(self, chance: random.Random, number: int) -> None:
         self.chance, self.number = chance, number
         declared, self.write, self.read = chance.choice(DATA)
-        self.lines, self.bodies, self.first = [self.named(declared)], [], []
+        self.lines = [self.named(declared)]
+        self.bodies: list[list[str]] = []
+        self.first: list[int] = []
         self.is_race = chance.random() < 0.5
         kinds = [self.chain, self.chain, self.chain, self.guarded, self.once]
         chance.choice(kinds + [self.unordered] if self.is_race else kinds)()
 
-    def named(self, code, link=0):
+    def named(self, code: str, link: int = 0) -> str:
         """The code with the names of this scenario, and of a link of it."""
         code = re.sub(r"\b([a-z])L\b", rf"\g<1>{self.number}_{link}", code.replace("ORDER", "std::memory_order_"))
         return re.sub(r"\b(o?)D\b", rf"\g<1>d{self.number}", code)
 
-    def access(self, write, races=False):
+    def access(self, write: bool, races: bool = False) -> str:
         return self.named(self.write if write else self.read) + (f" // RACE r{self.number}" if races else "")
 
-    def declare(self, code, link=0):
+    def declare(self, code: str, link: int = 0) -> None:
         """Each object has its own line."""
         self.lines += ["static " + self.named(code, link)] if code else []
 
-    def aside(self):
+    def aside(self) -> str:
         return self.chance.choice(ASIDE)
 
-    def chain(self):
+    def chain(self) -> None:
         """From thread to thread; the first one writes, and the last one reads, or writes too."""
         chance, count = self.chance, self.chance.randint(2, 4)
         where = chance.choice(["behind", "before"]) if self.is_race else ""
@@ -298,7 +301,7 @@ class Scenario:
             joins = [line for line in body if line.startswith("JOIN ")]
             self.bodies.append([line for line in body if line not in joins] + [line[5:] for line in joins])
 
-    def unordered(self):
+    def unordered(self) -> None:
         """The second thread waits for the first one, and nothing orders the two."""
         declared, sends, receives = self.chance.choice(NO_ORDER)
         self.declare(declared)
@@ -306,7 +309,7 @@ class Scenario:
         self.bodies.append([self.aside(), self.access(True, True), self.named(sends), self.aside()])
         self.bodies.append([self.aside(), self.named(receives), self.access(False, True), self.aside()])
 
-    def link(self, link, bodies, races, makes):
+    def link(self, link: int, bodies: list[list[str]], races: bool, makes: bool) -> None:
         chance, kind = self.chance, self.chance.random()
         late = [self.access(True, True)] if races else []
         if kind < 0.1 and makes and link + 1 in self.first:
@@ -325,13 +328,13 @@ class Scenario:
             bodies[link] += [self.named(sends, link), *late]
             bodies[link + 1].append(self.named(receives, link))
 
-    def name(self, thread):
+    def name(self, thread: int) -> str:
         return f"{self.number}_{thread}"
 
-    def start(self, start, thread):
+    def start(self, start: str, thread: int) -> str:
         return start.replace("NEXT", f"t{self.name(thread)}").replace("N", self.name(thread))
 
-    def guarded(self):
+    def guarded(self) -> None:
         """Threads that have a lock as they access; one of them may have none, or not the whole of one."""
         chance = self.chance
         declared, lock, unlock = chance.choice(LOCKS)
@@ -350,7 +353,7 @@ class Scenario:
             lines = inside if thread == without else [self.named(taken[0]), *inside, self.named(taken[1])]
             self.bodies.append([self.aside(), *lines, self.aside()])
 
-    def once(self):
+    def once(self) -> None:
         """Threads that come to what is done once, and read what it wrote; one may read before, or write after."""
         chance = self.chance
         declared, comes = chance.choice(ONCE)
@@ -367,7 +370,7 @@ class Scenario:
         other = [self.access(False, True)] if early else []
         self.bodies.append([*other, f"get{self.number}();", self.access(False, late), self.aside()])
 
-    def functions(self):
+    def functions(self) -> Iterator[str]:
         for thread in range(len(self.bodies)):
             yield f"static void t{self.name(thread)}();"
         for thread, body in enumerate(self.bodies):
@@ -376,7 +379,7 @@ class Scenario:
             yield "}"
 
 
-def program(chance):
+def program(chance: random.Random) -> str:
     """A program of some scenarios whose threads all run at once."""
     lines, starts, ends = [HEAD], [], []
     for number in range(SCENARIOS):
@@ -389,7 +392,7 @@ def program(chance):
     return "\n".join([*lines, "int main() {", *starts, *ends, '    std::puts("done");', "}", ""])
 
 
-def judge(racebench, seed, c, cxx):
+def judge(racebench: str, seed: int, c: str, cxx: str) -> int:
     """The races of a program are those that its lines say; how many there are."""
     with open("planted.cpp", "w", encoding="ascii") as file:
         file.write(program(random.Random(seed)))
@@ -397,7 +400,7 @@ def judge(racebench, seed, c, cxx):
     return len(labels_of(["planted.cpp"]))
 
 
-def judge_few(racebench, c, cxx):
+def judge_few(racebench: str, c: str, cxx: str) -> None:
     """Some programs, the same in each run of the tests."""
     races = 0
     for seed in FEW:
@@ -409,11 +412,11 @@ def judge_few(racebench, c, cxx):
         raise Wrong(f"the planted programs have {races} races alone")
 
 
-def cases(racebench, c, cxx):
+def cases(racebench: str, c: str, cxx: str | None) -> list[Case]:
     return [(f"planted races of C++, {c}", judge_few, (racebench, c, cxx))] if cxx else []
 
 
-def soak(racebench, first, programs, c="gcc", cxx="g++"):
+def soak(racebench: str, first: int, programs: int, c: str = "gcc", cxx: str = "g++") -> int:
     """This many programs; how many have other races than those that were planted."""
     wrong, races, top = 0, 0, os.getcwd()
     for seed in range(first, first + programs):

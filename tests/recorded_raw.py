@@ -9,8 +9,8 @@ import struct
 import subprocess
 
 import raw_words
-from judging import Wrong
-from recorded_options import decoder
+from judging import Case, Wrong
+from names_of_runs import decoder
 from recorded_places import PATIENCE, RECORD, events_in, ran
 
 # How many places a file is cut at, and how many damaged files are decoded.
@@ -18,7 +18,7 @@ CUTS, DAMAGED = 40, 60
 DAMAGE = 5
 
 
-def decoded(raw):
+def decoded(raw: bytes) -> tuple[int, list[str], str]:
     """The status of the decoder, the events, and what it says."""
     with open("other.raw", "wb") as file:
         file.write(raw)
@@ -31,7 +31,7 @@ def decoded(raw):
     return done.returncode, events_in(done.stdout.decode(errors="replace")), errors
 
 
-def recording():
+def recording() -> tuple[bytes, int]:
     """A recording of `program`: the bytes, and where its words begin."""
     ran([f"{RECORD}/run", "--all", "--partial", "--raw", "kept.raw", "./program"])
     with open("kept.raw", "rb") as file:
@@ -39,11 +39,11 @@ def recording():
     return raw, raw_words.WORDS.unpack_from(raw)[raw_words.WORDS_AT]
 
 
-def rows_of(raw, first):
+def rows_of(raw: bytes, first: int) -> list[tuple[int, ...]]:
     return list(raw_words.rows(raw[first:], (len(raw) - first) // 8))
 
 
-def judge_cut(c):
+def judge_cut(c: str) -> None:
     """A file that is cut, also in the midst of a word or of a long record, has the records before, and says that
     others are missing."""
     ran([f"{RECORD}/cc", f"{RECORD}/../examples/count.c", "-o", "program"])
@@ -61,7 +61,7 @@ def judge_cut(c):
             raise Wrong(f"cut at {len(cut)}: status {status}: {errors[:600]}")
 
 
-def judge_damaged(c):
+def judge_damaged(c: str) -> None:
     """A file with other words is decoded, or the decoder says that a word is damaged. Some have such a word."""
     ran([f"{RECORD}/cc", f"{RECORD}/../examples/count.c", "-o", "program"])
     raw, first = recording()
@@ -79,5 +79,5 @@ def judge_damaged(c):
         raise Wrong(f"of {DAMAGED} damaged files {refused} are refused")
 
 
-def cases(c):
+def cases(c: str) -> list[Case]:
     return [(f"raw files: {name}", judge, (c,)) for name, judge in (("cut", judge_cut), ("damaged", judge_damaged))]

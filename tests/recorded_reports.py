@@ -9,8 +9,9 @@ import re
 import shutil
 import subprocess
 import sys
+from collections.abc import Sequence
 
-from judging import Wrong
+from judging import Case, Wrong
 from recorded_places import PATIENCE, RECORD, SOURCES, TOP, ran
 
 if RECORD not in sys.path:
@@ -41,7 +42,7 @@ RUNS = 200
 RACE = re.compile(rb"Possible data race|Conflicting (load|store)|<kind>(Race|ConflictingAccess)</kind>")
 
 
-def reported(racebench, report, trace="count.std"):
+def reported(racebench: str, report: str, trace: str = "count.std") -> tuple[int, str, str]:
     done = subprocess.run(
         [os.path.join(RECORD, "reported"), "--racebench", racebench, report, trace],
         capture_output=True,
@@ -54,13 +55,13 @@ def reported(racebench, report, trace="count.std"):
     return done.returncode, out, err
 
 
-def record(*sources):
+def record(*sources: str) -> None:
     ran([os.path.join(RECORD, "cc"), "-g", *sources, "-o", "program"])
     with open("count.std", "w", encoding="ascii") as file:
         file.write(ran([os.path.join(RECORD, "run"), "./program"]))
 
 
-def tsan_report(c, source=SOURCE):
+def tsan_report(c: str, source: str = SOURCE) -> bytes:
     """A report of the program by ThreadSanitizer; addresses are not drawn, which its older versions can't bear."""
     ran([c, "-g", "-O0", "-fsanitize=thread", "-pthread", source, "-o", "watched"])
     for _ in range(RUNS):
@@ -72,7 +73,7 @@ def tsan_report(c, source=SOURCE):
     raise Wrong(f"ThreadSanitizer of {c} reports no race in {RUNS} runs")
 
 
-def valgrind_report(tool, arguments):
+def valgrind_report(tool: str, arguments: Sequence[str]) -> bytes:
     """A report of the program; which thread is first is the system's choice, and in one order there is nothing to
     report."""
     ran(["gcc", "-g", "-O0", "-pthread", SOURCE, "-o", "plain"])
@@ -89,19 +90,21 @@ def valgrind_report(tool, arguments):
     raise Wrong(f"{tool} reports no race in {RUNS} runs")
 
 
-def judge_report(racebench, report):
+def judge_report(racebench: str, report: bytes) -> None:
     """The report leads to the race: the events that `triage` lists, and nothing else is answered."""
     with open("report", "wb") as file:
         file.write(report)
     status, out, err = reported(racebench, "report")
     race = re.search(r"^race (\d+) (\d+) ", ran([racebench, "triage", "count.std"]), re.MULTILINE)
+    if race is None:
+        raise Wrong("the recording of count.c has no race")
     wanted = f"racebench explain count.std {race[1]} {race[2]}"
     counts = re.search(r"^(\d+) reports: (\d+) a race here, 0 apart, 0 undecided, 0 not met$", out, re.MULTILINE)
     if status or wanted not in out or not counts or counts[1] != counts[2] or counts[1] == "0":
         raise Wrong(f"the report is answered by {out}{err}")
 
 
-def judge_cuts(racebench, report):
+def judge_cuts(racebench: str, report: bytes) -> None:
     """A cut report leads to a message, wherever it was cut."""
     ends = range(0, len(report), max(1, len(report) // 12))
     for end in ends:
@@ -112,7 +115,7 @@ def judge_cuts(racebench, report):
             raise Wrong(f"a report that was cut at byte {end}: {out}{err}")
 
 
-def judge_other_forms(racebench):
+def judge_other_forms(racebench: str) -> None:
     """What is no report is refused; names that would change a terminal are printed with `?`; another program's
     race is not met."""
     for text in (b"", b"hello\n", b"\0\xff" * 100, b"<valgrindoutput><!DOCTYPE x []>"):
@@ -129,7 +132,7 @@ def judge_other_forms(racebench):
         raise Wrong(f"a report with hostile names: {out!r}{err!r}")
 
 
-def judge_blanks(racebench, c):
+def judge_blanks(racebench: str, c: str) -> None:
     """Folders and files whose names have blanks, quotes and parentheses."""
     source = 'a folder (1) of/my "count".c'
     os.makedirs(os.path.dirname(source))
@@ -164,7 +167,7 @@ SUMMARY: ThreadSanitizer: data race count.c:7 in writer
 """
 
 
-def judge_lost(racebench):
+def judge_lost(racebench: str) -> None:
     """A report without the calls of one access is answered by the other. A call without a line is met by its name
     alone, and not by its caller's."""
     record(SOURCE)
@@ -182,7 +185,7 @@ def judge_lost(racebench):
             raise Wrong(f"{text}is answered {out}{err}")
 
 
-def judge_apart(racebench, c):
+def judge_apart(racebench: str, c: str) -> None:
     """A block that is published without a lock: the race of the pointer is shown. The report on the block names the
     line of its malloc, but the trace has no access there, so that pair is not called apart."""
     source = os.path.join(SOURCES, "published.c")
@@ -217,7 +220,7 @@ SUMMARY: ThreadSanitizer: data race ordered.c:8 in main
 """
 
 
-def judge_ordered(racebench):
+def judge_ordered(racebench: str) -> None:
     """The trace lacks what forks and joins order. A report on it is apart by the file beside the trace, and not met
     without; the file of another trace is refused."""
     with open("ordered.c", "w", encoding="ascii") as source, open("report", "w", encoding="ascii") as report:
@@ -241,7 +244,7 @@ def judge_ordered(racebench):
     os.unlink("count.std.ordered")
 
 
-def judge_reports(racebench, c):
+def judge_reports(racebench: str, c: str) -> None:
     judge_blanks(racebench, c)
     record(SOURCE)
     report = tsan_report(c)
@@ -260,22 +263,19 @@ def judge_reports(racebench, c):
             raise Wrong("a report is answered by the trace of another program")
 
 
-def judge_valgrind(racebench):
+def judge_valgrind(racebench: str) -> None:
     record(SOURCE)
-    for tool, arguments in (
-        ("helgrind", []),
-        ("helgrind", ["--xml=yes", "--xml-file=report.xml"]),
-        ("drd", ["--xml=yes", "--xml-file=report.xml"]),
-    ):
-        report = valgrind_report(tool, arguments)
-        judge_report(racebench, report)
+    as_xml = ["--xml=yes", "--xml-file=report.xml"]
+    judge_report(racebench, valgrind_report("helgrind", []))
+    for tool in ("helgrind", "drd"):
+        judge_report(racebench, valgrind_report(tool, as_xml))
     in_header = rb"   at \1: push_back (stl_vector.h:1278)\n==1==    by \1: \2"
     report = re.sub(rb"   at (0x\w+): (\w+ \(count.c:\d+\))", in_header, valgrind_report("helgrind", []))
     judge_report(racebench, report)
-    judge_cuts(racebench, valgrind_report("helgrind", ["--xml=yes", "--xml-file=report.xml"]))
+    judge_cuts(racebench, valgrind_report("helgrind", as_xml))
 
 
-def judge_variables():
+def judge_variables() -> None:
     for name, wanted in VARIABLES.items():
         if matching.variable_of(name) != wanted:
             raise Wrong(f"the variable of {name} is {matching.variable_of(name)!r}, and not {wanted!r}")
@@ -284,9 +284,9 @@ def judge_variables():
             raise Wrong(f"a report of {variable} is not one of shop::pool.stopping_")
 
 
-def cases(racebench, c):
+def cases(racebench: str, c: str) -> list[Case]:
     """The cases of a compiler; those of valgrind come with gcc's."""
-    found = [(f"reports of ThreadSanitizer, {c}", judge_reports, (racebench, c))]
+    found: list[Case] = [(f"reports of ThreadSanitizer, {c}", judge_reports, (racebench, c))]
     found += [("variables of reports", judge_variables, ())] if c == "gcc" else []
     if c == "gcc" and shutil.which("valgrind"):
         found.append(("reports of Helgrind and DRD", judge_valgrind, (racebench,)))

@@ -14,9 +14,10 @@ import subprocess
 import sys
 import tempfile
 import time
+from collections.abc import Callable, Mapping, Sequence
 
 import raw_words
-from judging import Wrong
+from judging import Case, Wrong
 from recorded_places import AGAIN, PATIENCE
 
 TOP = os.path.dirname(os.path.dirname(os.path.abspath(__file__)))
@@ -43,25 +44,29 @@ int main(int count, char **words) {
 """
 
 
-def ran(command, wanted=0, **more):
-    done = subprocess.run(command, capture_output=True, timeout=PATIENCE, check=False, **more)
+# The words of a record; those that a clock answered have no answer here.
+Record = tuple[int, ...]
+
+
+def ran(command: Sequence[str], wanted: int | None = 0, env: Mapping[str, str] | None = None) -> tuple[str, str]:
+    done = subprocess.run(command, capture_output=True, timeout=PATIENCE, check=False, env=env)
     out, errors = done.stdout.decode(errors="replace"), done.stderr.decode(errors="replace")
     if wanted is not None and done.returncode != wanted:
         raise Wrong(f"{' '.join(command)}: status {done.returncode}, and not {wanted}: {errors[:600]}")
     return out, errors
 
 
-def compiled(text, *options, to="program", by="cc", wanted=0):
+def compiled(text: str, *options: str, to: str = "program", by: str = "cc", wanted: int = 0) -> tuple[str, str]:
     with open("source.c", "w", encoding="ascii") as source:
         source.write(text)
     return ran([os.path.join(RECORD, by), *options, "source.c", "-o", to], wanted)
 
 
-def recorded(*arguments, wanted=0, **more):
-    return ran([os.path.join(RECORD, "run"), *arguments], wanted, **more)
+def recorded(*arguments: str, wanted: int = 0) -> tuple[str, str]:
+    return ran([os.path.join(RECORD, "run"), *arguments], wanted)
 
 
-def raw_records(command, seed):
+def raw_records(command: Sequence[str], seed: int) -> list[Record]:
     """The records of a run in which no thread lost its turn by force, if a busy machine lets one of some runs be so."""
     for _ in range(AGAIN):
         records, was_forced = raw_run(command, seed)
@@ -70,7 +75,7 @@ def raw_records(command, seed):
     return records
 
 
-def raw_run(command, seed):
+def raw_run(command: Sequence[str], seed: int) -> tuple[list[Record], int]:
     """The records of a run, without its trace: for each its thread, clock, kind and place, and the rest if no clock
     answered it. Also how many turns were taken by force."""
     with tempfile.TemporaryFile() as file:
@@ -89,21 +94,19 @@ def raw_run(command, seed):
     return records, head[raw_words.FORCED_AT]
 
 
-def judge_same_runs(c):
+def judge_same_runs(c: str) -> None:
     """The same seed gives the same records, for each kind of synchronization; and another seed can give others."""
     ran(
         [os.path.join(RECORD, "cc"), "-O1", os.path.join(SOURCES, "kinds.c"), "-o", "kinds"],
         env=dict(os.environ, RECORD_CC=c),
     )
     kinds = ran(["./kinds"])[0].split()
-    differ = sum(
-        is_run_of_its_seed(kind, lambda seed, command=("./kinds", kind): raw_records(command, seed)) for kind in kinds
-    )
+    differ = sum(is_run_of_its_seed(kind, functools.partial(raw_records, ("./kinds", kind))) for kind in kinds)
     if len(kinds) < 22 or differ < len(kinds) // 2:
         raise Wrong(f"of {len(kinds)} kinds {differ} differ by another seed")
 
 
-def is_run_of_its_seed(name, record):
+def is_run_of_its_seed(name: str, record: Callable[[int], object]) -> bool:
     """Ten recordings of a seed are one; whether another seed gives another one."""
     first = record(1)
     others = sum(record(1) != first for _ in range(RUNS - 1))
@@ -112,7 +115,7 @@ def is_run_of_its_seed(name, record):
     return record(2) != first
 
 
-def undisturbed(*arguments):
+def undisturbed(*arguments: str) -> str:
     """The trace of a run in which no thread lost its turn by force, if a busy machine lets one of some runs be so."""
     for _ in range(AGAIN):
         trace, errors = recorded(*arguments)
@@ -121,7 +124,7 @@ def undisturbed(*arguments):
     return trace
 
 
-def judge_same_teams(c):
+def judge_same_teams(c: str) -> None:
     """The same of OpenMP, by the traces: where the library's threads have their stacks is the system's choice."""
     if c != "gcc":
         return
@@ -130,12 +133,12 @@ def judge_same_teams(c):
         raise Wrong("teams.c is one recording with both seeds")
 
 
-def judge_ends(c):
+def judge_ends(c: str) -> None:
     """The ending of the program is always printed, and its status is passed on with `--status`."""
     compiled(TWO_THREADS, by="cc")
-    for options, status, expected in (([], 0, "status 7"), (["--status"], 7, "status 7")):
-        out, errors = recorded(*options, "./program", wanted=status)
-        if f"the program ended with {expected}" not in errors or out.count("\n") < 6:
+    for has_status in (False, True):
+        out, errors = recorded(*["--status"] * has_status, "./program", wanted=7 * has_status)
+        if "the program ended with status 7" not in errors or out.count("\n") < 6:
             raise Wrong(f"a program that ended with 7: {errors}{out}")
     out, errors = recorded("--status", "./program", "crash", wanted=128 + signal.SIGABRT)
     if "ended by signal 6 (SIGABRT)" not in errors or "|w(x)|" not in out:
@@ -146,7 +149,7 @@ def judge_ends(c):
         raise Wrong(f"a program without a second thread: {out}{errors}")
 
 
-def judge_hooks(c):
+def judge_hooks(c: str) -> None:
     """Link-time optimization takes no hooks out, other sanitizers are refused, and a program without hooks is not
     recorded."""
     compiled(TWO_THREADS, "-flto", "-O2", by="cc")
@@ -164,7 +167,7 @@ def judge_hooks(c):
         raise Wrong(f"a program without hooks: {errors}{out}")
 
 
-def judge_arguments(c):
+def judge_arguments(c: str) -> None:
     """A source is known by -x too, in one argument or in two; arguments come from a file; and an option that chooses
     the linker is for the link alone, since build systems read it in what the compiler prints of its calls."""
     environment = dict(os.environ, RECORD_CC=c)
@@ -203,7 +206,7 @@ USAGES = [
 ]
 
 
-def judge_usages(_):
+def judge_usages(_: str) -> None:
     """The usage of a command is whole, and an error names the arguments of the usage."""
     for name, usage, lacking in USAGES:
         _, errors = ran([os.path.join(RECORD, name)], wanted=2)
@@ -224,7 +227,7 @@ NUMBERS = [
 ]
 
 
-def judge_numbers(_):
+def judge_numbers(_: str) -> None:
     """A number that is too small or too large is refused, and nothing is run."""
     for name, number, reason in NUMBERS:
         errors = ran([os.path.join(RECORD, "run"), f"{name}={number}", "false"], 2)[1]
@@ -232,7 +235,7 @@ def judge_numbers(_):
             raise Wrong(f"{name}={number}: {errors}")
 
 
-def judge_closed(_):
+def judge_closed(_: str) -> None:
     """Without standard output nothing is run, and a line says why."""
     compiled(TWO_THREADS)
     for command in (["run", "./program"], ["reported", "report", "trace"]):
@@ -244,7 +247,7 @@ def judge_closed(_):
             raise Wrong(f"{command} without standard output: {done.returncode} {done.stderr!r}")
 
 
-def judge_language(_):
+def judge_language(_: str) -> None:
     """A link of C++ by the compiler of C fails, and the other compiler is named. A fault of a program in C names
     none."""
     text = "#include <thread>\nint main() { std::thread([] {}).join(); return 0; }\n"
@@ -269,7 +272,7 @@ FULL_DISK = """mount -t tmpfs -o size=%s none small 2>/dev/null || exit 99
 TMPDIR=$PWD/small exec %s ./program"""
 
 
-def judge_full_disk(c):
+def judge_full_disk(c: str) -> None:
     """A folder without room for the records leads to a message, and no empty trace is written."""
     compiled(TWO_THREADS, by="cc")
     os.mkdir("small")
@@ -288,7 +291,7 @@ def judge_full_disk(c):
         raise Wrong(f"a full disk: status {done.returncode}: {errors}{done.stdout.decode(errors='replace')}")
 
 
-def judge_killed(c):
+def judge_killed(c: str) -> None:
     """A run that is killed leaves neither a file nor its program."""
     compiled('#include <unistd.h>\nint main(void) { write(1, "on\\n", 3); for (;;) pause(); }\n')
     os.mkdir("records")
@@ -299,10 +302,12 @@ def judge_killed(c):
         stderr=subprocess.PIPE,
         env=dict(os.environ, TMPDIR=os.path.abspath("records")),
     )
+    assert started.stderr
     started.stderr.readline()
     started.kill()
     started.wait()
-    here, end = True, time.monotonic() + PATIENCE
+    end = time.monotonic() + PATIENCE
+    here = ["the program"]
     while here and time.monotonic() < end:
         time.sleep(0.1)
         here = [pid for pid in filter(str.isdigit, os.listdir("/proc")) if is_ours(pid)]
@@ -311,7 +316,7 @@ def judge_killed(c):
     started.stderr.close()
 
 
-def judge_group(c):
+def judge_group(c: str) -> None:
     """A signal to the whole group of processes, as `timeout` sends it, ends the program and not what works up its
     records."""
     compiled(
@@ -321,13 +326,14 @@ def judge_group(c):
     )
     command = [os.path.join(RECORD, "run"), "./program", "waits"]
     started = subprocess.Popen(command, stdout=subprocess.PIPE, stderr=subprocess.PIPE, start_new_session=True)
+    assert started.stderr
     started.stderr.readline()
     for _ in range(2):
         os.killpg(started.pid, signal.SIGTERM)
         time.sleep(0.05)
     out, errors = started.communicate(timeout=PATIENCE)
     if b"ended by signal 15 (SIGTERM)" not in errors or b"recorded" not in errors or out.count(b"\n") < 6:
-        raise Wrong(f"a group that is ended: {errors}{out}")
+        raise Wrong(f"a group that is ended: {errors!r}{out!r}")
 
 
 # Has record/running.py run a program, and sends it a signal before it comes to anything else. A caller such as `nohup`
@@ -345,7 +351,7 @@ print(*running.run(sys.argv[3:], dict(os.environ), None))
 """
 
 
-def judge_at_once(_):
+def judge_at_once(_: str) -> None:
     """A signal that comes as soon as the program has begun is passed on, and a key ends the program alone."""
     for number, command, ended in (
         (signal.SIGTERM, ["sleep", str(PATIENCE)], -signal.SIGTERM),
@@ -358,14 +364,14 @@ def judge_at_once(_):
             raise Wrong(f"signal {number} at once: {out}{errors}")
 
 
-def is_ours(pid):
+def is_ours(pid: str) -> bool:
     try:
         return os.readlink(f"/proc/{pid}/exe").startswith(os.path.abspath("program"))
     except OSError:
         return False
 
 
-def judge_once(c):
+def judge_once(c: str) -> None:
     """The recorder is compiled once, and a line says so, also if two clones are called at once."""
     surroundings = dict(os.environ, XDG_CACHE_HOME=os.path.abspath("cache"))
     with open("source.c", "w", encoding="ascii") as source:
@@ -406,5 +412,5 @@ JUDGES = [
 ]
 
 
-def cases(c):
+def cases(c: str) -> list[Case]:
     return [(f"{name}, {c}", functools.partial(judge, c), ()) for name, judge in JUDGES]

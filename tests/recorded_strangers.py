@@ -12,9 +12,11 @@ import os
 import re
 import subprocess
 import sys
+from collections.abc import Iterable, Iterator, Mapping, Sequence
+from typing import Any
 
 import names_of_runs
-from judging import Wrong
+from judging import Case, Wrong
 from recorded_places import PATIENCE, RECORD, SOURCES
 
 FOLDER = os.path.join(SOURCES, "strangers")
@@ -84,9 +86,13 @@ INPUT = {"input.c": b"a line\n" * 30}
 LONGEST = 300
 
 
-def labels_of(paths):
+# The places of each race, by its label.
+Labels = dict[str, set[str]]
+
+
+def labels_of(paths: Iterable[str]) -> Labels:
     """The places of each race that the lines of sources say."""
-    found = {}
+    found: Labels = {}
     for path in paths:
         with open(path, encoding="utf-8") as text:
             for number, line in enumerate(text, start=1):
@@ -96,16 +102,20 @@ def labels_of(paths):
     return found
 
 
-def ran(command, **more):
+def ran(
+    command: Sequence[str], env: Mapping[str, str] | None = None, text: bytes | None = None
+) -> tuple[int, str, str]:
     """How a command ended, and what it wrote."""
     try:
-        done = names_of_runs.run(command, capture_output=True, timeout=PATIENCE, check=False, **more)
+        done = names_of_runs.run(command, PATIENCE, env, text=text)
     except subprocess.TimeoutExpired:
         raise Wrong(f"{' '.join(command)}: does not end") from None
     return done.returncode, done.stdout.decode(errors="replace"), done.stderr.decode(errors="replace")
 
 
-def compiled(name, compiler, to, environment=None, folder=FOLDER):
+def compiled(
+    name: str, compiler: str, to: str, environment: Mapping[str, str] | None = None, folder: str = FOLDER
+) -> None:
     """Compiles a program, and what it opens if there is something."""
     flags = COMPILED.get(name, ["-std=c++17"] if name.endswith(".cpp") else [])
     source = os.path.join(folder, name)
@@ -114,20 +124,20 @@ def compiled(name, compiler, to, environment=None, folder=FOLDER):
         raise Wrong(f"{name} is not compiled: {errors[-600:]}")
 
 
-def compiled_twice(name, c, cxx, folder):
+def compiled_twice(name: str, c: str, cxx: str | None, folder: str) -> None:
     """Compiles a program to `plain` and to `program`."""
-    plain, hooked = (cxx, "c++") if name.endswith(".cpp") else (c, "cc")
+    plain, hooked = (cxx or "c++", "c++") if name.endswith(".cpp") else (c, "cc")
     compiled(name, plain, "plain", folder=folder)
     environment = dict(os.environ, RECORD_CC=c, RECORD_CXX=cxx or "")
     compiled(name, os.path.join(RECORD, hooked), "program", environment, folder)
 
 
-def judge_run(name, arguments, seed):
+def judge_run(name: str, arguments: Sequence[str], seed: int) -> None:
     """The recorded program ends as the plain one, and writes the same words in any order; the trace is written."""
     source = INPUT.get(name, b"")
-    plain, *written = ran(["./plain", *arguments], input=source)
+    plain, *written = ran(["./plain", *arguments], text=source)
     recording = [os.path.join(RECORD, "run"), "--seed", str(seed), "--status", "--partial", "./program", *arguments]
-    status, trace, errors = ran(["timeout", str(LONGEST), *recording], input=source)
+    status, trace, errors = ran(["timeout", str(LONGEST), *recording], text=source)
     wanted = plain if plain >= 0 else 128 - plain
     with open("trace.std", "w", encoding="utf-8") as text:
         text.write(trace)
@@ -147,7 +157,7 @@ def judge_run(name, arguments, seed):
         raise Wrong(f"seed {seed}: the library's counts of who waits are in the trace")
 
 
-def races(racebench):
+def races(racebench: str) -> Iterator[tuple[set[str], list[dict[str, Any]]]]:
     """The pairs of places of the races of a trace, with their lines."""
     status, printed, errors = ran([racebench, "triage", "trace.std", "--json"])
     if status:
@@ -158,7 +168,7 @@ def races(racebench):
             yield {access["location"].split(" < ")[0] for access in pair["accesses"]}, pair["accesses"]
 
 
-def met_in(racebench, wanted, name, arguments, seed):
+def met_in(racebench: str, wanted: Labels, name: str, arguments: Sequence[str], seed: int) -> set[str]:
     """The labels of the races of a recording; each race has one."""
     judge_run(name, arguments, seed)
     met = set()
@@ -170,7 +180,7 @@ def met_in(racebench, wanted, name, arguments, seed):
     return met
 
 
-def judge_stranger(racebench, name, c, cxx, folder=FOLDER):
+def judge_stranger(racebench: str, name: str, c: str, cxx: str | None, folder: str = FOLDER) -> None:
     """No recording has a race that is none; all races are met within some seeds."""
     wanted = labels_of([os.path.join(folder, name)])
     compiled_twice(name, c, cxx, folder)
@@ -207,7 +217,7 @@ int main(void) {
 """
 
 
-def judge_defects(racebench, c):
+def judge_defects(racebench: str, c: str) -> None:
     """`judge_stranger` finds what is wrong."""
     for defect, step in DEFECTS.items():
         with open("defective.c", "w", encoding="ascii") as source:
@@ -221,18 +231,19 @@ def judge_defects(racebench, c):
         raise Wrong(f"nothing is wrong with {step}, and it should be: {defect}")
 
 
-def judge_calls(c):
+def judge_calls(c: str) -> None:
     """Calls that were left by longjmp are over: those of later accesses are right."""
     compiled("jumps.c", os.path.join(RECORD, "cc"), "program", dict(os.environ, RECORD_CC=c))
     _, trace, _ = ran([os.path.join(RECORD, "run"), "--all", "./program"])
     calls = {line.split("|", 2)[2] for line in trace.splitlines() if "(racy)" in line}
     with open(os.path.join(FOLDER, "jumps.c"), encoding="ascii") as source:
         line = [text.strip() for text in source].index("touch();") + 1
-    if len(calls) != 1 or not re.fullmatch(rf"jumps\.c:\d+ < touch < work jumps\.c:{line}", *calls):
-        raise Wrong(f"the calls behind a longjmp are {sorted(calls)}")
+    wanted = rf"jumps\.c:\d+ < touch < work jumps\.c:{line}"
+    if len(calls) != 1 or not re.fullmatch(wanted, calls.pop()):
+        raise Wrong(f"the calls behind a longjmp are not {wanted} alone: {trace[-600:]}")
 
 
-def judge_searches(c):
+def judge_searches(c: str) -> None:
     """What a search of the C library calls back is called where the program searches."""
     with open("source.c", "w", encoding="ascii") as source:
         source.write(SEARCHES)
@@ -245,7 +256,7 @@ def judge_searches(c):
         raise Wrong(f"the calls of a search are {sorted(calls)}, and not {sorted(wanted)}: {errors}{notes}")
 
 
-def judge_late(c):
+def judge_late(c: str) -> None:
     """A library that a thread opens late has its lines, also if the program does not end by itself."""
     environment, folder = dict(os.environ, RECORD_CC=c), os.path.join(SOURCES, "late")
     library = ["-fPIC", "-shared", os.path.join(folder, "plugin.c"), "-Wl,--no-undefined,-z,defs", "-oplugin.so"]
@@ -259,7 +270,7 @@ def judge_late(c):
         raise Wrong(f"status {status}, and the places in a library that is opened late are {sorted(places)}: {errors}")
 
 
-def judge_waves(c):
+def judge_waves(c: str) -> None:
     """What the C library takes and gives back for threads, as they begin and are joined, is no variable of the
     trace."""
     with open("waves.c", "w", encoding="ascii") as source:
@@ -276,7 +287,7 @@ def judge_waves(c):
             raise Wrong(f"seed {seed}: blocks of the C library: {strange[:3]}: {errors}")
 
 
-def judge_header(c):
+def judge_header(c: str) -> None:
     """A header that is compiled to be read faster is no program, and a program that reads it is recorded."""
     environment = dict(os.environ, RECORD_CC=c)
     with open("all.h", "w", encoding="ascii") as header, open("source.c", "w", encoding="ascii") as source:
@@ -290,7 +301,7 @@ def judge_header(c):
         raise Wrong(f"what is compiled is not there: {os.listdir()}")
 
 
-def judge_own_names(c):
+def judge_own_names(c: str) -> None:
     """What one source of the program defines and another one uses is the program's, also if the recorder stands for a
     function of that name: another function, or a variable. So is what its library defines, and the `regcomp` of a
     library that the linker looks for."""
@@ -309,7 +320,7 @@ def judge_own_names(c):
         raise Wrong(f"the program's own names are not its own: {errors}{notes}{trace}")
 
 
-def judge_memory_names(c):
+def judge_memory_names(c: str) -> None:
     """A variable in a frame has the name of its function, and one in mapped memory that grew where it is that of the
     memory."""
     with open("source.c", "w", encoding="ascii") as source:
@@ -322,7 +333,7 @@ def judge_memory_names(c):
         raise Wrong(f"the names are {sorted(names)}, and not {sorted(wanted)}: {errors}")
 
 
-def judge_regions(c, cxx):
+def judge_regions(c: str, cxx: str) -> None:
     """The functions that a compiler makes of OpenMP's regions and tasks have the names of those around them, and of
     clang's library, whose orders the recorder does not know, it is said so."""
     with open("source.cpp", "w", encoding="ascii") as source:
@@ -344,7 +355,7 @@ def judge_regions(c, cxx):
         raise Wrong(f"the functions of OpenMP are {sorted(names)}: {errors}")
 
 
-def judge_few_files(c):
+def judge_few_files(c: str) -> None:
     """A low limit of open files does not end the recording."""
     compiled("mutex_kinds.c", os.path.join(RECORD, "cc"), "program", dict(os.environ, RECORD_CC=c))
     command = [
@@ -368,13 +379,13 @@ def judge_few_files(c):
         raise Wrong(f"with few files: {notes}{errors}{long_errors}")
 
 
-def has_own_descriptors():
+def has_own_descriptors() -> bool:
     """Whether the system lets a thread have descriptors of its own: Linux 5.9 or newer."""
     ask = "import ctypes; print(ctypes.CDLL(None).syscall(436, 1000, 1001, 2))"
     return ran([sys.executable, "-c", ask])[1] == "0\n"
 
 
-def judge_descriptors(c):
+def judge_descriptors(c: str) -> None:
     """What the recorder opens meanwhile changes no number of a descriptor of the program: its thread beside those of
     the program has its own."""
     if not has_own_descriptors():
@@ -569,13 +580,13 @@ int main(void) {
 """
 
 
-def more_cases(racebench, c, cxx):
+def more_cases(racebench: str, c: str, cxx: str | None) -> list[Case]:
     """Those that each compiler judges: the hooks are its own."""
     names = [name for name in EACH_COMPILER if cxx or name.endswith(".c")]
     return [(f"strangers/{name}, {c}", judge_stranger, (racebench, name, c, cxx)) for name in names]
 
 
-def cases(racebench, c, cxx):
+def cases(racebench: str, c: str, cxx: str | None) -> list[Case]:
     names = sorted(name for name in os.listdir(FOLDER) if name.endswith((".c", ".cpp")))
     names = [name for name in names if (cxx or name.endswith(".c")) and (c == "gcc" or name not in OPENMP)]
     found = [(f"calls behind a jump, {c}", judge_calls), (f"a library that is opened late, {c}", judge_late)]
@@ -584,6 +595,7 @@ def cases(racebench, c, cxx):
     found += [(f"few open files, {c}", judge_few_files), (f"a header for later, {c}", judge_header)]
     found += [(f"descriptors of the recorder, {c}", judge_descriptors), (f"names of its own, {c}", judge_own_names)]
     found += [(f"names of memory, {c}", judge_memory_names)]
-    strangers = [(f"strangers/{name}, {c}", judge_stranger, (racebench, name, c, cxx)) for name in names]
+    strangers: list[Case] = []
+    strangers += [(f"strangers/{name}, {c}", judge_stranger, (racebench, name, c, cxx)) for name in names]
     strangers.append((f"what is wrong with strangers, {c}", judge_defects, (racebench, c)))
     return strangers + [(name, judge, (c,)) for name, judge in found]

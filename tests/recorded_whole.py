@@ -8,8 +8,9 @@ import os
 import re
 import shutil
 import subprocess
+from collections.abc import Sequence
 
-from judging import Wrong
+from judging import Case, Wrong
 from recorded_places import PATIENCE, RECORD, ran
 
 # Two threads that race, and what else the program does.
@@ -64,7 +65,7 @@ int main(int count, char **words) {
 }
 """
 # The options, the word, and what the last line says.
-CAUSES = [
+CAUSES: list[tuple[list[str], str, str]] = [
     ([], "", r"WHOLE"),
     ([], "failed", r"WHOLE"),
     ([], "fork", r"LEFT OUT 1 FROM 0: FORK"),
@@ -89,27 +90,27 @@ USER = PROGRAM.replace("hits++;", "hits = twice(hits) - hits + 1;")
 USER = USER.replace("extern char", "int twice(int n);\nextern char")
 
 
-def write(name, text):
+def write(name: str, text: str) -> None:
     with open(name, "w", encoding="ascii") as source:
         source.write(text)
 
 
-def judge_run(arguments, last, wanted):
+def judge_run(arguments: Sequence[str], last: str, wanted: int) -> None:
     """A run has this last line and this status, and with --partial the same last line and the status 0."""
-    for partial, status in (([], wanted), (["--partial"], 0)):
-        command = [os.path.join(RECORD, "run"), *partial, *arguments]
+    for partial, status in ((False, wanted), (True, 0)):
+        command = [os.path.join(RECORD, "run"), *["--partial"] * partial, *arguments]
         done = subprocess.run(command, capture_output=True, timeout=PATIENCE, check=False)
         trace, notes = done.stdout.decode(), done.stderr.decode(errors="replace")
         ends = re.search(rf"\nrecording\|end\({last}\)\|\n\Z", trace)
         if not trace.startswith("recording|begin(RECORDED)|\n") or not ends:
             raise Wrong(f"{arguments}: the last line is {trace.splitlines()[-1:]}, and not {last}: {notes}")
         if done.returncode != status:
-            raise Wrong(f"{arguments} {partial}: status {done.returncode}, and not {status}: {notes}")
+            raise Wrong(f"{command}: status {done.returncode}, and not {status}: {notes}")
         if ("the recording is not whole" in notes) != (status == 4):
-            raise Wrong(f"{arguments} {partial}: {notes}")
+            raise Wrong(f"{command}: {notes}")
 
 
-def judge_causes(c):
+def judge_causes(c: str) -> None:
     """Each cause is in the last line, and makes the status 4 unless --partial allows it."""
     write("program.c", PROGRAM)
     ran([os.path.join(RECORD, "cc"), "-O1", "program.c", "-o", "program"], env=dict(os.environ, RECORD_CC=c))
@@ -125,7 +126,7 @@ def judge_causes(c):
         raise Wrong(f"a program of one thread: {done}")
 
 
-def judge_linked(c):
+def judge_linked(c: str) -> None:
     """Objects, members of archives and libraries without hooks are counted, and only if the program has them."""
     write("part.c", LIBRARY)
     write("unused.c", "int unused(void) { return 1; }\n")
@@ -155,7 +156,7 @@ def judge_linked(c):
     judge_run(["./program"], "WHOLE", 0)
 
 
-def judge_small_disk(c):
+def judge_small_disk(c: str) -> None:
     """A disk that becomes full ends the recording, and the last line says so."""
     write("program.c", PROGRAM.replace("k < 20", "k < 100000"))
     ran([os.path.join(RECORD, "cc"), "-O1", "program.c", "-o", "program"], env=dict(os.environ, RECORD_CC=c))
@@ -171,7 +172,7 @@ def judge_small_disk(c):
         raise Wrong(f"a full disk: status {done.returncode}: {done.stdout[-200:]!r} {done.stderr!r}")
 
 
-def judge_broken(racebench, c):
+def judge_broken(racebench: str, c: str) -> None:
     """A decoder that is killed leaves no last line."""
     write("program.c", PROGRAM.replace("k < 20", "k < 200000"))
     ran([os.path.join(RECORD, "cc"), "-O1", "program.c", "-o", "program"], env=dict(os.environ, RECORD_CC=c))
@@ -184,8 +185,8 @@ def judge_broken(racebench, c):
         raise Wrong(f"a trace that nobody reads: {first!r}, status {status}")
 
 
-def cases(racebench, c):
-    found = [
+def cases(racebench: str, c: str) -> list[Case]:
+    found: list[Case] = [
         (f"causes of a recording that is not whole, {c}", judge_causes, (c,)),
         (f"a disk that becomes full, {c}", judge_small_disk, (c,)),
         (f"a trace that breaks off, {c}", judge_broken, (racebench, c)),
