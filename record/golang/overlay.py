@@ -301,7 +301,12 @@ def scheduler(root: str) -> Iterator[Source]:
     )
     source.pattern(
         r"(\t\t\t\t)(preemptone\((\w+)\)\n)(\t\t\t\t// In case of syscall)",
-        r"\1if raceseed == 0 {\n\1\2\1} else if pd.schedwhen+raceforceNS <= now {\n\1	raceforce(\3)\n\1}\n\4",
+        r"\1if raceseed == 0 {\n\1\2\1} else {\n\1	raceforce(\3)\n\1}\n\4",
+    )
+    # A goroutine in a system call keeps the processor while its thread can run. So time decides nothing.
+    source.pattern(
+        r"(\t\t\tif runqempty\((\w+)\) && .*\+10\*1000\*1000 > now \{\n\t\t\t\tcontinue\n\t\t\t\}\n)",
+        r"\1\t\t\tif raceseed != 0 && !raceblocked(\2) {\n\t\t\t\tcontinue\n\t\t\t}\n",
     )
     planned(source)
     asleep(source)

@@ -9,11 +9,13 @@
 #include <dirent.h>
 #include <fcntl.h>
 #include <stdint.h>
+#include <stdio.h>
 #include <stdlib.h>
 #include <string.h>
 #include <sys/mman.h>
 #include <sys/resource.h>
 #include <sys/statvfs.h>
+#include <time.h>
 #include <unistd.h>
 
 typedef uint8_t u8;
@@ -261,9 +263,36 @@ void __record_seed(u64 *seed, u64 *scheduler) {
     *scheduler = drawn() | 1;
 }
 
-// The goroutine that runs was stopped by force.
-void __record_forced(void) {
-    if (!off) header->forced++;
+// The processor time of a thread of this process, in nanoseconds; Linux makes the number of its clock so.
+static u64 time_of(u64 thread) {
+    struct timespec t;
+    return clock_gettime(~(clockid_t)thread * 8 | 6, &t) ? 0 : (u64)t.tv_sec * 1000000000 + (u64)t.tv_nsec;
+}
+
+// Whether the goroutine that runs on a thread must be stopped, since it had so much processor time in this turn. A
+// thread of a busy machine that waits for a processor has none.
+void __record_force(u64 *answer, u64 thread, u64 turn, u64 longest) {
+    static u64 since, of_thread, of_turn;
+    u64 spent = time_of(thread);
+    *answer = 0;
+    if (of_thread != thread || of_turn != turn || spent < since) {
+        of_thread = thread, of_turn = turn, since = spent;
+    } else if (spent - since >= longest) {
+        since = spent, *answer = 1;
+        if (!off) header->forced++;
+    }
+}
+
+// Whether a thread waits in a system call, and not just for a processor.
+void __record_blocked(u64 *answer, u64 thread) {
+    char text[512];
+    snprintf(text, sizeof text, "/proc/self/task/%u/stat", (unsigned)thread);
+    int stat = open(text, O_RDONLY | O_CLOEXEC);
+    ssize_t n = stat < 0 ? 0 : read(stat, text, sizeof text - 1);
+    if (stat >= 0) close(stat);
+    text[n > 0 ? n : 0] = 0;
+    char *name_end = strrchr(text, ')');
+    *answer = !name_end || strncmp(name_end, ") R", 3);
 }
 
 // Go's scheduler takes the program for ended: this call must not return.
