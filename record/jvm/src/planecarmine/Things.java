@@ -22,7 +22,7 @@ final class Things {
         /** The object that has the order of this one: the collection of a view, the lock of a condition. */
         Thing base;
         /** What a future comes from: the work, and other futures. */
-        Object[] sources;
+        Thing[] sources;
         /** The threads that did work of this executor. */
         java.util.TreeSet<Integer> doneBy;
         /** A reader-writer lock; a future that was completed by a call. */
@@ -46,25 +46,17 @@ final class Things {
     private static int used, last;
     private static final HashMap<Class<?>, Integer> types = new HashMap<>();
 
-    /** The thing of an object that the thread met last, or of any other. */
+    /** The thing of an object that the thread met last, or of any other. The thread keeps no object, since the program
+     * may wait until one is collected. */
     static Thing of(Turns.T t, Object o) {
-        if (o == t.firstObject) return t.firstThing;
-        if (o == t.secondObject) {
-            Thing found = t.secondThing;
-            t.secondObject = t.firstObject;
-            t.secondThing = t.firstThing;
-            t.firstObject = o;
-            t.firstThing = found;
-            return found;
-        }
-        Thing found = found(o);
+        Thing first = t.firstThing, found = t.secondThing;
+        if (first != null && first.refersTo(o)) return first;
+        if (found == null || !found.refersTo(o)) found = found(o);
         if (found == null) {
             found = made(o);
             Store.put(t, Kinds.MET, found.number, type(o), 0);
         }
-        t.secondObject = t.firstObject;
-        t.secondThing = t.firstThing;
-        t.firstObject = o;
+        t.secondThing = first;
         t.firstThing = found;
         return found;
     }

@@ -42,7 +42,7 @@ final class Turns {
         int node, writtenNode, site;
         Calls.Cache calls = new Calls.Cache();
         boolean[] uses = new boolean[64];
-        Object firstObject, secondObject;
+        /** What it met last, and before that. */
         Things.Thing firstThing, secondThing;
         /** Its clock: how many records it has made. A followed run lets it pass the record with this clock early. */
         long ticks, mayPass;
@@ -382,7 +382,6 @@ final class Turns {
 
     /** A thread has ended: what it remembered goes. */
     static void forget(T t) {
-        t.firstObject = t.secondObject = null;
         t.firstThing = t.secondThing = null;
         t.calls = new Calls.Cache(1);
         t.uses = new boolean[1];

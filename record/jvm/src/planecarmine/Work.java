@@ -71,22 +71,23 @@ final class Work {
     static void link(Turns.T t, Object result, ArrayList<Object> from) {
         if (!(result instanceof Future)) return;
         Things.Thing f = Things.of(t, result);
-        if (f.sources == null && !from.isEmpty()) f.sources = from.toArray();
+        if (f.sources != null || from.isEmpty()) return;
+        f.sources = new Things.Thing[from.size()];
+        for (int k = 0; k < f.sources.length; k++) f.sources[k] = Things.of(t, from.get(k));
     }
 
     /** A thread has the result of a future. */
     static void takeResult(Turns.T t, Object future, int site) {
-        IdentityHashMap<Object, Boolean> seen = new IdentityHashMap<>();
-        ArrayList<Object> left = new ArrayList<>();
-        left.add(future);
+        IdentityHashMap<Things.Thing, Boolean> seen = new IdentityHashMap<>();
+        ArrayList<Things.Thing> left = new ArrayList<>();
+        left.add(Things.of(t, future));
         boolean isKnown = false;
         while (!left.isEmpty()) {
-            Object at = left.remove(left.size() - 1);
-            if (at == null || seen.put(at, true) != null) continue;
-            Things.Thing x = Things.of(t, at);
+            Things.Thing x = left.remove(left.size() - 1);
+            if (seen.put(x, true) != null) continue;
             take(t, x, site);
-            isKnown |= at instanceof Job || x.hasPassed;
-            if (x.sources != null) for (Object one : x.sources) left.add(one);
+            isKnown |= Job.class.isAssignableFrom(x.type) || x.hasPassed;
+            if (x.sources != null) for (Things.Thing one : x.sources) left.add(one);
         }
         if (!isKnown) gather(t, site);
     }
@@ -148,7 +149,7 @@ final class Work {
         /** A function that answers with a future: what comes of it comes of that one too. */
         Object of(Object result) {
             Turns.T t = result instanceof Future ? Turns.keep() : null;
-            if (t != null) Things.of(t, this).sources = new Object[] {result};
+            if (t != null) Things.of(t, this).sources = new Things.Thing[] {Things.of(t, result)};
             return result;
         }
 
