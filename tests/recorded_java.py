@@ -30,7 +30,7 @@ SOURCES = os.path.join(TOP, "tests", "recorded", "java")
 PATIENCE = 600
 SEEDS = range(1, 11)
 # The programs, and what each gets.
-PLAIN = "Counter Guarded Hidden Published Waiting Locks Checked Abba Pool Collected".split()
+PLAIN = "Counter Guarded Hidden Published Waiting Locks Checked Abba Pool Collected Queued".split()
 CLASSICS = "account airline bubblesort pingpong producers mergesort critical matrix".split()
 PROGRAMS: list[tuple[str, list[str]]] = [(name, []) for name in PLAIN]
 PROGRAMS += [("Classics", [name, "6"]) for name in CLASSICS]

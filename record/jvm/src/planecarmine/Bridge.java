@@ -1,6 +1,9 @@
 package planecarmine;
 
 import java.util.ArrayList;
+import java.util.Collection;
+import java.util.List;
+import java.util.Set;
 import java.util.concurrent.TimeUnit;
 
 /** Calls of the library: each goes by a bridge, a method that the agent adds to the class of the program. It calls
@@ -89,6 +92,28 @@ public final class Bridge {
         if (!Turns.on || Turns.keep() == null) return;
         if (what instanceof InterruptedException) Work.takeInterrupt(call.t, call.site);
         call.row.threw(call);
+    }
+
+    /** The methods that say who waits for a lock, a permit or a condition. */
+    static final Set<String> ASK_WHO_WAITS = Set.of("hasQueuedThreads", "hasQueuedThread", "getQueueLength",
+            "getQueuedThreads", "hasWaiters", "getWaitQueueLength", "getWaitingThreads");
+
+    /* The library's answer, and the threads that wait in a hook. */
+
+    public static boolean answer(boolean is, Call call) { return is || !waiting(call).isEmpty(); }
+    public static int answer(int count, Call call) { return count + waiting(call).size(); }
+
+    public static Collection<Thread> answer(Collection<Thread> threads, Call call) {
+        List<Thread> all = waiting(call);
+        all.addAll(threads);
+        return all;
+    }
+
+    private static List<Thread> waiting(Call call) {
+        if (call == null || !Turns.on || Turns.keep() == null) return new ArrayList<>();
+        List<Thread> found = Locking.waitingFor(call);
+        if (call.is("hasQueuedThread")) found.removeIf(thread -> thread != call.first);
+        return found;
     }
 
     /** What the library gets instead of work that the program gives it. */

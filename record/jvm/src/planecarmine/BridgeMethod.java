@@ -60,6 +60,7 @@ final class BridgeMethod {
         m.visitMethodInsn(opcode, owner, method, desc, itf);
         m.visitLabel(end);
         after(m);
+        if (asksWhoWaits()) answer(m);
         m.visitInsn(result.getOpcode(IRETURN));
         m.visitLabel(thrown);
         threw(m);
@@ -100,10 +101,19 @@ final class BridgeMethod {
 
     private boolean isTimed() { return desc.contains("Ljava/util/concurrent/TimeUnit;"); }
 
+    private boolean asksWhoWaits() { return !isStatic && Bridge.ASK_WHO_WAITS.contains(method); }
+
+    /** The answer is one of the recorder too. */
+    private void answer(MethodVisitor m) {
+        m.visitVarInsn(ALOAD, call);
+        String d = result.getDescriptor();
+        m.visitMethodInsn(INVOKESTATIC, BRIDGE, "answer", "(" + d + CALL + ")" + d, false);
+    }
+
     /** Whether the recorder looks at the arguments of this call. */
     private boolean passesArguments() {
         boolean looks = isStatic || owner.startsWith("java/util/concurrent/") || owner.startsWith("java/lang/invoke/");
-        if (!looks || owner.contains("/Concurrent")) return false;
+        if (!looks && !asksWhoWaits() || owner.contains("/Concurrent")) return false;
         for (Type t : types) if (t.getSort() >= Type.ARRAY) return true;
         return false;
     }

@@ -71,6 +71,21 @@ final class Locking {
         Turns.unpark(m);
     }
 
+    /** The threads that the library does not know to wait for a lock, a permit or a condition: they wait in a hook. */
+    static ArrayList<Thread> waitingFor(Bridge.Call c) {
+        Things.Thing m = c.thing();
+        if (c.method.contains("Wait")) {
+            Things.Thing queue = c.first == null ? null : Things.of(c.t, c.first);
+            return Turns.those(t -> queue != null && isWaiter(queue, t));
+        }
+        // One that was signaled waits for the lock alone.
+        return Turns.those(t -> t.queuedAt == m || t.needs == m && t.parkedAt == null);
+    }
+
+    private static boolean isWaiter(Things.Thing queue, Turns.T t) {
+        return queue.waiters != null && t.parkedAt != null && queue.waiters.contains(t);
+    }
+
     // ---- wait and notify
 
     /** What a wait keeps while the lock is free. */

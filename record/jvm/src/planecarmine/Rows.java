@@ -60,11 +60,14 @@ final class Rows {
     }
 
     private static final class ReadWrite extends Row {
-        @Override boolean before(Bridge.Call c) { return c.is("readLock") || c.is("writeLock"); }
+        @Override
+        boolean before(Bridge.Call c) {
+            return c.is("readLock") || c.is("writeLock") || Bridge.ASK_WHO_WAITS.contains(c.method);
+        }
 
         @Override
         void after(Bridge.Call c, Object result, boolean isTrue) {
-            if (result == null) return;
+            if (result == null || !c.method.endsWith("Lock")) return;
             c.thing().isReadWrite = true;
             if (Things.of(c.t, result) != c.thing()) Things.of(c.t, result).base = c.thing();
         }

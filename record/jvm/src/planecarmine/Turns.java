@@ -3,6 +3,7 @@ package planecarmine;
 import java.util.ArrayList;
 import java.util.IdentityHashMap;
 import java.util.function.BooleanSupplier;
+import java.util.function.Predicate;
 
 /** One thread of the program runs at a time: the one that has the turn. A thread passes the turn on at a hook now and
  * then, and when it waits for another thread. The seed draws who goes on. */
@@ -25,6 +26,8 @@ final class Turns {
         /** How many makings of classes it is in: the turn may not pass there. */
         int quiet;
         Object parkedAt;
+        /** What it waits for before a call of the library, from which the library does not know that it waits. */
+        Object queuedAt;
         /** If this holds, a parked thread may go on. */
         BooleanSupplier ready;
         /** The monitor that it needs before it goes on: it comes back from a wait. */
@@ -299,11 +302,22 @@ final class Turns {
     /** Waits until something holds that calls of other threads change. */
     static void parkUntil(T t, Object at, BooleanSupplier ready) {
         t.interrupted = Thread.currentThread().isInterrupted();
+        t.queuedAt = at;
         while (on && !ready.getAsBoolean()) {
             t.ready = ready;
             park(t, at);
             t.ready = null;
         }
+        t.queuedAt = null;
+    }
+
+    /** The threads of the program for which this holds. */
+    static ArrayList<Thread> those(Predicate<T> holds) {
+        ArrayList<Thread> found = new ArrayList<>();
+        synchronized (LOCK) {
+            for (T t : threads.values()) if (holds.test(t)) found.add(t.thread);
+        }
+        return found;
     }
 
     static void parkWithout(T t, Object at) {
