@@ -40,6 +40,9 @@ final class Follow {
     private static final Standing[] standing = new Standing[2];
     private static int atStep, stood, heldBack = -1, idle, stuck;
     private static long lastRecords, changed, seenRecords;
+    /** The next thread while nothing is recorded, since when, and the processor time that it had before. */
+    private static Turns.T worker;
+    private static long workerChanged, workerTime;
     /** Whether others may run on, since the thread of the next step waits. */
     private static boolean open;
     private static Map<String, String> classes = Map.of();
@@ -271,11 +274,24 @@ final class Follow {
         if (System.nanoTime() - changed < plan.patience * 1_000_000) return;
         synchronized (Turns.LOCK) {
             Turns.T next = due();
-            if (!on) return;
+            if (!on || isAtWork(next)) return;
             plan.set(Plan.THREAD, plan.thread(atStep));
             boolean waits = next != null && next.parkedAt != null;
             finish(waits ? Plan.WOULD_WAIT : Plan.HANGS, next == null ? 0 : Classes.place(next.lastSite));
         }
+    }
+
+    /** Whether the next thread can run, and had less processor time than the patience: on a busy machine the program may
+     * take long to begin. */
+    private static boolean isAtWork(Turns.T next) {
+        if (next == null || next.parkedAt != null || Watcher.waits(next.thread)) return false;
+        long time = Watcher.timeOf(next.thread);
+        if (worker != next || workerChanged != changed) {
+            worker = next;
+            workerChanged = changed;
+            workerTime = time;
+        }
+        return time - workerTime < plan.patience * 1_000_000;
     }
 
     private static void lookForDeadlock() {

@@ -57,7 +57,8 @@ final class Watcher extends Thread {
         for (StackTraceElement at : thread.getStackTrace()) System.err.println("  at " + at);
     }
 
-    private boolean waits(Thread thread) {
+    /** Whether a thread has nothing to do before something comes. */
+    static boolean waits(Thread thread) {
         Thread.State state = thread.getState();
         if (state != Thread.State.RUNNABLE && state != Thread.State.NEW) return true;
         if (state == Thread.State.NEW) return false;
@@ -65,8 +66,13 @@ final class Watcher extends Thread {
         return stack.length > 0 && stack[0].isNativeMethod() && isInput(stack[0].getClassName());
     }
 
+    /** The processor time of a thread, in nanoseconds. */
+    static long timeOf(Thread thread) {
+        return java.lang.management.ManagementFactory.getThreadMXBean().getThreadCpuTime(thread.getId());
+    }
+
     private boolean computes(Thread thread) {
-        long now = java.lang.management.ManagementFactory.getThreadMXBean().getThreadCpuTime(thread.getId());
+        long now = timeOf(thread);
         if (same == WAITS) time = now;
         return now - time > COMPUTES;
     }
