@@ -25,6 +25,8 @@ if TYPE_CHECKING:
 CLIENTS, PORTS = 32, 65_535
 # So long it may take to end, in seconds.
 ENDING = 30
+# Where a checkout has the program, if it was built there.
+BUILT = os.path.join(os.path.dirname(os.path.realpath(__file__)), "../../crates/racebench/out/racebench")
 
 
 def number_to(least: int, most: int) -> Callable[[str], int]:
@@ -36,6 +38,12 @@ def number_to(least: int, most: int) -> Callable[[str], int]:
         return int(text)
 
     return read
+
+
+def usual_program() -> str | None:
+    """The program of $RACEBENCH, the one that was built beside the screen, or the one on the path."""
+    built = os.path.normpath(BUILT) if os.access(BUILT, os.X_OK) else None
+    return os.environ.get("RACEBENCH") or built or shutil.which("racebench")
 
 
 def read_options() -> argparse.Namespace:
@@ -57,8 +65,8 @@ def read_options() -> argparse.Namespace:
     parser.add_argument(
         "--program",
         metavar="FILE",
-        default=os.environ.get("RACEBENCH") or shutil.which("racebench"),
-        help="the program racebench (default: $RACEBENCH, or racebench on the path)",
+        default=usual_program(),
+        help="the program racebench (default: $RACEBENCH, the one built beside the screen, or racebench on the path)",
     )
     options = parser.parse_args()
     why = wrong(options)
@@ -70,7 +78,7 @@ def read_options() -> argparse.Namespace:
 def wrong(options: argparse.Namespace) -> str | None:
     """Which word names nothing that can be used, if one does."""
     if not options.program:
-        return "racebench is not on the path; name it with --program"
+        return "racebench was not built here and is not on the path; name it with --program"
     if not shutil.which(options.program):
         return f"{options.program} is no program; name one with --program"
     if options.source and not os.path.isdir(options.source):

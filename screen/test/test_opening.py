@@ -136,6 +136,30 @@ def test_wrong_arguments_are_refused_in_a_line(program: str) -> None:
         assert why in done.stderr and len(done.stderr) < 400, done.stderr
 
 
+def test_the_program_is_found_beside_the_screen() -> None:
+    """Of three programs $RACEBENCH comes first, then the one that was built here, then the one on the path."""
+    shutil.copytree(os.path.dirname(SCREEN), "own/screen", ignore=shutil.ignore_patterns("test", "__pycache__"))
+    traces.write("trace", traces.COUNT)
+    here = os.path.abspath(".")
+    for name in ("path/racebench", "own/crates/racebench/out/racebench", "chosen/racebench"):
+        os.makedirs(os.path.dirname(name))
+        traces.write(name, f"#!/bin/sh\necho {name} > {here}/called\nexit 1\n")
+    command = ["/usr/bin/python3", "-B", "own/screen/screen", "trace", "log"]
+    usual = {name: value for name, value in os.environ.items() if name != "RACEBENCH"}
+    for environment, runnable in (
+        ({"RACEBENCH": f"{here}/chosen/racebench"}, "chosen/racebench"),
+        ({"PATH": f"{here}/path"}, "own/crates/racebench/out/racebench"),
+        ({"PATH": f"{here}/path"}, "path/racebench"),
+    ):
+        os.chmod(runnable, 0o755)
+        subprocess.run(command, capture_output=True, check=False, env={**usual, **environment})
+        with open("called", encoding="utf-8") as called:
+            same(called.read(), f"{runnable}\n")
+        os.chmod(runnable, 0o644)
+    done = subprocess.run(command, capture_output=True, text=True, check=False, env={**usual, "PATH": f"{here}/path"})
+    assert done.returncode == 2 and "racebench was not built here and is not on the path" in done.stderr, done.stderr
+
+
 def test_a_log_that_may_not_be_written() -> None:
     """The screen names it. The program would only say that a write failed."""
     shutil.copytree(os.path.dirname(SCREEN), "own", ignore=shutil.ignore_patterns("test", "__pycache__"))
