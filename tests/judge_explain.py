@@ -15,6 +15,7 @@ Says what is wrong, if something is, and ends with status 1 then.
 """
 
 import random
+import re
 import sys
 from collections.abc import Iterable, Sequence
 
@@ -139,7 +140,10 @@ class Judge:
             raise judging.Wrong(f"the schedule is {shown}, and its events are to be {listed}")
         self.judge_script(trace, pair, arguments, shown)
         self.judge_std(trace, arguments, shown + pair)
-        pictured.judge_picture(trace, self.tally, self.printed("witness", "trace", *arguments, "--svg"), pair, shown)
+        picture = self.printed("witness", "trace", *arguments, "--svg")
+        pictured.judge_picture(trace, self.tally, picture, pair, shown)
+        if re.findall(r'<marker id="([^"]*)"', picture) != ["tip"]:
+            raise explained.Wrong("the picture does not have one tip for its arrows")
         return shown
 
     def judge_script(

@@ -76,6 +76,22 @@ esac
 exit $status""",
     "has rules of another level": """right "$@"
 sed 's/"defaultConfiguration":{"level":"error"}/"defaultConfiguration":{"level":"note"}/' "$out"; exit $status""",
+    "draws narrow boxes": r"""right "$@"
+sed 's/\(<rect class="box".* width="\)296"/\1290"/' "$out"; exit $status""",
+    "draws all boxes lower": r"""right "$@"
+perl -pe 's/^<(rect|text) class="\w+" x="\d+" y="\K(\d+)/$2 > 48 ? $2 + 7 : $2/e;
+    s/ d="\K(M\d+ )(\d+)(C\d+ )(\d+)( \d+ )(\d+)( \d+ )(\d+)/
+        $1 . ($2 + 7) . $3 . ($4 + 7) . $5 . ($6 + 7) . $7 . ($8 + 7)/e;
+    s/ viewBox="0 0 (\d+) \K(\d+)" width="(\d+)" height="\d+"/
+        ($2 + 7) . "\" width=\"$3\" height=\"" . ($2 + 7 + int(($2 + 7) \/ 5)) . "\""/e' "$out"
+exit $status""",
+    "begins arrows beside the middle": r"""right "$@"
+perl -pe 's/ d="M\K(\d+)( \d+C)\1 /($1 + 40) . $2 . ($1 + 40) . " "/e' "$out"; exit $status""",
+    "bends no arrow": r"""right "$@"
+sed 's/ d="M\([0-9]*\) \([0-9]*\)C[0-9]* [0-9]* [0-9]* [0-9]* \(.*\)"/ d="M\1 \2C\1 \2 \3 \3"/' "$out"
+exit $status""",
+    "draws arrows without tips": r"""right "$@"
+sed 's/\(<path class="arrow"\) marker-end="url(#tip)"/\1/' "$out"; exit $status""",
     "forgets races before a fault": """right "$@"
 if [ $status -eq 1 ]; then sed -i '/^race /,$d' "$out"; fi
 cat "$out"; exit $status""",
@@ -89,10 +105,15 @@ right() {{ "$program" "$@" > "$out"; status=$?; }}
 """
 # What each judge has to find; the first three are found by each judge that this does not name.
 USUAL = ["prints nothing", "leaves its last line out", "leaves the last digit out"]
+DRAWN = [
+    *["draws narrow boxes", "draws all boxes lower"],
+    *["begins arrows beside the middle", "bends no arrow", "draws arrows without tips"],
+]
 FOUND = {
+    "judge_explain": [*USUAL, *DRAWN],
     "judge_notes": ["prints nothing", "writes a line more on standard error"],
     "judge_package": ["prints nothing", "has other flags"],
-    "judge_page": [*USUAL, "exchanges two meanings"],
+    "judge_page": [*USUAL, "exchanges two meanings", *DRAWN],
     "judge_places": ["prints nothing", "cuts its last argument"],
     "judge_progress": ["writes a line more on standard error"],
     "judge_sarif": [*USUAL, "has one fingerprint for all", "has rules of another level"],

@@ -59,6 +59,7 @@ REACHED = [
     "words of 16,385 bytes",
     "last runs of 4,096 bytes",
     "last runs of 4,097 bytes",
+    "pictures of other names",
     "pictures of 2,000 events",
     "pictures of 2,001 events",
     "pictures of 100 shades",
@@ -99,6 +100,24 @@ class Placed(plain.Trace):
 
     def location(self, event: int) -> str:
         return self.locations[event]
+
+
+def numbered_trace(name: str) -> plain.Trace:
+    """The trace in the file, whose names may have any bytes: each name is the number of the first event that has it.
+    Locations are left out."""
+    numbers: dict[tuple[bytes, bytes], int] = {}
+    events = []
+    with open(name, "rb") as file:
+        lines = file.read().split(b"\n")[:-1]
+    for at, line in enumerate(lines):
+        found = re.fullmatch(rb"([^|]*)\|(\w+)\((.*)\)\|[^|]*", line, re.DOTALL)
+        if not found:
+            raise Wrong(f"line {at + 1} of {name} is no event")
+        thread, word, object_name = found.groups()
+        own = numbers.setdefault((b"thread", thread), at)
+        kind = b"thread" if word in (b"fork", b"join") else b"lock" if word in (b"acq", b"rel") else b"variable"
+        events.append(plain.Event(str(own), word.decode(), str(numbers.setdefault((kind, object_name), at))))
+    return plain.Trace(events)
 
 
 def plain_trace(name: str) -> plain.Trace | None:
@@ -177,6 +196,8 @@ class Judge:
             title = f"A schedule that shows {pair[0]} and {pair[1]}"
             if picture.one("title") != title or picture.one("desc") != pictured.described(listed):
                 raise Wrong(f"the picture of {pair} is {picture.one('title')!r}, {picture.one('desc')!r}")
+            pictured.judge_shapes(numbered_trace(name), picture, pair, listed)
+            self.tally["pictures of other names"] += 1
             return listed
         if len(self.trace.events) <= SMALL:
             if not self.trace.is_reordering(listed) or not self.trace.shows(listed, *pair):
@@ -322,6 +343,8 @@ class Judge:
         self.locations = locations_of(lines)
         root = read(page)
         self.pictures = pictures_of(page)
+        if [marker.attributes.get("id") for marker in root.all("marker")] != ["tip"]:
+            raise Wrong("the page does not have one tip for all arrows")
         self.trace = plain_trace(name)
         blocks = blocks_of(lines[11:])
         races = sum(block.sort == "race" for block in blocks)

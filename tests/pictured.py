@@ -2,7 +2,7 @@
 
 The file must be well formed, with no tag, no attribute and no address but those of a drawing. It is then read as a
 reader sees it: which lines of text lie in which box, in which order the boxes stand, whether each line fits into its
-box, and where the arrows lead.
+box, and where the arrows lead. Then shapes.py judges each box and arrow to the pixel.
 """
 
 from __future__ import annotations
@@ -14,6 +14,7 @@ from typing import NamedTuple
 from xml.etree.ElementTree import Element
 
 import plain
+import shapes
 from explained import WAITS, Pair, count, runs_of, waiters_of
 from judging import Wrong
 from plain import Listed
@@ -394,6 +395,14 @@ def note_kinds(
         tally["accesses under more locks"] += len(trace.locks_before(event)) > MOST_LOCKS
 
 
+def judge_shapes(trace: plain.Trace, picture: Picture, pair: Pair, listed: Listed) -> None:
+    """Judges where each box and arrow of the picture of this schedule stands. Of names only equality counts."""
+    runs, waiters = runs_of(trace, listed), waiters_of(trace, listed)
+    drawn = [runs[number] for number in drawn_of(trace, listed, runs)]
+    boxes = [shapes.Run(run, waiters.get(run[-1])) for run in drawn]
+    shapes.judge_shapes(trace, picture.root, shapes.Schedule(pair, boxes, len(drawn) < len(runs)))
+
+
 def judge_picture(trace: plain.Trace, tally: Counter[str], text: str, pair: Pair, listed: Listed) -> None:
     """Judges the picture of this schedule, which shows the pair."""
     picture = Picture(text)
@@ -420,5 +429,6 @@ def judge_picture(trace: plain.Trace, tally: Counter[str], text: str, pair: Pair
     judge_accesses(trace, picture, pair)
     judge_texts(picture, pair, listed, runs, picture.boxes["box"])
     tally["shades"] += judge_bars(picture, boxes, drawn, has_locks(trace, listed), tally)
+    judge_shapes(trace, picture, pair, listed)
     tally["arrows"] += sum(waiter is not None for waiter in waiters)
     note_kinds(trace, tally, pair, runs, drawn)
