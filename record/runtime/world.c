@@ -44,7 +44,8 @@ AWAITS(pid_t, wait, (int *status), (status), FILLED(status, answer > 0))
 AWAITS(pid_t, waitpid, (pid_t p, int *status, int g), (p, status, g), FILLED(status, answer > 0))
 AWAITS(pid_t, wait3, (int *status, int g, struct rusage *usage), (status, g, usage), ENDED)
 AWAITS(pid_t, wait4, (pid_t p, int *status, int g, struct rusage *usage), (p, status, g, usage), ENDED)
-AWAITS(int, waitid, (idtype_t of, id_t id, siginfo_t *info, int g), (of, id, info, g), FILLED(info, !answer))
+/* The kernel writes `info` also if it found nothing or failed. */
+AWAITS(int, waitid, (idtype_t of, id_t id, siginfo_t *info, int g), (of, id, info, g), FILLED(info, 1))
 AWAITS(int, sigwait, (const sigset_t *s, int *number), (s, number),
        (got_signal(answer ? 0 : *number, PC), FILLED(number, !answer)))
 AWAITS(int, sigwaitinfo, (const sigset_t *s, siginfo_t *info), (s, info),

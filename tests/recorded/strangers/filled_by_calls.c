@@ -20,7 +20,7 @@
 #include <unistd.h>
 static int c11_value, status, number, type, table[4], ends[2];
 static void *tried, *timed, *clocked, *tree;
-static siginfo_t info, ended;
+static siginfo_t info, ended, emptied;
 static struct sockaddr_un address, peer;
 static struct rlimit limit;
 static struct itimerval interval;
@@ -69,6 +69,7 @@ static void waits(void) {
     pid_t one = child(), other = child();
     while (waitpid(one, &status, 0) != one) {} /* RACE g */
     while (waitid(P_PID, (id_t)other, &ended, WEXITED)) {} /* RACE h */
+    if (!waitid(P_PID, (id_t)other, &emptied, WEXITED)) abort(); /* RACE z */
 }
 
 static void asks(void) {
@@ -110,6 +111,7 @@ static void *reads(void *p) {
     n += info.si_signo; /* RACE f */
     n += status; /* RACE g */
     n += ended.si_pid; /* RACE h */
+    n += emptied.si_pid; /* RACE z */
     n += bytes[3]; /* RACE i */
     n += more_bytes[3]; /* RACE j */
     n += address.sun_family; /* RACE k */
