@@ -143,7 +143,7 @@ class Judge:
         picture = self.printed("witness", "trace", *arguments, "--svg")
         pictured.judge_picture(trace, self.tally, picture, pair, shown)
         if re.findall(r'<marker id="([^"]*)"', picture) != ["tip"]:
-            raise explained.Wrong("the picture does not have one tip for its arrows")
+            raise judging.Wrong("the picture does not have one tip for its arrows")
         return shown
 
     def judge_script(
