@@ -176,6 +176,7 @@ def judge_check(racebench: str) -> None:
         r"not judged: (nothing|not whole: seeds \d)",
         r"page: kept/races\.html, code scanning: kept/races\.sarif",
         r"to accept races: choose entries of kept/races\.toml for your file of known races",
+        r"who else uses it: kept/uses\.txt",
         r"next: racebench explain kept/seed-\d\.std \d+ \d+",
     ]
     if len(lines) != len(wanted) or not all(map(re.fullmatch, wanted, lines)):
@@ -188,11 +189,16 @@ def judge_check(racebench: str) -> None:
         found = [json.loads(line) for line in file]
     if len(found) != 4 or any(one["ended"] != "stands" or not os.path.exists(f"kept/{one['trace']}") for one in found):
         raise Wrong(f"what was followed: {found}")
-    ran([racebench, *lines[8].split()[2:]])
+    ran([racebench, *lines[9].split()[2:]])
     with open("kept/races.toml", encoding="ascii") as file:
         entries = file.read()
     if entries.count("[[race]]") < 4:
         raise Wrong(f"four races have fewer entries: {entries}")
+    with open("kept/uses.txt", encoding="ascii") as file:
+        uses = file.read()
+    heads, rows = (re.findall(head, uses, re.MULTILINE) for head in (r"^\S.*", r"^  (?:read|write) .* in the race$"))
+    if len(heads) != 4 or len(rows) < 4 or heads[0] not in lines[3]:
+        raise Wrong(f"who else uses the variables of four races: {uses}")
     lines, _ = check(racebench, "--seeds", "1", "--known", "kept/races.toml", "./tests", wanted=0)
     if lines[1] != "races 4: 0 new, 4 known" or not lines[2].startswith("followed 0: "):
         raise Wrong(f"known races: {lines}")
@@ -211,6 +217,7 @@ def judge_command(racebench: str, command: Sequence[str], source: str, followed:
         r"not judged: nothing",
         r"page: kept/races\.html, code scanning: kept/races\.sarif",
         r"to accept races: choose entries of kept/races\.toml for your file of known races",
+        r"who else uses it: kept/uses\.txt",
         r"next: racebench explain kept/seed-\d\.std \d+ \d+",
     ]
     if len(lines) != len(wanted) or not all(map(re.fullmatch, wanted, lines)):
@@ -220,7 +227,7 @@ def judge_command(racebench: str, command: Sequence[str], source: str, followed:
     with open("kept/races.html", encoding="utf-8") as file:
         if f"{source}:" not in file.read():
             raise Wrong(f"the page of {command} does not name {source}")
-    ran([racebench, *lines[8].split()[2:]])
+    ran([racebench, *lines[9].split()[2:]])
     lines, _ = check(racebench, "--seeds", "1", "--known", "kept/races.toml", *command, wanted=0)
     if lines[1] != "races 1: 0 new, 1 known" or not lines[2].startswith("followed 0: "):
         raise Wrong(f"known races of {command}: {lines}")
