@@ -284,16 +284,25 @@ def loss_of(aim: Aim, events: array[int]) -> Loss | None:
     return Loss(good, bar)
 
 
+def before_refusal(state: State, events: Sequence[int]) -> Sequence[int]:
+    """The first events of a thread, up to one that may not come next. The state is used up."""
+    for at, event in enumerate(events):
+        if not state.may_add(event):
+            return events[:at]
+        state.add(event)
+    return events
+
+
 def reach_of(aim: Aim, events: array[int], thread: int, end: int) -> tuple[int, Bar | None, bool]:
     """How many events of a thread may be added, up to a place in it, so that the aim stays in reach; what would bar
-    it; and whether only the search says so."""
+    it; and whether only the search says so. If one of them is refused, the aim is still in reach before it."""
     state = state_of(aim.trace, events)
     count, bar = aim.steps(state, thread, end)
     start = state.counts[thread]
-    added = aim.trace.events_of[thread][start : start + count]
+    added = before_refusal(state_of(aim.trace, events), aim.trace.events_of[thread][start : start + count])
     if aim.completes(state_of(aim.trace, [*events, *added])) is not False or aim.completes(state) is False:
         return count, bar, False
-    good, bad = 0, count
+    good, bad = 0, len(added)
     while bad - good > 1:
         middle = (good + bad) // 2
         if aim.completes(state_of(aim.trace, [*events, *added[:middle]])) is not False:

@@ -62,7 +62,7 @@ function outOfReach({ length, left, needed, early }) {
   const to = length ? `take back to row ${length - 1}` : "take back all";
   const back = button(to, "", () => later(() => events.backTo(length)));
   back.title = `Takes back ${many(left, "event")}`;
-  return [el("span", "pair-title", title), el("span", "accesses", why), el("span", "do", back)];
+  return [el("span", "pair-title", title), el("span", "accesses", why && el("span", "", why)), el("span", "do", back)];
 }
 
 function more(told) {

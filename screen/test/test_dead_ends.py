@@ -81,6 +81,24 @@ def judge_runs(aim: Aim, events: "array[int]", met: dict[str, int]) -> None:
             assert extensions(trace, aim.pair, [*events, *run]) is None, (list(events), aim.pair, thread, bar)
 
 
+def judge_ends(aim: Aim, events: "array[int]", met: dict[str, int]) -> None:
+    """Where a run ends, also if an event is refused, a way to the aim is left if there was one that the search knew."""
+    trace = aim.trace
+    if not aim.completes(state_of(trace, events)):
+        return
+    for thread, own in enumerate(trace.events_of):
+        state, ended = state_of(trace, events), list(events)
+        done = state.counts[thread]
+        count, _, _ = reach_of(aim, events, thread, len(own))
+        for event in own[done : done + count]:
+            if not state.may_add(event):
+                met["refused"] += len(ended) > len(events)
+                break
+            state.add(event)
+            ended.append(event)
+        assert extensions(trace, aim.pair, ended) is not None, (list(events), aim.pair, thread, ended)
+
+
 def wandered(draw: random.Random, trace: Trace, pair: tuple[int, int]) -> "array[int]":
     """A schedule by chance that has none of the pair."""
     state, events = State(trace), []
@@ -97,6 +115,7 @@ def wandered(draw: random.Random, trace: Trace, pair: tuple[int, int]) -> "array
 def test_what_is_out_of_reach_by_all_orders() -> None:
     """A bar is never wrong, a search that comes through is never wrong, and a loss names a length that is in reach."""
     draw, met = random.Random(20261129), {"in reach": 0, "found": 0, "out of reach": 0, "named": 0, "stopped": 0}
+    met["refused"] = 0
     for _ in range(600):
         trace = drawn(draw, "trace")
         pairs = [(a, b) for b in range(len(trace)) for a in range(b) if trace.conflict(a, b)]
@@ -107,8 +126,27 @@ def test_what_is_out_of_reach_by_all_orders() -> None:
             aim, events = Aim(trace, pair, witness), wandered(draw, trace, pair)
             judge(aim, events, met)
             judge_runs(aim, events, met)
+            judge_ends(aim, events, met)
     assert min(met.values()) > 20, met
     assert met["found"] > 0.95 * met["in reach"] and met["named"] > 0.9 * met["out of reach"], met
+
+
+# T1 takes m and reads what T2 wrote under m. The pair is 8 and 9.
+LOCKED = (
+    "T0|fork(T1)|a:0\nT0|fork(T2)|a:1\nT2|acq(m)|c:0\nT2|w(x)|c:1\nT2|rel(m)|c:2\n"
+    "T1|acq(m)|b:0\nT1|r(x)|b:1\nT1|rel(m)|b:2\nT1|w(y)|b:3\nT0|w(y)|a:2\n"
+)
+
+
+def test_a_run_takes_no_lock_that_a_needed_write_needs() -> None:
+    """T1 may take the lock, but not read. Then T2 could not write any more."""
+    traces.write("trace", LOCKED)
+    trace = Trace("trace").read_at_once()
+    witness = extensions(trace, (8, 9), ())
+    assert witness is not None
+    aim, reader = Aim(trace, (8, 9), witness), trace.thread[5]
+    same(reach_of(aim, array("I", [0, 1]), reader, 3), (0, None, True))
+    same(reach_of(aim, array("I", [0, 1, 2, 3, 4]), reader, 3), (3, None, False))
 
 
 # T1 has to read x before T0 writes it again. The pair is 4 and 5.
@@ -143,6 +181,7 @@ async def test_a_dead_end_has_a_way_back(stage: Stage) -> None:
     await press(page, "e", "1", "1", "1")
     await page.until(f'{PAIR}.startsWith("The aim can\'t be reached any more")')
     assert "it needs 2 T1 r x, which can't come after 3 T0 w x" in await page.run(PAIR), await page.run(PAIR)
+    same(await page.run("document.querySelector('#pair .accesses').children.length"), 1)  # a sentence, not a column
     await page.click("#pair button")
     await page.until(f"{LENGTH} === '2 events' && {PAIR}.startsWith('Side by side')")
     same(logged()[-1], "1 back r4-5")
