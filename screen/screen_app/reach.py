@@ -236,8 +236,16 @@ class Search:
                 return True
             good = [event for event in heads if self.is_safe(event)]
             if not good:
-                return all(counts[thread] >= self.aim.wants[thread] for thread in range(len(counts)))
+                return self.is_there()
             self.take(min(good, key=lambda event: place.get(event, late + event)))
+
+    def is_there(self) -> bool:
+        """Whether both of the pair are next, though the witness may have more events."""
+        forks = self.trace.fork_of
+        return all(
+            self.state.counts[thread] == limit and (thread not in forks or self.state.has(forks[thread]))
+            for thread, limit in self.aim.limits.items()
+        )
 
     def is_safe(self, event: int) -> bool:
         """Whether an event may come next, and takes nothing from events to come."""
