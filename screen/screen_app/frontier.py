@@ -6,10 +6,11 @@ from typing import NamedTuple, cast
 from .bench import Bench
 from .causes import JOIN_EARLY, LOCK_HELD, NOT_FORKED, WRONG_WRITER, Causes
 from .checked import Mistake
-from .messages import Ahead, Frontier
+from .messages import Ahead, Frontier, Wait
 from .messages import Next as NextMessage
 from .session import Gone
 from .sheet import Sheet
+from .text import clean
 
 # How often a schedule is requested again if others change it before the answer.
 TRIES = 6
@@ -52,6 +53,7 @@ async def frontier(bench: Bench, name: str, aim: tuple[int, ...]) -> Frontier:
         "length": len(sheet),
         "next": coming,
         "pairs": pairs,
+        "waits": refused_waits(sheet, aim, {one.event: one.cause for one in events}),
         "ended": len(bench.trace.threads.raw) - len(coming),
         "witnessed": aim in bench.witnesses,
     }
@@ -103,6 +105,31 @@ def pairs_of(answer: str) -> list[list[int]]:
     if word != "pairs":
         raise Mistake("no such schedule")
     return [list(map(int, pair.split("-"))) for pair in pairs]
+
+
+def waits_of(sheet: Sheet, requests: tuple[int, ...]) -> list[Wait]:
+    """What the requests of a deadlock wait for after a schedule. Nothing if one is not next in its thread, or if no
+    thread of another one holds its lock."""
+    trace, found = sheet.trace, []
+    threads = {trace.thread[event]: trace.index(event) for event in requests}
+    if not trace.are_requests(requests) or len(threads) < len(requests):
+        return []
+    for event in requests:
+        section = sheet.sections.held.get(trace.name[event])
+        if section is None or section.thread == trace.thread[event] or section.thread not in threads:
+            return []
+        wait = cast(Wait, trace.event_message(event))
+        wait["since"] = trace.event_message(sheet.events[section.begin])
+        found.append(wait)
+    return found if all(sheet.counts[thread] == index for thread, index in threads.items()) else []
+
+
+def refused_waits(sheet: Sheet, aim: tuple[int, ...], causes: dict[int, str | None]) -> list[Wait]:
+    """What the requests of an aim wait for, if the program refuses each because that thread holds its lock."""
+    found = waits_of(sheet, aim)
+    names = sheet.trace.threads
+    said = {one["event"]: f"{LOCK_HELD} lock held by {names.text(one['since']['thread'])}" for one in found}
+    return found if all(clean(causes.get(event) or "") == text for event, text in said.items()) else []
 
 
 def next_message(bench: Bench, sheet: Sheet, event: int, needs: dict[int, int], own: set[int]) -> NextMessage:

@@ -75,6 +75,12 @@ class Next(Event):
     to: NotRequired[int]  # the last event of the thread that the aim needs
 
 
+class Wait(Event):
+    """A request of a deadlock, and what it waits for."""
+
+    since: Event  # the acquire since which another thread of the deadlock holds the lock
+
+
 class Row(TypedDict):
     """A row of a schedule: an event, or a block of events of one thread, which has a size."""
 
@@ -125,6 +131,7 @@ class Frontier(TypedDict):
     length: int
     next: list[Next]
     pairs: list[list[int]]  # pairs that are side by side
+    waits: list[Wait]  # if the aim is a deadlock and the schedule shows it: its requests
     ended: int  # threads without an event to come
     witnessed: bool  # whether the aim's witness is known
     source: NotRequired[dict[str, str]]
@@ -210,7 +217,8 @@ class Reach(TypedDict, total=False):
 
 class Witness(TypedDict):
     pair: list[int]
-    accesses: list[Event]
+    accesses: list[Event]  # of a race; of a deadlock its requests
+    waits: NotRequired[list[Wait]]  # of a deadlock
     none: NotRequired[str]  # why there is no schedule
     length: NotRequired[int]
     source: NotRequired[dict[str, str]]
@@ -242,6 +250,48 @@ Races = TypedDict(
         "counts": NotRequired[dict[str, Any]],
         "kept": NotRequired[int],
         "more": NotRequired[int],  # pairs that are left out
+        "progress": NotRequired[str],
+        "why": NotRequired[str],
+    },
+)
+
+
+class Hold(TypedDict):
+    """An acquire since which a thread holds a lock."""
+
+    event: int
+    lock: str
+    location: str
+
+
+class Request(Hold):
+    """An acquire at which a thread waits."""
+
+    thread: str
+    hold: Hold  # of the lock that the other request acquires
+    holds: list[str]  # other locks of the thread
+
+
+class Deadlock(TypedDict):
+    """A block of `racebench deadlocks`."""
+
+    how: str
+    events: int  # of the schedule that shows it
+    threads: int  # with an event in that schedule
+    requests: list[Request]
+
+
+Deadlocks = TypedDict(
+    "Deadlocks",
+    {
+        "state": str,  # searching, found or failed
+        "total": int,
+        "from": int,
+        "blocks": list[Deadlock],
+        "counts": NotRequired[dict[str, int]],  # as `deadlocks` prints them
+        "missing": NotRequired[str],  # what the recording lacks
+        "kept": NotRequired[int],
+        "more": NotRequired[int],  # deadlocks that are left out
         "progress": NotRequired[str],
         "why": NotRequired[str],
     },
@@ -396,6 +446,7 @@ class AskEnter(TypedDict):
 AskFeed = TypedDict("AskFeed", {"from": int, "count": int})
 AskSince = TypedDict("AskSince", {"from": int})
 AskRaces = TypedDict("AskRaces", {"text": str, "kinds": list[str], "from": int, "count": int})
+AskDeadlocks = TypedDict("AskDeadlocks", {"text": str, "from": int, "count": int})
 
 
 class AskPair(TypedDict):
@@ -427,6 +478,7 @@ REQUESTS: dict[str, tuple[Any, Any]] = {
     "feed": (AskFeed, Feed),
     "since": (AskSince, News),
     "races": (AskRaces, Races),
+    "deadlocks": (AskDeadlocks, Deadlocks),
     "witness": (AskPair, Witness),
     "pair": (AskPair, Accesses),
     "explain": (AskPair, Explanation),
@@ -458,5 +510,6 @@ PUSHES: dict[str, Any] = {
     "fault": FaultPush,
     "names": NamesPush,
     "races": Nothing,  # the list of races is another one
+    "deadlocks": Nothing,  # the list of deadlocks is another one
     "connected": Nothing,  # who reads whom is known
 }

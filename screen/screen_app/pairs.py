@@ -3,29 +3,28 @@
 from __future__ import annotations
 
 import asyncio
-import json
-import sys
+import re
 from array import array
-from collections.abc import Callable
+from collections.abc import Callable, Iterator
 from typing import Any, cast
 from weakref import WeakKeyDictionary
 
 from .bench import Bench
 from .checked import Mistake
+from .findings import UNREAD, Findings, Progress
+from .frontier import waits_of
 from .kept import Confirmed
 from .messages import Explanation, Witness
 from .messages import Races as RacesMessage
 from .session import Gone, Session, output, triage
-from .text import JsonObject, clean
+from .text import JsonObject, Odd, clean, odd
 
 # How many lines of an explanation are shown.
 LINES = 400
 # How many witnesses are kept; each has four bytes an event.
 WITNESSES = 16
-# Seconds between two messages about the progress of the look for races.
-OFTEN = 0.5
-# What comes of a line that is no block of races.
-UNREAD = (ValueError, KeyError, TypeError, AttributeError, RecursionError)
+# The beginning of a line of `witness`: an event's number.
+EVENT = re.compile(rb"(\d{1,9})  ")
 Look = asyncio.Task[tuple[int, bytes, str]]
 
 
@@ -50,10 +49,17 @@ class Pairs:
         if pair[1] >= len(self.bench.trace):
             raise Mistake("no such event")
         message: Witness = {"pair": list(pair), "accesses": [self.bench.trace.event_message(event) for event in pair]}
+        is_deadlock = self.bench.trace.are_requests(pair)
         if pair not in self.bench.witnesses:
-            none = await (self._ask(pair, asker) if self.is_asked else self._run(pair, asker))
+            none = await (self._ask(pair, asker) if self.is_asked and not is_deadlock else self._run(pair, asker))
             if none is not None:
                 message["none"] = clean(none)
+                return message
+        if is_deadlock:
+            message["waits"] = waits_of(self.bench.viewed({"witness": list(pair)})[0], pair)
+            if not message["waits"]:
+                del self.bench.witnesses[pair]
+                message["none"] = "the schedule does not show the deadlock"
                 return message
         message["length"] = len(self.bench.witnesses[pair])
         return message
@@ -79,7 +85,10 @@ class Pairs:
                 del self.looking[asker]
         if status:
             return error.removeprefix("racebench: ")
-        self._keep(pair, array("I", [int(line.split(b" ", 1)[0]) for line in out.splitlines() if line]))
+        try:
+            self._keep(pair, events_of(out, len(self.bench.trace)))
+        except Odd as why:
+            return f"the schedule cannot be read: {why}"
         return None
 
     async def _ask(self, pair: tuple[int, int], asker: object) -> str | None:
@@ -120,43 +129,43 @@ class Pairs:
             await self.looker.stop()
 
 
-class Races:
+def events_of(text: bytes, number: int) -> array[int]:
+    """The events of a schedule that `witness` printed, one a line, of a trace with this number of events."""
+    events = array("I")
+    seen: set[int] = set()
+    for at, line in enumerate(filter(None, text.split(b"\n")), 1):
+        found = EVENT.match(line)
+        event = int(found[1]) if found else number
+        if event >= number or event in seen:
+            raise odd(at, line)
+        seen.add(event)
+        events.append(event)
+    return events
+
+
+class Races(Findings):
     """What `triage` says of the trace, in windows."""
 
     def __init__(self) -> None:
-        self.state: JsonObject = {"state": "searching"}
-        self.kinds: list[str] = []  # of each block
-        self.blocks: list[str] = []  # as JSON, which takes a third of the memory that its parts would
-        self.hays: list[str] = []  # what a filter looks in
+        super().__init__("races")
 
     async def look(self, bench: Bench, changed: Callable[[], None]) -> None:
         """Looks for the races; says when there is something new of how far that is."""
-        loop = asyncio.get_running_loop()
-        due: asyncio.TimerHandle | None = None
-
-        def tell() -> None:
-            nonlocal due
-            due = None
-            changed()
-
-        def hear(progress: str) -> None:
-            nonlocal due
-            self.state["progress"] = progress
-            due = due or loop.call_later(OFTEN, tell)  # sends the last one too, though nothing comes after it
-
+        progress = Progress(self.state, changed)
         confirmed = Confirmed(bench.trace.path).read()
         try:
             counts, more = await triage(
-                bench.program, bench.trace.path, hear, lambda block: self._take(block, confirmed), *bench.decided
+                bench.program,
+                bench.trace.path,
+                progress.hear,
+                lambda block: self._take(block, confirmed),
+                *bench.decided,
             )
-            self.state = {"state": "found", "counts": counts, "kept": len(self.blocks), "more": more}
-        except Gone as why:
-            self.state = {"state": "failed", "why": clean(str(why))}
-        except UNREAD as why:
-            self.state = {"state": "failed", "why": clean(f"the list of races cannot be read: {why!r}")}
+            self.found(more, counts=counts)
+        except (Gone, *UNREAD) as why:
+            self.failed(why)
         finally:
-            if due:
-                due.cancel()
+            progress.stop()
 
     def _take(self, block: dict[str, Any], confirmed: dict[tuple[int, int], JsonObject]) -> None:
         first, second = sorted(access["event"] for access in block["accesses"])
@@ -168,24 +177,14 @@ class Races:
         for access in block["accesses"]:
             access.update({key: clean(access[key]) for key in ("thread", "variable", "location")})
             access["holds"] = [clean(lock) for lock in access["holds"]]
-        self.kinds.append(sys.intern(block["kind"]))
-        self.blocks.append(json.dumps(block, separators=(",", ":")))
-        self.hays.append(hay(block))
+        self.keep(block["kind"], block, texts_of(block))
 
     def window(self, text: str, kinds: list[str], first: int, count: int) -> RacesMessage:
-        if self.state["state"] != "found":
-            return cast(RacesMessage, {**self.state, "total": 0, "from": 0, "blocks": []})
-        words = text.lower().split()
-        found = [
-            at for at, kind in enumerate(self.kinds) if kind in kinds and all(word in self.hays[at] for word in words)
-        ]
-        blocks = [json.loads(self.blocks[at]) for at in found[first : first + count]]
-        return cast(RacesMessage, {**self.state, "total": len(found), "from": first, "blocks": blocks})
+        return cast(RacesMessage, self.chosen(text, kinds, first, count))
 
 
-def hay(block: dict[str, Any]) -> str:
+def texts_of(block: dict[str, Any]) -> Iterator[str]:
     """What a filter looks in."""
-    texts = [block["kind"], block.get("how", "")]
+    yield from (block["kind"], block.get("how", ""))
     for access in block["accesses"]:
-        texts += [access["location"], access["thread"], access["variable"], str(access["event"])]
-    return " ".join(texts).lower()
+        yield from (access["location"], access["thread"], access["variable"], str(access["event"]))

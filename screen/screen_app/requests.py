@@ -6,6 +6,7 @@ from collections.abc import Awaitable, Callable, Iterable, Mapping
 from . import frontier, messages, steps
 from .bench import Bench
 from .checked import Mistake, counted, named, paired
+from .deadlocks import Deadlocks
 from .kept import Names, Seen
 from .news import News
 from .pairs import Pairs, Races
@@ -20,6 +21,8 @@ ROWS, ENTRIES, BLOCKS, UNDONE, NEWS = 400, 300, 200, 4096, 40
 FARTHEST = 64
 # A schedule of more rows has a map at its side.
 MAPPED = 150
+# What is found beside the steps is listed before the trace is read.
+LISTS = ("races", "deadlocks")
 
 
 def places_of(row: messages.Row) -> list[str]:
@@ -31,6 +34,7 @@ class Requests:
     def __init__(self, bench: Bench, races: Races, pairs: Pairs, source: Source, seen: Seen, title: str) -> None:
         self.bench, self.races, self.pairs = bench, races, pairs
         self.source, self.seen, self.title = source, seen, title
+        self.deadlocks = Deadlocks()
         self.fault: str | None = None  # why what is drawn cannot be gone by
         self.link: Callable[[], str] = str
         self.names = Names(bench.mirror.path)
@@ -43,7 +47,7 @@ class Requests:
         )
         if do is None:
             raise Mistake("no such request")
-        if request.get("do") != "races":
+        if request.get("do") not in LISTS:
             await self.is_ready.wait()
         request["asker"] = asker
         return await do(request)
@@ -209,10 +213,11 @@ class Requests:
 
     async def do_enter(self, request: JsonObject) -> messages.Step:
         sheet, _ = self.bench.viewed(request["view"])
-        pair = request["view"].get("witness")
-        return await steps.enter(self.bench, named(request["name"]), sheet.events[:], pair and paired(pair))
+        pair = request["view"].get("witness") and paired(request["view"]["witness"])
+        is_race = pair and not self.bench.trace.are_requests(pair)  # a proposal is of two accesses
+        return await steps.enter(self.bench, named(request["name"]), sheet.events[:], pair if is_race else None)
 
-    # The log and the races.
+    # The log, the races and the deadlocks.
 
     async def do_feed(self, request: JsonObject) -> messages.Feed:
         first, count = counted(request["from"]), min(counted(request["count"]), ENTRIES)
@@ -225,6 +230,10 @@ class Requests:
         kinds = [kind for kind in request["kinds"] if isinstance(kind, str)]
         first, count = counted(request["from"]), min(counted(request["count"]), BLOCKS)
         return self.races.window(str(request.get("text") or ""), kinds, first, count)
+
+    async def do_deadlocks(self, request: JsonObject) -> messages.Deadlocks:
+        first, count = counted(request["from"]), min(counted(request["count"]), BLOCKS)
+        return self.deadlocks.window(str(request.get("text") or ""), first, count)
 
     async def do_witness(self, request: JsonObject) -> messages.Witness:
         message = await self.pairs.witness(paired(request["pair"]), request["asker"])

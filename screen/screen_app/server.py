@@ -257,6 +257,10 @@ class Server:
         await self.races.look(self.bench, lambda: self.push("races", {}))
         self.push("races", {})
 
+    async def look_for_deadlocks(self) -> None:
+        await self.requests.deadlocks.look(self.bench, lambda: self.push("deadlocks", {}))
+        self.push("deadlocks", {})
+
     def beside(self, work: Coroutine[Any, Any, None]) -> None:
         self.tasks.append(asyncio.ensure_future(self._to_its_end(work)))
 
@@ -282,6 +286,7 @@ class Server:
         self.door = Door(self.runner)
         self.guard.port = await self.door.open(port)
         self.beside(self.look_for_races())
+        self.beside(self.look_for_deadlocks())
 
     async def read_trace(self, readers: Readers) -> None:
         """Reads the trace, in turns with all else."""

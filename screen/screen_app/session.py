@@ -5,8 +5,10 @@ import contextlib
 import json
 import re
 from collections import deque
-from collections.abc import AsyncIterator, Callable
+from collections.abc import AsyncGenerator, Callable
 from typing import Any
+
+from .text import Odd
 
 # The longest line that is read from the program: `show` of a million events.
 LINE_LIMIT = 1 << 28
@@ -93,10 +95,10 @@ class Session:
                 await asyncio.wait_for(process.wait(), ENDS)
 
 
-async def started(*command: str, stdin: int = asyncio.subprocess.DEVNULL) -> Process:
+async def started(*command: str, stdin: int = asyncio.subprocess.DEVNULL, limit: int = LINE_LIMIT) -> Process:
     """A process of the program. A program that cannot be started is handled as one that ended."""
     try:
-        return await asyncio.create_subprocess_exec(*command, stdin=stdin, stdout=PIPE, stderr=PIPE, limit=LINE_LIMIT)
+        return await asyncio.create_subprocess_exec(*command, stdin=stdin, stdout=PIPE, stderr=PIPE, limit=limit)
     except OSError as why:
         raise Gone(f"{command[0]} cannot be started: {why.strerror}") from why
 
@@ -146,7 +148,9 @@ async def triage(program: str, trace: str, hear: Hear, take: Take, *arguments: s
     """
     counts: dict[str, Any] = {}
     number = 0
-    async for block in json_lines(hear, program, "triage", trace, "--json", "--apart", "--progress", *arguments):
+    words = ("triage", trace, "--json", "--apart", "--progress", *arguments)
+    async for line in lines_of(hear, LINE_LIMIT, program, *words):
+        block: dict[str, Any] = json.loads(line.decode("utf-8", "replace"))
         if block["kind"] == "counts":
             counts = block
         elif block["kind"] == "known":
@@ -171,14 +175,14 @@ async def heard(process: Process, hear: Hear) -> str:
     return "\n".join(lines)
 
 
-async def json_lines(hear: Hear, *command: str) -> AsyncIterator[dict[str, Any]]:
-    """The JSON lines of a process, as they come."""
-    process = await started(*BEHIND, *command)
+async def lines_of(hear: Hear, limit: int, *command: str) -> AsyncGenerator[bytes, None]:
+    """The lines that a process prints, as they come, without their ends. Each has this many bytes at most."""
+    process = await started(*BEHIND, *command, limit=limit)
     reading = asyncio.ensure_future(heard(process, hear))
     try:
         number = 0
-        async for line in stdout(process):
-            yield json.loads(line.decode("utf-8", "replace"))
+        while line := await line_of(process, limit, number + 1):
+            yield line.removesuffix(b"\n")
             number += 1
             if number % 256 == 0:
                 await asyncio.sleep(0)
@@ -190,3 +194,11 @@ async def json_lines(hear: Hear, *command: str) -> AsyncIterator[dict[str, Any]]
         if process.returncode is None:
             process.kill()
             await process.wait()
+
+
+async def line_of(process: Process, limit: int, number: int) -> bytes:
+    """The next line, which has this number. It is empty after the last one."""
+    try:
+        return await stdout(process).readline()
+    except ValueError as why:
+        raise Odd(f"line {number} is longer than {limit:,} bytes") from why

@@ -8,7 +8,7 @@ from __future__ import annotations
 import hashlib
 from array import array
 from bisect import bisect_left
-from collections.abc import Iterator
+from collections.abc import Iterator, Sequence
 from typing import NamedTuple
 
 from .reader import WORDS, Numbers, Reader
@@ -194,6 +194,10 @@ class Trace:
             and self.thread[first] != self.thread[second]
             and self.name[first] == self.name[second]
         )
+
+    def are_requests(self, events: Sequence[int]) -> bool:
+        """Whether these may be requests of a deadlock, and no accesses of a race: all are acquires."""
+        return bool(events) and all(self.word[event] == ACQUIRE for event in events)
 
     def digests(self, most: int = 2_000) -> Iterator[str]:
         """The SHA-256 digest of the canonical text, in steps; the last is of all of it.

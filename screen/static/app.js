@@ -9,7 +9,9 @@ import { later, now } from "./queue.js";
 import { listKeys } from "./keys.js";
 import * as sheet from "./sheet.js";
 import * as frontier from "./frontier.js";
-import * as races from "./races.js";
+import { races } from "./races.js";
+import { deadlocks } from "./deadlocks.js";
+import * as findings from "./findings.js";
 import * as feed from "./feed.js";
 import * as schedules from "./schedules.js";
 import * as views from "./views.js";
@@ -24,7 +26,7 @@ schedules.events.go = views.open;
 feed.events.adopt = schedules.events.adopt = views.adopt;
 feed.events.seen = sheet.redraw;
 sheet.events.lost = () => state.view?.witness && now(() => views.openPair([...state.view.witness]));
-races.events.open = (block) => now(() => views.openPair(block.accesses.map((access) => access.event)));
+findings.events.open = (pair) => now(() => views.openPair(pair));
 $("keys").addEventListener("click", listKeys);
 $("link").addEventListener("click", async () => {
   const told = await showLink();
@@ -71,6 +73,7 @@ function latest() {
 
 async function begin() {
   races.load();
+  deadlocks.load();
   if (!state.title) fill($("live"), "reading the trace …");
   const looked = views.looked();
   const told = await ask("hello");
@@ -100,6 +103,7 @@ on("open", () => {
 });
 on("closed", (text) => fill($("live"), bad(text)));
 on("races", () => races.load());
+on("deadlocks", () => deadlocks.load());
 on("connected", () => state.view && sheet.refresh(false));
 on("fault", (told) => fault(told.why));
 on("names", (told) => {

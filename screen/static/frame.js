@@ -2,7 +2,7 @@
 import { $ } from "./make.js";
 import { keep, kept } from "./store.js";
 
-export const PANES = ["race-list", "stage", "next-list", "row-list", "feed"];
+export const PANES = ["race-list", "deadlock-list", "stage", "next-list", "row-list", "feed"];
 export const paneOf = (element) => PANES.find((id) => $(id).contains(element));
 
 export function pane(name) {

@@ -62,20 +62,23 @@ async function fetchNext() {
   lookAhead(mine).catch((why) => events.say(String(why)));
 }
 
+const isReached = () => told.waits.length > 0 || told.pairs.some((pair) => pair.join() === state.aim?.join());
+
 // Whether the aim can still be reached from here. The list is drawn before, so no key waits for it.
 async function lookAhead(mine) {
-  if (!told?.witnessed || told.pairs.some((pair) => pair.join() === state.aim?.join())) return;
+  if (!told?.witnessed || isReached()) return;
   const got = await ask("reach", { name: told.name, aim: state.aim });
   if (mine !== asked || !told || got.mistake || got.gone) return;
   told.lost = got.lost ?? null;
   showPair(told);
 }
 
-// Of a witness, whose two accesses come next.
+// Of a witness, whose two accesses or requests come next.
 export function show(pair) {
   asked++;
   const next = pair.accesses.map((one) => ({ ...one, left: 0, fixed: true }));
-  told = { source: pair.source, next, pairs: [pair.pair], witness: true, ended: 0 };
+  const waits = pair.waits ?? [];
+  told = { source: pair.source, next, pairs: pair.waits ? [] : [pair.pair], waits, witness: true, ended: 0 };
   chosen = open = null;
   render();
 }
@@ -107,7 +110,7 @@ function render() {
   const ended = told.ended ? `, ${told.ended} at an end` : "";
   $("next-count").textContent = `${free} of ${many(told.next.length, "thread")} may go on${ended}`;
   filter.hidden = told.next.length <= FEW;
-  const lit = new Set(told.pairs.flat());
+  const lit = new Set([...told.pairs.flat(), ...told.waits.map((one) => one.event)]);
   const longest = Math.max(0, ...told.next.map((one) => threadName(one.thread).length));
   list.style.setProperty("--thread", `${Math.max(4, Math.min(16, longest)) + 1}ch`);
   list.dataset.length = told.length;
@@ -130,9 +133,12 @@ function distance(one) {
   return one.aim === 0 ? el("span", "aim-left here", "aim") : el("span", "aim-left dim", "past the aim");
 }
 
+// What would help a thread that has to wait. In a deadlock nothing does.
+const helpOf = (one) => (told.waits.some((other) => other.event === one.event) ? null : help(one.why));
+
 function buttons(one) {
   if (one.thread !== chosen) return null;
-  const does = help(one.why);
+  const does = helpOf(one);
   if (one.why) return does ? button(does.text, "f", () => later(() => follow(one))) : null;
   return [button("add", "↵", () => addLater(one)), button("run", "r", () => later(() => run(one))),
     one.to === undefined ? null : button("to aim", "t", () => later(() => toAim(one)))];
@@ -247,14 +253,14 @@ export const run = (one = chosenOne()) => one && !one.fixed && step("run", { thr
 
 export function toAim(one = chosenOne()) {
   if (one?.to !== undefined) return step("run", { until: one.to, aim: state.aim });
-  if (one && !state.aim) events.say("open a race first: it is the aim");
+  if (one && !state.aim) events.say("open a race or a deadlock first: it is the aim");
   else if (one && !one.own && !told.witnessed) events.say("the witness of the aim is not known yet");
   else if (one) events.say(`${threadShort(one.thread)} has come as far as the aim needs`);
   return null;
 }
 
 export function follow(one = chosenOne()) {
-  const does = help(one?.why);
+  const does = one && helpOf(one);
   if (does) return step("run", { until: does.until });
   if (one) events.say(one.why ? "no run of one thread helps here" : `${threadShort(one.thread)} waits for nothing`);
   return null;

@@ -9,7 +9,9 @@ import { hidePeek, viewSource } from "./peek.js";
 import { best } from "./pair.js";
 import * as sheet from "./sheet.js";
 import * as frontier from "./frontier.js";
-import * as races from "./races.js";
+import { races } from "./races.js";
+import { deadlocks } from "./deadlocks.js";
+import { chosenPair, settle } from "./findings.js";
 import * as feed from "./feed.js";
 import * as views from "./views.js";
 import { edge, neighbour } from "./schedules.js";
@@ -25,28 +27,29 @@ function swap(shown, by) {
 
 function propose() {
   const told = frontier.current();
+  if (told?.waits.length) return say("a proposal is of two accesses: a deadlock has none");
   if (told?.pairs.length) return act("propose", { view: viewed(state.view), pair: best(told) });
   return say("no pair is side by side in this schedule");
 }
 
-// Works on the witness that is looked at, or looks at that of the chosen race.
-function openRace() {
+// Works on the witness that is looked at, or looks at that of the chosen race or deadlock.
+function openChosen() {
   if (state.view?.witness) return views.take();
-  const pair = races.chosenPair();
-  return pair ? views.openPair(pair) : say("choose a race first: ↑ and ↓ move the cursor");
+  const pair = chosenPair();
+  return pair ? views.openPair(pair) : say("choose a race or a deadlock first: ↑ and ↓ move the cursor");
 }
 
 // Keys that have nothing to work on say so.
-const ofAim = (step) => () => (state.aim ? step() : say("open a race first: it is the aim"));
+const ofAim = (step) => () => (state.aim ? step() : say("open a race or a deadlock first: it is the aim"));
 const ofSchedule = (step) => () => {
   if (state.rows.has(schedule())) return step();
   if (schedule()) return say(`${schedule()} was dropped: n makes a schedule`);
   return say(state.view ? "this is a witness: w works on it, e starts empty" : "no schedule is open: n makes one");
 };
 
-// Each waits for the one before it; the race on which the cursor rests is opened first.
+// Each waits for the one before it; the race or deadlock on which the cursor rests is opened first.
 function inOrder(step) {
-  races.settle();
+  settle();
   return later(step);
 }
 const inTurn = (keys) => Object.fromEntries(Object.entries(keys).map(([key, does]) => [key, () => inOrder(does)]));
@@ -150,20 +153,23 @@ const KEYS = [
     ["u  Ctrl z", "undo your latest step", { [ALL]: inTurn({ u: undoLatest, "Ctrl+z": undoLatest }) }],
     ["s", "mark the log as seen", { [ALL]: { s: markSeen } }],
   ]],
-  ["Lists of races and schedules", [
-    ["↑ ↓  j k", "choose a race, a schedule", {
-      "race-list": down(races.step), "row-list": inTurn(down(neighbour)),
+  ["Lists of races, deadlocks and schedules", [
+    ["↑ ↓  j k", "choose a race, a deadlock, a schedule", {
+      "race-list": down((by) => races.step(by)), "deadlock-list": down((by) => deadlocks.step(by)),
+      "row-list": inTurn(down(neighbour)),
     }],
-    ["↵", "open a race, work on its witness; go to the next events of a schedule", {
-      "race-list": { Enter: () => inOrder(openRace) }, "row-list": { Enter: goToNext },
+    ["↵", "open a race or a deadlock, work on its witness; go to the next events of a schedule", {
+      "race-list": { Enter: () => inOrder(openChosen) }, "deadlock-list": { Enter: () => inOrder(openChosen) },
+      "row-list": { Enter: goToNext },
     }],
     ["Home End", "first, last line of each list", {
       stage: inTurn(ends(() => sheet.jump(0), () => sheet.jump(last()))),
       "race-list": ends(() => races.jump(0), () => races.jump(Infinity)),
+      "deadlock-list": ends(() => deadlocks.jump(0), () => deadlocks.jump(Infinity)),
       "row-list": inTurn(ends(() => edge(0), () => edge(-1))),
       "next-list": inTurn(ends(() => frontier.move(-Infinity), () => frontier.move(Infinity))),
     }],
-    ["/", "filter the races", { [ALL]: { "/": filterRaces } }],
+    ["/", "filter races and deadlocks", { [ALL]: { "/": filterRaces } }],
   ]],
   ["Screen", [
     ["F6", "next pane, also from a field", { [ALL]: { F6: () => nextPane(1) } }],
@@ -175,7 +181,8 @@ const KEYS = [
 
 // What the keys of a pane do.
 const keysOf = (pane) => Object.assign({}, ...KEYS.flatMap(([, lines]) => lines.map(([, , does]) => does[pane] ?? {})));
-const IN = Object.fromEntries(["stage", "race-list", "row-list", "next-list", ALL].map((pane) => [pane, keysOf(pane)]));
+const IN = Object.fromEntries(["stage", "race-list", "deadlock-list", "row-list", "next-list", ALL]
+  .map((pane) => [pane, keysOf(pane)]));
 
 // A function, since the table names it before it is whole.
 export function listKeys() {

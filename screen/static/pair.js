@@ -1,7 +1,7 @@
-// The pair that is side by side: both accesses are next in their threads.
+// What a schedule shows: a pair that is side by side, or the deadlock that is the aim.
 import { $, el, fill, button, many } from "./make.js";
 import { later } from "./queue.js";
-import { state, viewed, tag, operation, place, reason, short } from "./words.js";
+import { state, viewed, tag, operation, place, reason, short, waiting } from "./words.js";
 
 export const events = { act: null, backTo: null };
 
@@ -33,10 +33,24 @@ function side(told, pair, event) {
   return made;
 }
 
+// A request of a deadlock, and who holds the lock that it waits for.
+function request(told, one) {
+  const source = told.source?.[one.location];
+  const made = el("span", "access", waiting(one), place(one.location), source ? el("code", "", source) : null);
+  made.dataset.place = one.location;
+  return made;
+}
+
 export function showPair(told) {
   const box = $("pair");
   const pairs = told?.pairs ?? [];
-  box.hidden = !pairs.length && !told?.lost;
+  const waits = told?.waits ?? [];
+  box.hidden = !pairs.length && !waits.length && !told?.lost;
+  if (waits.length) {
+    fill(box, el("span", "pair-title", told.witness ? "Each waits for the other" : "Aim: deadlock"),
+      el("span", "accesses", waits.map((one) => request(told, one))));
+    return;
+  }
   if (!pairs.length && told?.lost) {
     fill(box, ...outOfReach(told.lost));
     return;

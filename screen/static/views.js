@@ -1,14 +1,15 @@
-// What is looked at: a schedule, a witness, or why a pair has none; and the aim, which is the race that is open.
+// What is looked at: a schedule, a witness, or why a pair has none; and the aim, which is
+// the race or the deadlock that is open.
 import { $, el, fill, button, many } from "./make.js";
 import { ask, isOpen } from "./net.js";
-import { state, viewed, who, short, isDone, isRefused, lastWords } from "./words.js";
+import { state, viewed, who, short, isDeadlock, isDone, isRefused, lastWords } from "./words.js";
 import { act, actOn, awaited, bad, say as tell } from "./act.js";
 import { asked } from "./dialogs.js";
 import { reveal } from "./frame.js";
 import { later, now } from "./queue.js";
 import * as sheet from "./sheet.js";
 import * as frontier from "./frontier.js";
-import * as races from "./races.js";
+import { mark } from "./findings.js";
 import * as schedules from "./schedules.js";
 
 const note = $("note");
@@ -88,7 +89,7 @@ export async function open(view, { end = true, isAsItWas = false, isSame = false
 
 async function openSchedule(view, isAsItWas) {
   const name = view.schedule;
-  const aim = isAsItWas ? null : /^r(\d+)-(\d+)/.exec(name);
+  const aim = isAsItWas ? null : /^[rd](\d+)-(\d+)/.exec(name);
   if (aim && !state.aim) {
     await aimAt([Number(aim[1]), Number(aim[2])]);
     if (state.view === view) rememberView(view);
@@ -122,7 +123,7 @@ async function check(name) {
 // Until its events are known, the line of the aim shows those that it had.
 export async function aimAt(pair) {
   state.aim = pair;
-  races.mark(pair);
+  mark(pair);
   const told = pair ? await ask("pair", { pair }) : { accesses: [] };
   if (state.aim !== pair) return;
   if (told.mistake) state.aim = null;
@@ -142,7 +143,7 @@ export async function clearAim() {
   sheet.load();
 }
 
-// A race of the list: its witness, or the explanation why it has none.
+// A race or a deadlock of a list: its witness, or the explanation why it has none.
 export async function openPair(pair) {
   if (isLost()) return;
   const mine = ++looks;
@@ -203,7 +204,7 @@ function titled() {
   }
   if (state.aim && sought) return [heading("Looking for the witness …")];
   if (state.aim && none) return withoutWitness();
-  return [heading("No schedule"), el("span", "dim", "open a race, or make an empty schedule")];
+  return [heading("No schedule"), el("span", "dim", "open a race or a deadlock, or make an empty schedule")];
 }
 
 // What the program said of a pair: a proof that no schedule shows it, or that none is known, or a fault.
@@ -263,17 +264,20 @@ function freeName(base, end = "") {
   }
 }
 
+// The name of a schedule says which race or which deadlock it is for.
+const nameOf = (aimed) => `${isDeadlock(aimed) ? "d" : "r"}${aimed.map(({ event }) => event).join("-")}`;
+
 export async function take() {
   const view = state.view;
   if (!view?.witness) return;
-  const name = freeName(`r${view.witness.join("-")}`);
+  const name = freeName(nameOf(view.pair.accesses));
   const told = await act("enter", { view: viewed(view), name });
   if (told.answer && !isRefused(told)) await begin(name);
 }
 
 export async function startEmpty() {
   if (!state.aim) return;
-  await make("new", { name: freeName(`r${state.aim.join("-")}`) });
+  await make("new", { name: freeName(nameOf(state.aimTold)) });
 }
 
 // Opens a schedule that was made. Who pressed a button for it goes on with what comes next: Enter is not to press that

@@ -91,6 +91,20 @@ export function short(event) {
   return made;
 }
 
+// Whether these are the requests of a deadlock, and no accesses of a race.
+export const isDeadlock = (aimed) => aimed.length > 1 && aimed.every((event) => event.operation === "acq");
+
+// Of a request of a deadlock who waits for what, and who holds that. The title has the places.
+export function waiting(one) {
+  const { since } = one;
+  const name = el("bdi", "name", cut(one.name, THREAD));
+  const made = el("span", "waiting", tag(one.thread), " waits for ", name, ", which ", tag(since.thread),
+    " holds since ", el("span", "num", String(since.event)));
+  const held = `${threadName(since.thread)} holds since ${since.event} at ${since.location}`;
+  made.title = `${threadName(one.thread)} waits for ${one.name} at ${one.location}, which ${held}`;
+  return made;
+}
+
 const DOES = { r: "reads", w: "writes", acq: "takes lock", rel: "releases lock", fork: "forks", join: "joins" };
 
 // An event as a screen reader says it.

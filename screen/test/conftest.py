@@ -22,8 +22,9 @@ TOP = pathlib.Path(__file__).resolve().parents[2]
 LIMIT = 3600
 CHROMIUM = ("/usr/lib/chromium/chromium", "/usr/bin/chromium")
 # The modules that need no other package, and those that need aiohttp. All others need a browser too.
-NEED_NOTHING = {"test_mirror_and_sheets", "test_opening", "test_second_tries"}
+NEED_NOTHING = {"test_deadlock_texts", "test_mirror_and_sheets", "test_opening", "test_second_tries"}
 NEED_AIOHTTP = {
+    "test_deadlock_aims",
     "test_failures",
     "test_limits",
     "test_long_texts",

@@ -10,6 +10,7 @@ import time
 if (SCREEN := os.path.dirname(os.path.dirname(os.path.abspath(__file__)))) not in sys.path:
     sys.dont_write_bytecode = True
     sys.path.insert(0, SCREEN)
+import traces
 from browser import Browser
 from stage import LENGTH, NEXT, Screen, focus, logged, press
 
@@ -44,12 +45,27 @@ async def walk(program: str, to: str) -> None:
         print("faults of the page:", page.faults)
 
 
+async def walk_to_a_deadlock(program: str, to: str) -> None:
+    """The deadlock of examples/abba.c, in a folder that has another log."""
+    traces.write("abba.std", traces.ABBA)
+    async with Screen(program, "abba.std", "other") as screen, Browser() as browser:
+        page = await browser.page(screen.link, 1280, 760)
+        await page.until("document.querySelectorAll('.deadlock').length > 0", 120)
+        await page.click(".deadlock")
+        await page.until("!document.getElementById('pair').hidden", 90)
+        await press(page, "w")
+        await page.until("document.querySelector('.pair-title')?.textContent === 'Aim: deadlock'", 90)
+        await page.picture(os.path.join(to, "screen-deadlock.png"))
+        print("faults of the page:", page.faults)
+
+
 async def main() -> None:
     program, to = os.path.abspath(sys.argv[1]), os.path.abspath(sys.argv[2] if len(sys.argv) > 2 else f"{TOP}/docs")
     with tempfile.TemporaryDirectory() as folder:
         os.chdir(folder)
         os.environ["XDG_STATE_HOME"] = os.path.join(folder, "state")
         await walk(program, to)
+        await walk_to_a_deadlock(program, to)
         await Browser.end()
         os.chdir("/")
 

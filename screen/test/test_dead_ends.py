@@ -7,8 +7,9 @@ from collections.abc import Iterable
 import traces
 from browser import Page
 from comparing import same
+from lock_traces import nested
 from screen_app.reach import Aim, State, loss_of, reach_of, state_of
-from screen_app.trace import Trace
+from screen_app.trace import ACQUIRE, RELEASE, Trace
 from stage import LENGTH, SAID, Stage, is_clean, logged, press
 
 
@@ -147,6 +148,47 @@ def test_a_run_takes_no_lock_that_a_needed_write_needs() -> None:
     aim, reader = Aim(trace, (8, 9), witness), trace.thread[5]
     same(reach_of(aim, array("I", [0, 1]), reader, 3), (0, None, True))
     same(reach_of(aim, array("I", [0, 1, 2, 3, 4]), reader, 3), (3, None, False))
+
+
+def in_a_circle(trace: Trace) -> list[tuple[int, int]]:
+    """Acquires of two threads, each of a lock that the other thread holds before its own."""
+    held: dict[int, set[int]] = {}  # before each acquire the locks of its thread
+    for own in trace.events_of:
+        holds: list[int] = []
+        for event in own:
+            if trace.word[event] == ACQUIRE:
+                held[event] = set(holds)
+                holds.append(trace.name[event])
+            elif trace.word[event] == RELEASE:
+                holds.remove(trace.name[event])
+    return [
+        (one, other)
+        for other in held
+        for one in held
+        if one < other
+        and trace.thread[one] != trace.thread[other]
+        and trace.name[one] in held[other]
+        and trace.name[other] in held[one]
+    ]
+
+
+def test_deadlocks_out_of_reach_by_all_orders() -> None:
+    """The same of deadlocks: where both requests are next, each waits for the other."""
+    draw, met = random.Random(20261201), {"in reach": 0, "found": 0, "out of reach": 0, "named": 0, "stopped": 0}
+    for _ in range(250):
+        traces.write("trace", nested(draw, "LM", "xy", sections=1))
+        trace = Trace("trace").read_at_once()
+        for pair in in_a_circle(trace)[:2]:
+            witness = extensions(trace, pair, ())
+            if witness is None:
+                continue
+            state = state_of(trace, witness)
+            assert not any(map(state.may_add, pair)), (witness, pair)
+            aim, events = Aim(trace, pair, witness), wandered(draw, trace, pair)
+            judge(aim, events, met)
+            judge_runs(aim, events, met)
+    assert min(met[kind] for kind in ("in reach", "out of reach", "stopped")) > 10, met
+    assert met["found"] > 0.95 * met["in reach"], met
 
 
 # T1 has to read x before T0 writes it again. The pair is 4 and 5.

@@ -89,7 +89,7 @@ async def test_keys_with_nothing_to_do_say_so(stage: Stage) -> None:
     await page.until("document.querySelectorAll('.race').length === 1")
     for key in "ewx":
         await press(page, key)
-        same(await page.run(SAID), "open a race first: it is the aim")
+        same(await page.run(SAID), "open a race or a deadlock first: it is the aim")
     for key in ("r", "t", "f", "p", "b", "Enter", "Backspace"):
         await press(page, key)
         same(await page.run(SAID), "no schedule is open: n makes one")

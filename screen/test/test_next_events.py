@@ -260,7 +260,7 @@ async def test_a_trace_of_no_events(stage: Stage) -> None:
     await page.until(f"{EMPTY.format('race-list')} === 'No pair of this kind.'")
     assert (await page.run("document.getElementById('facts').textContent")).startswith("0 events · 0 threads")
     same(await page.run(EMPTY.format("feed")), "Nothing has been done yet.")
-    same(await page.run(LENGTH), "open a race, or make an empty schedule")
+    same(await page.run(LENGTH), "open a race or a deadlock, or make an empty schedule")
     await new(page, 0)
     await page.until(f"{EMPTY.format('next-list')} === 'This schedule has all events of the trace.'")
     for key in ("1", "Enter", "r", "t", "f", "ArrowRight", "ArrowDown", "p", "x", "w", "e", "Home", "End"):

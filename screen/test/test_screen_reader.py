@@ -34,9 +34,9 @@ async def test_what_a_screen_reader_finds(stage: Stage) -> None:
         ("listbox", "Each thread's next event"),
         ("listbox", "Schedules"),
         ("list", "Log"),
-        ("searchbox", "Filter races"),
+        ("searchbox", "Filter races and deadlocks"),
         ("separator", "Height of the next events"),
-        ("region", "Races"),
+        ("region", "Races and deadlocks"),
         ("button", "Undo mine"),
         ("button", "undo 0"),
         ("button", "undo 1"),
@@ -68,6 +68,24 @@ async def test_what_a_screen_reader_finds(stage: Stage) -> None:
     is_clean(page, screen)
 
 
+async def test_what_a_screen_reader_finds_of_a_deadlock(stage: Stage) -> None:
+    """The list is named, its option is a sentence, and the box says who waits for whom."""
+    screen, page = await stage.opened(traces.ABBA)
+    await page.until("document.querySelectorAll('.deadlock').length === 1")
+    await page.click(".deadlock")
+    await page.until(f"{OPEN} === 'Witness' && !document.getElementById('pair').hidden")
+    await settled(page)
+    found = await spoken(page)
+    assert ("listbox", "Deadlocks") in found, found
+    options = [name for role, name in found if role == "option" and name.startswith("deadlock")]
+    one = "3: T1 waits for b at abba.c:8 < first, holds a since 2 at abba.c:7 < first"
+    other = "9: T2 waits for a at abba.c:16 < second, holds b since 8 at abba.c:15 < second"
+    same(options, [f"deadlock, ordered, {one}; {other}; 4 events, 3 threads"])
+    same({role for role, name in found if not name} & {"option", "listbox"}, set())
+    same(await page.run("document.getElementById('pair').getAttribute('role')"), "status")
+    is_clean(page, screen)
+
+
 LIVE = "[...document.querySelectorAll('[aria-live=polite]')].map((e) => e.id || e.localName).join()"
 HEADING = "document.querySelector('#bar h2')"
 
@@ -78,7 +96,7 @@ async def test_what_is_opened_is_announced(stage: Stage, program: str) -> None:
     await session(program, 2, "new A\nnew B\n")
     screen, page = await stage.opened()
     await page.until(f"{HEADING}.textContent === 'B' && document.querySelectorAll('.race').length === 2")
-    same(await page.run(LIVE), "race-count,h2,said")
+    same(await page.run(LIVE), "race-count,deadlock-count,h2,said")
     await page.run(f"window.heading = {HEADING}; window.counted = document.getElementById('race-count')")
     await page.key("[")
     await page.until("window.heading.isConnected && window.heading.textContent === 'A'")
@@ -88,7 +106,7 @@ async def test_what_is_opened_is_announced(stage: Stage, program: str) -> None:
     await page.until("window.heading.isConnected && heading.textContent === 'No schedule shows this pair'")
     await page.click(".race")
     await page.until("window.heading.isConnected && window.heading.textContent === 'Witness'")
-    same(await page.run(LIVE), "race-count,h2,said")
+    same(await page.run(LIVE), "race-count,deadlock-count,h2,said")
     await page.click("#race-filter")
     await page.type("nothing of this name")
     await page.until("window.counted.isConnected && window.counted.textContent === '0 match'")

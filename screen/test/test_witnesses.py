@@ -109,7 +109,7 @@ async def test_a_witness_without_its_aim(stage: Stage) -> None:
     for key in "ex":
         await page.run(f"{SAID} && document.getElementById('said').replaceChildren()")
         await press(page, key)
-        same(await page.run(SAID), "open a race first: it is the aim")
+        same(await page.run(SAID), "open a race or a deadlock first: it is the aim")
     same(await page.run(pair), "Both are next")
     await page.key("w")
     await page.until(f"{OPEN} === 'r0-5' && {LENGTH} === '0 events'")

@@ -1,6 +1,7 @@
 """Traces for tests: a small one, hostile names, many threads, and big ones."""
 
 import random
+from collections.abc import Callable
 
 COUNT = """T0|fork(T1)|count.c:17
 T0|fork(T2)|count.c:17
@@ -19,6 +20,25 @@ T2|w(hits)|count.c:13
 T0|join(T1)|count.c:18
 T0|join(T2)|count.c:18
 T0|r(hits)|count.c:18
+"""
+# Two threads take two locks in two orders, as examples/abba.c does. T1 waits at event 3, and T2 at event 9.
+ABBA = """T0|fork(T1)|abba.c:24 < main
+T0|fork(T2)|abba.c:25 < main
+T1|acq(a)|abba.c:7 < first
+T1|acq(b)|abba.c:8 < first
+T1|r(sum)|abba.c:9 < first
+T1|w(sum)|abba.c:9 < first
+T1|rel(b)|abba.c:10 < first
+T1|rel(a)|abba.c:11 < first
+T2|acq(b)|abba.c:15 < second
+T2|acq(a)|abba.c:16 < second
+T2|r(sum)|abba.c:17 < second
+T2|w(sum)|abba.c:17 < second
+T2|rel(a)|abba.c:18 < second
+T2|rel(b)|abba.c:19 < second
+T0|join(T1)|abba.c:26 < main
+T0|join(T2)|abba.c:26 < main
+T0|r(sum)|abba.c:27 < main
 """
 # Two races of a list that is filtered, and a pair that a lock keeps apart.
 SEVERAL = """T1|w(x)|one.c:1
@@ -134,3 +154,14 @@ def many_threads(path: str, threads: int = 200) -> None:
         lines += [f"W{number}|{operation}|w.c:1" for operation in ("acq(m)", "w(x)", "rel(m)", "w(y)")]
     lines += [f"T0|join(W{number})|main.c:99" for number in range(threads)]
     write(path, "\n".join(lines) + "\n")
+
+
+def crossed(pairs: int, spell: Callable[[int, int], str] = lambda pair, lock: f"{'ab'[lock]}{pair}") -> str:
+    """A trace in which two threads take each pair of locks in two orders, so each pair makes one deadlock."""
+    lines = []
+    for thread, order in (("T1", (0, 1)), ("T2", (1, 0))):
+        for pair in range(pairs):
+            one, other = (spell(pair, lock) for lock in order)
+            for number, step in enumerate((f"acq({one})", f"acq({other})", f"rel({other})", f"rel({one})")):
+                lines.append(f"{thread}|{step}|{thread}.c:{4 * pair + number}\n")
+    return "".join(lines)
