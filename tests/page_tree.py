@@ -1,5 +1,5 @@
 """Reads a page of a report as a browser's parser would, by Python's html.parser. Each tag has to be closed in its
-order, nothing may run or be fetched, and the policy in the page's head has to forbid both.
+order, nothing may run or be fetched, and the policy in the page's head must forbid both.
 """
 
 from __future__ import annotations

@@ -1,7 +1,7 @@
 """Judges the picture of a schedule that `witness --svg` prints, by tests/plain.py and explained.py.
 
 The file must be well formed, with no tag, no attribute and no address but those of a drawing. It is then read as a
-reader sees it: which lines of text lie in which box, in which order the boxes stand, whether each line fits into its
+reader sees it: which lines of text lie in which box, in which order the boxes come, whether each line fits into its
 box, and where the arrows lead. Then shapes.py judges each box and arrow to the pixel.
 """
 
@@ -23,7 +23,8 @@ SVG = "{http://www.w3.org/2000/svg}"
 # A line of text has at most this many bytes, and takes this many pixels for each character.
 MOST_BYTES = 46
 CHARACTER = 6
-# So many runs are drawn one by one; of more so many of the last, and of those that they waited for as many as are left.
+# How many runs are drawn one by one. If there are more, this many of the last are, and as many as are left that the
+# last ones waited for.
 MOST_RUNS = 40
 LAST_RUNS = 20
 # Of more threads all but the two of the pair share a column; no picture is shown wider than this.
@@ -140,15 +141,15 @@ def box_of(rect: Element) -> Box:
 
 
 def judge_waiter(trace: plain.Trace, listed: Listed, last: int, waiter: int, line: str) -> None:
-    """Judges the line that tells that this event waits for the last one of a run, and why."""
+    """Judges the line that this event waits for the last one of a run, and why."""
     text, _, number = line.rpartition(" ")
     if number != str(waiter) or text not in WAITS or not WAITS[text](trace, listed, last, waiter):
         raise Wrong(f"for {last} waits {waiter}, and the line is {line!r}")
 
 
 def drawn_of(trace: plain.Trace, listed: Listed, runs: Sequence[Sequence[int]]) -> list[int]:
-    """The numbers, from 0, of the runs that are drawn one by one: all of a few; else the last, and the last of those
-    for which one of these waited."""
+    """The numbers, from 0, of the runs that are drawn one by one: all of a few; else the last, and the last for which
+    an event of the last ones waited."""
     if len(runs) <= MOST_RUNS:
         return list(range(len(runs)))
     waiters = waiters_of(trace, listed)
@@ -396,7 +397,7 @@ def note_kinds(
 
 
 def judge_shapes(trace: plain.Trace, picture: Picture, pair: Pair, listed: Listed) -> None:
-    """Judges where each box and arrow of the picture of this schedule stands. Of names only equality counts."""
+    """Judges the place of each box and arrow of the picture of this schedule. Of names only equality counts."""
     runs, waiters = runs_of(trace, listed), waiters_of(trace, listed)
     drawn = [runs[number] for number in drawn_of(trace, listed, runs)]
     boxes = [shapes.Run(run, waiters.get(run[-1])) for run in drawn]

@@ -1,4 +1,4 @@
-"""The rows that a sheet is drawn as, and windows of them.
+"""The rows that a sheet is drawn as, and windows of the rows.
 
 A long run is one row, a block; short runs are drawn event by event. So are runs that were opened, the last events of
 all, and the last event of each thread, so that you see where each thread is. These runs are few: they are laid out

@@ -303,7 +303,7 @@ def before_refusal(state: State, events: Sequence[int]) -> Sequence[int]:
 
 def reach_of(aim: Aim, events: array[int], thread: int, end: int) -> tuple[int, Bar | None, bool]:
     """How many events of a thread may be added, up to a place in it, so that the aim stays in reach; what would bar
-    it; and whether only the search says so. If one of them is refused, the aim is still in reach before it."""
+    it; and whether only the search says so. If one is refused, the aim is still in reach before it."""
     state = state_of(aim.trace, events)
     count, bar = aim.steps(state, thread, end)
     start = state.counts[thread]
