@@ -1,5 +1,6 @@
 """An aim that can't be reached any more: steps stop before that, and the page says so and leads back."""
 
+import itertools
 import random
 from array import array
 from collections.abc import Iterable
@@ -8,7 +9,7 @@ import traces
 from browser import Page
 from comparing import same
 from lock_traces import nested
-from screen_app.reach import Aim, State, loss_of, reach_of, state_of
+from screen_app.reach import Aim, State, before_refusal, loss_of, reach_of, state_of
 from screen_app.trace import ACQUIRE, RELEASE, Trace
 from stage import LENGTH, SAID, Stage, is_clean, logged, press
 
@@ -189,6 +190,39 @@ def test_deadlocks_out_of_reach_by_all_orders() -> None:
             judge_runs(aim, events, met)
     assert min(met[kind] for kind in ("in reach", "out of reach", "stopped")) > 10, met
     assert met["found"] > 0.95 * met["in reach"], met
+
+
+def pool(jobs: int) -> str:
+    """Three workers take jobs of T0 from a stack under a lock. The last two events are the aim: a stop without it."""
+    lines = [f"T0|fork(T{worker})|a:0\n" for worker in (1, 2, 3)]
+    for job in range(jobs):
+        for thread in (0, job % 3 + 1):
+            lines += [f"T{thread}|r(stop)|b:0\n"] * (thread > 0)
+            lines += [f"T{thread}|{word}|b:1\n" for word in ("acq(m)", "r(top)", "w(top)", "rel(m)")]
+    return "".join([*lines, "T1|r(stop)|b:0\n", "T0|w(stop)|a:1\n"])
+
+
+def rebuilt(aim: Aim, order: Iterable[int]) -> list[int]:
+    """Each thread in turn runs to the aim, until none may go on: how many events of each thread there are."""
+    trace, events, before = aim.trace, array("I"), -1
+    while len(events) > before:
+        before = len(events)
+        for thread in order:
+            state = state_of(trace, events)
+            done, end = state.counts[thread], aim.limits.get(thread, aim.wants[thread])
+            count, _, _ = reach_of(aim, events, thread, max(done, end))
+            events.extend(before_refusal(state, trace.events_of[thread][done : done + count]))
+    return state_of(trace, events).counts
+
+
+def test_runs_to_the_aim_come_to_it_in_any_order() -> None:
+    for text, witness in ((LOCKED, range(8)), (pool(6), range(len(pool(6).splitlines()) - 2))):
+        traces.write("trace", text)
+        trace = Trace("trace").read_at_once()
+        aim = Aim(trace, (len(witness), len(witness) + 1), witness)
+        for order in itertools.permutations(range(len(trace.events_of))):
+            counts = rebuilt(aim, order)
+            assert all(counts[thread] == limit for thread, limit in aim.limits.items()), (order, counts)
 
 
 # T1 has to read x before T0 writes it again. The pair is 4 and 5.
