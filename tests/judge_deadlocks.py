@@ -17,13 +17,18 @@ if __name__ == "__main__":
     sys.dont_write_bytecode = True
 import deadlocked
 import judging
+import pictured
+import plain
 import running
 from judging import Run, Wrong
 
 TRACES = 1_000
 # States of a trace beyond which it is left out.
 MOST_STATES = 20_000
-REACHED = ["deadlock", "apart", "ordered", "turned", "real", "held by both", "forced", "no requests"]
+REACHED = [
+    *["deadlock", "apart", "ordered", "turned", "real", "held by both", "forced", "no requests"],
+    *["pictures", "arrows"],
+]
 KINDS = ["deadlock", "undecided", "apart"]
 
 Shown = dict[deadlocked.Pair, set[deadlocked.Size]]
@@ -146,6 +151,29 @@ def check_schedule(run: Run, trace: deadlocked.Trace, block: Block) -> None:
         raise Wrong("explain says something else:\n" + "\n".join(text))
 
 
+class Located(plain.Trace):
+    """The trace as the judge of pictures reads it."""
+
+    def __init__(self, trace: deadlocked.Trace) -> None:
+        named = [f"T{name}" if op in ("fork", "join") else name for _, op, name in trace.events]
+        super().__init__(
+            plain.Event(f"T{thread}", op, name) for (thread, op, _), name in zip(trace.events, named, strict=True)
+        )
+        self.locations = trace.locations
+
+    def location(self, event: int) -> str:
+        return self.locations[event]
+
+
+def check_picture(run: Run, trace: deadlocked.Trace, block: Block) -> None:
+    """Whether the picture has the schedule that `witness` prints, and the two requests."""
+    words = ["witness", "trace", *(str(event) for event in block.pair)]
+    lines = running.printed(run.program, words).decode("ascii").splitlines()
+    listed = tuple(int(line.split("  ")[0]) for line in lines)
+    picture = running.printed(run.program, [*words, "--svg"]).decode("utf-8")
+    pictured.judge_picture(Located(trace), run.tally, picture, block.pair, listed)
+
+
 def check_forms(run: Run, trace: deadlocked.Trace, block: Block) -> None:
     """Whether the forms of `witness` have the same schedule: a trace, and a script that ends with two refusals."""
     first, second = (str(event) for event in block.pair)
@@ -211,6 +239,7 @@ def judge_trace(run: Run, trace: deadlocked.Trace, shown: Shown) -> None:
         if block.verdict == "deadlock":
             check_schedule(run, trace, block)
             check_forms(run, trace, block)
+            check_picture(run, trace, block)
         else:
             check_reason(run, trace, block)
     check_others(run, trace)

@@ -110,6 +110,7 @@ DRAWN = [
     *["begins arrows beside the middle", "bends no arrow", "draws arrows without tips"],
 ]
 FOUND = {
+    "judge_deadlocks": [*USUAL, *DRAWN],
     "judge_explain": [*USUAL, *DRAWN],
     "judge_notes": ["prints nothing", "writes a line more on standard error"],
     "judge_package": ["prints nothing", "has other flags"],
