@@ -3,8 +3,8 @@
 
 Each two requests that wait for each other have a block on their pattern. A reordering of the printed size shows each
 deadlock, and none shows what is apart. The rest of the text follows from the trace and is compared with it. `witness`
-prints a correct reordering of the printed size that shows the deadlock, and `explain` says the same. Takes the
-program's path, how many traces are drawn, and the first seed.
+prints a correct reordering of the printed size that shows the deadlock, and `explain` says the same. `--only` and
+`--hide` leave out the blocks that they should. Takes the program's path, how many traces are drawn, and the first seed.
 """
 
 from __future__ import annotations
@@ -23,7 +23,7 @@ from judging import Run, Wrong
 TRACES = 1_000
 # States of a trace beyond which it is left out.
 MOST_STATES = 20_000
-REACHED = ["deadlock", "apart", "ordered", "turned", "real", "held by both", "forced", "no requests"]
+REACHED = ["deadlock", "apart", "ordered", "turned", "real", "held by both", "forced", "no requests", "kept", "hidden"]
 KINDS = ["deadlock", "undecided", "apart"]
 
 Shown = dict[deadlocked.Pair, set[deadlocked.Size]]
@@ -56,17 +56,69 @@ def blocks_of(text: str) -> list[Block]:
     return [Block(line) for line in text.splitlines() if line.split(" ")[0] in KINDS and line.count(" ") > 1]
 
 
-def expected(trace: deadlocked.Trace, blocks: list[Block], is_apart_wanted: bool) -> str:
-    """The text with the blocks, and the counts before them."""
+def lines_of(trace: deadlocked.Trace, block: Block) -> list[str]:
+    """The lines of a block below its first one."""
+    return [*trace.request_lines(*block.pair), *trace.request_lines(*reversed(block.pair))]
+
+
+def keeps(lines: list[str], only: list[str], hide: list[str]) -> bool:
+    """Whether the filters keep a block with these lines."""
+
+    def mention(texts: list[str]) -> bool:
+        return any(text in line for text in texts for line in lines)
+
+    return (mention(only) or not only) and not mention(hide)
+
+
+def expected(
+    trace: deadlocked.Trace,
+    blocks: list[Block],
+    is_apart_wanted: bool,
+    only: list[str] | None = None,
+    hide: list[str] | None = None,
+) -> str:
+    """The text with the blocks that the filters keep, the counts before them, and after them how many are left out."""
     tally = Counter(block.verdict for block in blocks)
     lines = [f"events {len(trace.events)}", f"threads {len(trace.names())}", f"nested {trace.nested()}"]
     lines += [f"patterns {len(blocks)}", f"deadlocks {tally['deadlock']}", f"undecided {tally['undecided']}"]
     lines += [f"apart {tally['apart']}", "whole 2"]
-    for block in sorted(blocks, key=Block.place):
-        if is_apart_wanted or block.verdict != "apart":
-            one, other = block.pair
-            lines += [block.line, *trace.request_lines(one, other), *trace.request_lines(other, one)]
+    wanted = [block for block in sorted(blocks, key=Block.place) if is_apart_wanted or block.verdict != "apart"]
+    kept = [block for block in wanted if keeps(lines_of(trace, block), only or [], hide or [])]
+    for block in kept:
+        lines += [block.line, *lines_of(trace, block)]
+    if only or hide:
+        lines.append(f"hidden {len(wanted) - len(kept)}")
     return "".join(f"{line}\n" for line in lines)
+
+
+def check_filters(run: Run, trace: deadlocked.Trace, blocks: list[Block]) -> None:
+    """Whether `--only` and `--hide` leave out the right blocks, and whether `--fail` counts the printed ones."""
+    lines = [line for block in blocks for line in lines_of(trace, block)]
+    if not lines:
+        return
+    location, held, nowhere = lines[0].split("|")[2], lines[-1].strip(), "no such text"
+    choices: list[tuple[list[str], list[str]]] = [
+        ([location], []),
+        ([], [location]),
+        ([location, nowhere], [held]),
+        ([nowhere], []),
+        ([], [held]),
+    ]
+    for only, hide in choices:
+        for is_apart in (False, True):
+            options = [word for text in only for word in ("--only", text)]
+            options += [word for text in hide for word in ("--hide", text)]
+            status, out, err = running.ended(
+                run.program, ["deadlocks", "trace", "--fail", *options, *["--apart"] * is_apart]
+            )
+            text = out.decode("ascii")
+            if err or text != expected(trace, blocks, is_apart, only, hide):
+                raise Wrong(f"with {options}, it prints another text:\n{text}")
+            printed = any(block.verdict == "deadlock" for block in blocks_of(text))
+            if status != (3 if printed else 0):
+                raise Wrong(f"with {options}, --fail ends with status {status}")
+            run.tally["kept"] += len(blocks_of(text))
+            run.tally["hidden"] += not text.endswith("hidden 0\n")
 
 
 def check_verdicts(run: Run, trace: deadlocked.Trace, blocks: list[Block], shown: Shown) -> None:
@@ -156,9 +208,7 @@ def check_forms(run: Run, trace: deadlocked.Trace, block: Block) -> None:
     script = running.printed(run.program, ["witness", "trace", first, second, "--script"])
     running.write("script", script.decode("ascii"))
     answers = running.printed(run.program, ["replay", "trace", "script"]).decode("ascii").splitlines()
-    refusals = [
-        f"refused 46 25 lock held by T{trace.events[other][0]}" for other in (block.pair[1], block.pair[0])
-    ]
+    refusals = [f"refused 46 25 lock held by T{trace.events[other][0]}" for other in (block.pair[1], block.pair[0])]
     if answers[-2:] != refusals or any("refused" in line for line in answers[:-2]):
         raise Wrong("the script is answered otherwise:\n" + "\n".join(answers))
 
@@ -215,6 +265,7 @@ def judge_trace(run: Run, trace: deadlocked.Trace, shown: Shown) -> None:
             check_forms(run, trace, block)
         else:
             check_reason(run, trace, block)
+    check_filters(run, trace, blocks)
     check_others(run, trace)
 
 

@@ -2,6 +2,7 @@ pub mod EndLemmas
 pub mod KeyLemmas
 pub mod ListLemmas
 pub mod NestLemmas
+pub mod OpenLemmas
 pub mod PatternLemmas
 pub mod RowLemmas
 pub mod StepLemmas

@@ -20,7 +20,7 @@ pub enum Finding {
     Shown(Schedule),
     /// No correct reordering shows them.
     Apart,
-    /// No schedule was found.
+    /// No schedule was found, and neither order nor a lock forbids one.
     Undecided,
 }
 
@@ -50,7 +50,8 @@ pub fn find(
 ) -> Result<Finding, OutOfMemory>
     requires first { first < length analysis.now.events }
     requires second { second < length analysis.now.events }
-    // A schedule shows both requests. If they are apart, no correct reordering does.
+    // A schedule shows both requests. If they are apart, no correct reordering does. If they are undecided, neither
+    // order nor a lock forbids one.
     ensures { IfOk result (IsFinding analysis.now first second) }
 {
     let mut work = 0;
@@ -75,11 +76,11 @@ pub(crate) fn found(
         return Ok(apart(analysis, first, second));
     }
     if !may_search {
-        return Ok(Finding::Undecided);
+        return Ok(undecided(analysis, first, second));
     }
     match schedule_of(alloc, analysis, first, second, work)? {
         Some(schedule) => Ok(shown(analysis, schedule, first, second)),
-        None => Ok(Finding::Undecided),
+        None => Ok(undecided(analysis, first, second)),
     }
 }
 
@@ -103,4 +104,14 @@ fn apart(analysis: &Analysis<'_>, _first: u32, _second: u32) -> Finding
     let indexed = analysis.indexed();
     let _len = indexed.len();
     Finding::Apart
+}
+
+// The finding if the two requests are not refuted, and no schedule was found.
+fn undecided(analysis: &Analysis<'_>, _first: u32, _second: u32) -> Finding
+    requires { ¬ AreRefuted analysis.now.events (_first ∷ _second ∷ []) }
+    ensures { IsFinding analysis.now _first _second result }
+{
+    let indexed = analysis.indexed();
+    let _len = indexed.len();
+    Finding::Undecided
 }

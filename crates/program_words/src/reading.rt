@@ -190,12 +190,16 @@ fn triage<'a>(alloc: Global, given: &ArgMatches<'a>, limits: Limits) -> Result<T
 const TRIES: &str = "`--tries` takes a number in decimal digits";
 
 /// The task that the arguments of `deadlocks` name.
-fn deadlocks<'a>(given: &ArgMatches<'a>, limits: Limits) -> Result<Task<'a>, Unread>
+fn deadlocks<'a>(alloc: Global, given: &ArgMatches<'a>, limits: Limits) -> Result<Task<'a>, Unread>
     ensures { IfOk result (IsWithin limits) }
 {
     let tries = number(word(given, "tries"), 0, limits.tries, TRIES)?;
+    let Filters { only, hide } = block_filters(alloc, given)?;
     Ok(Task::Deadlocks(DeadlocksTask {
         trace: word(given, "TRACE"),
+        known: given.get_str("known"),
+        only,
+        hide,
         apart: given.get_flag("apart"),
         tries,
         fail: given.get_flag("fail"),
@@ -267,7 +271,7 @@ fn command_task<'a>(
         CommandName::Log => Ok(Task::Log(word(given, "LOG"))),
         CommandName::Threads => threads(alloc, given, limits),
         CommandName::Triage => triage(alloc, given, limits),
-        CommandName::Deadlocks => deadlocks(given, limits),
+        CommandName::Deadlocks => deadlocks(alloc, given, limits),
         CommandName::Explain => Ok(Task::Explain(pair(given), given.get_flag("all"))),
         CommandName::Witness => Ok(Task::Witness(pair(given), schedule_form(given))),
         CommandName::Cut => window(given, limits),
