@@ -24,7 +24,7 @@ PATIENCE = 900
 # The seeds of the programs that are always tried, how many scenarios each has, and the fewest races of all.
 FEW, SCENARIOS, LEAST_RACES = (8,), 8, 3
 # A program has this many runs at least, and this many at most: the counter of a scope may order two threads in a run.
-RUNS, MOST_RUNS = 2, 10
+RUNS, MOST_RUNS = 2, 40
 
 HEAD = """use std::cell::UnsafeCell;
 use std::collections::BTreeMap;
