@@ -18,6 +18,13 @@ HOOK = "__tsan_init"
 # arithmetic gets no hooks either.
 ALLOCATOR = re.compile(r"(_R\w+_)?__rust_\w+$")
 ARITHMETIC = "libcompiler_builtins-"
+# Archives of C and C++ and of compilers: as libraries they need no hooks either.
+OF_COMPILERS = re.compile(
+    r"lib(c|c_nonshared|m|mvec|pthread|dl|rt|util|gcc|gcc_eh|gomp|atomic|ubsan|ssp_nonshared|unwind|"
+    r"stdc\+\+|stdc\+\+fs|stdc\+\+exp|supc\+\+|c\+\+|c\+\+abi|c\+\+fs|clang_rt\.[\w.-]+)(-[\d.]+)?\.a$"
+)
+# A file that the linker says it reads, and perhaps a member: `FILE`, `FILE(MEMBER)` or `(FILE)MEMBER`.
+READ = re.compile(r"\(?([^()]+)")
 # The variable that keeps the names: the decoder looks for it.
 VARIABLE = "racebench_bare_objects"
 
@@ -75,6 +82,18 @@ def in_archives(nm: str, paths: Iterable[str]) -> dict[str, Part]:
     """The members of archives among these files that have code and no hooks."""
     parts = [item for path in paths if is_archive(path) for item in parts_of(nm, path).items()]
     return {name: part for name, part in parts if is_bare(part) and not name.startswith(ARITHMETIC)}
+
+
+def file_read(line: str) -> str:
+    """The file that the linker names in this line, or an empty text if it says something else."""
+    found = READ.match(line)
+    return found[1] if found and os.path.exists(found[1]) else ""
+
+
+def archives_read(lines: Iterable[str]) -> list[str]:
+    """The archives that the linker names, without those that need no hooks."""
+    found = filter(is_archive, filter(None, map(file_read, lines)))
+    return [path for path in found if not OF_COMPILERS.match(os.path.basename(path))]
 
 
 def used_of(members: dict[str, Part], defined: set[str], others: set[str]) -> list[str]:

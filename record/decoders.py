@@ -19,7 +19,7 @@ HERE = os.path.dirname(os.path.realpath(__file__))
 # The folder of the decoder in the package, if this folder is the package's.
 PACKAGED = "share/planecarmine/record", "lib/planecarmine/decoder"
 SOURCE = os.path.join(HERE, "decoder", "all.cpp")
-OPTIONS = ["-std=c++17", "-O2"]
+OPTIONS = ["-std=c++17", "-O2", "-pthread"]
 LIBRARIES = ["-ldw", "-lelf", "-lz"]
 ADVICE = "install g++ and libdw-dev, or name a compiler in RECORD_CXX"
 

@@ -1,7 +1,7 @@
 #!/usr/bin/env python3
 """Judges what the recorder leaves out, since it can't change a verdict: by traces of records that are drawn by chance.
 Each is decoded whole and without what is left out. The second must be the first without what the definitions of
-leaving.py leave out, and triage has to say the same of both.
+leaving.py leave out, and triage has to say the same of both. Several workers have to write the same trace as one.
 
     recorded_leaving.py PROGRAM [COUNT [FIRST]]      draws this many traces (3000), from this seed on (1)
 
@@ -29,8 +29,8 @@ if sys.path[0] != RECORD:
     sys.path.insert(0, RECORD)
 import raw as raw_file
 
-# How many traces the tests draw.
-FEW = 60
+# How many traces the tests draw, and by how many workers each is decoded at most, beside one.
+FEW, MOST_WORKERS = 60, 9
 SEQ_CST, MODULE_AT, KINDS = 5, 0x400000, raw_file.KINDS
 # The main thread, and how many others there may be.
 MAIN, MOST_THREADS = 0, 5
@@ -210,6 +210,9 @@ def judge_one(program: str, decoder: str, seed: int) -> Counter[str]:
     drawn = Drawn(seed)
     drawn.write("drawn.raw", drawn.chance.choice([20, 40, 80]))
     whole, less = decoded(decoder, "--all"), decoded(decoder)
+    workers = drawn.chance.randint(2, MOST_WORKERS)
+    if decoded(decoder, "--workers", str(workers)) != less:
+        raise Wrong(f"seed {seed}: {workers} workers write another trace")
     steps = steps_of([leaving.event_of(line) for line in events_in(whole)])
     kept = leaving.without(steps)
     expected = [leaving.line_of(event) for step in kept for event in step.events]

@@ -38,6 +38,32 @@ INTERPRETED = (
 ).split()
 
 
+# How many workers decode a recording: each has a piece of it, however short it is.
+WORKERS = (1, 2, 5)
+
+
+def written_by(workers: int, options: Sequence[str]) -> list[bytes]:
+    """What so many workers write of `kept.raw`: the trace, the facts, and the files that options name."""
+    command = [decoder(), "--workers", str(workers), *options, "kept.raw"]
+    done = subprocess.run(command, capture_output=True, timeout=PATIENCE, check=False)
+    if done.returncode:
+        raise Wrong(f"{workers} workers end with status {done.returncode}: {done.stderr[:600]!r}")
+    found = [done.stdout, done.stderr]
+    for path in options[1::2]:
+        with open(path, "rb") as file:
+            found.append(file.read())
+    return found
+
+
+def judge_workers() -> None:
+    """The trace of `kept.raw`, its facts and the files beside it are the same however many workers decode it."""
+    choices: list[list[str]] = [[], ["--all"], ["--ordered", "ordered", "--numbers", "numbers"]]
+    for options in choices:
+        found = [written_by(workers, options) for workers in WORKERS]
+        if not found[0][0] or any(other != found[0] for other in found):
+            raise Wrong(f"{options}: {WORKERS} workers do not write the same")
+
+
 def decoded(*options: str) -> tuple[list[str], str]:
     """The trace of the records in `kept.raw`, and the facts of it."""
     done = subprocess.run([decoder(), *options, "kept.raw"], capture_output=True, timeout=PATIENCE, check=False)
@@ -59,6 +85,7 @@ def judge_decoder(source: str, options: Sequence[str], c: str) -> None:
     again, _ = decoded("--raw-names", *[option for option in options if option == "--no-free"])
     if not trace or trace != again:
         raise Wrong("the trace is not the one of the records that were kept")
+    judge_workers()
     stem, ending = os.path.splitext(os.path.basename(source))
     if c != "gcc" or ending != ".c" or stem not in INTERPRETED or "--no-free" in options:
         return

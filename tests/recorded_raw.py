@@ -22,9 +22,13 @@ def decoded(raw: bytes) -> tuple[int, list[str], str]:
     """The status of the decoder, the events, and what it says."""
     with open("other.raw", "wb") as file:
         file.write(raw)
-    done = subprocess.run(
-        [decoder(), "--all", "--raw-names", "other.raw"], capture_output=True, timeout=PATIENCE, check=False
-    )
+    ends = []
+    for workers in ("1", "3"):
+        command = [decoder(), "--all", "--raw-names", "--workers", workers, "other.raw"]
+        ends.append(subprocess.run(command, capture_output=True, timeout=PATIENCE, check=False))
+    done, other = ends
+    if (done.returncode, done.stdout, done.stderr) != (other.returncode, other.stdout, other.stderr):
+        raise Wrong(f"three workers end with status {other.returncode}, and one with {done.returncode}")
     errors = done.stderr.decode(errors="replace")
     if done.returncode not in (0, 1) or (done.returncode and not errors.startswith("record: other.raw")):
         raise Wrong(f"the decoder ended with status {done.returncode}: {errors[:600]}")

@@ -2,7 +2,11 @@
 
 A scenario has its own threads. The first one writes a datum, and the last one reads it. What passes from one to the
 next orders the two, or the datum is also accessed after the first pass or before the last one: that is a race, and a
-label names it. So each race of the recording has its label, and each label has a race, within some seeds.
+label names it. So each race of a recording has its label, and each label has a race in each recording.
+
+A scope counts its threads: one that ends lowers the number, and the main thread raises it at each spawn. If a thread
+ends before the next one is spawned, the number orders the two, and their race is apart in that run. So a scenario with
+a race spawns its last thread first. Each waits for the one before it, so none can end before all are there.
 
     recorded_rust_planted.py PROGRAM FIRST COUNT     this many programs from a seed on, in its own process
 """
@@ -23,8 +27,8 @@ RECORD = os.path.join(TOP, "record")
 PATIENCE = 900
 # The seeds of the programs that are always tried, how many scenarios each has, and the fewest races of all.
 FEW, SCENARIOS, LEAST_RACES = (8,), 8, 3
-# A program has this many runs at least, and this many at most: the counter of a scope may order two threads in a run.
-RUNS, MOST_RUNS = 2, 40
+# How many runs a program has.
+RUNS = 2
 
 HEAD = """use std::cell::UnsafeCell;
 use std::collections::BTreeMap;
@@ -64,7 +68,7 @@ PASSES = {
     "bounded": ("let (t%, r%) = mpsc::sync_channel(1);", "t%.send(1).unwrap();", "let r = r%;\nr.recv().unwrap();"),
     "meeting": ("let (t%, r%) = mpsc::sync_channel(0);", "t%.send(1).unwrap();", "let r = r%;\nr.recv().unwrap();"),
     "boxed": (
-        "let (t%, r%) = mpsc::channel();",
+        "let (t%, r%) = mpsc::channel::<Box<i32>>();",
         "t%.send(Box::new(1)).unwrap();",
         "let r = r%;\n*r.recv().unwrap() += 1;",
     ),
@@ -130,7 +134,7 @@ PASSES = {
         "t%.send(thread::current()).unwrap();\nwhile !a%.load(Ordering::Relaxed) {\nthread::park();\n}",
     ),
     "joined": (
-        "let h% = Mutex::new(None);",
+        "let h% = Mutex::new(None::<thread::JoinHandle<i32>>);",
         "*h%.lock().unwrap() = Some(thread::spawn(|| 1));",
         "wait(|| h%.lock().unwrap().is_some());\nh%.lock().unwrap().take().unwrap().join().unwrap();",
     ),
@@ -147,7 +151,7 @@ DATA = (
     ),
     (
         "let d% = Cell::new(BTreeMap::new());",
-        "unsafe { (&mut *d%.at()).insert(1, 2) };",
+        "unsafe { let map = &mut *d%.at(); map.insert(map.len(), 2) };",
         "see(unsafe { (&*d%.at()).len() } as u64);",
     ),
     (
@@ -166,7 +170,7 @@ def scenario(chance: random.Random, number: int) -> tuple[str, bool]:
     mark = f" // RACE s{number}" if where else ""
     names = [f"{number}_{k}" for k in range(len(passes))]
     parts = [[text.replace("%", name) for text in PASSES[kind]] for kind, name in zip(passes, names)]
-    lines = [declared, *(part[0] for part in parts), "thread::scope(|scope| {"]
+    threads = []
     for k in range(len(passes) + 1):
         body = [] if k == 0 else [parts[k - 1][2]]
         if k == len(passes):
@@ -174,9 +178,9 @@ def scenario(chance: random.Random, number: int) -> tuple[str, bool]:
         else:
             first = [write + (mark if where == "early" else "")] if k == 0 else []
             body = first + body + [parts[k][1]] + ([write + mark] if k == 0 and where == "late" else [])
-        lines += ["scope.spawn(|| {", *body, "});"]
-    lines.append("});")
-    text = "\n".join(lines)
+        threads.append(["scope.spawn(|| {", *body, "});"])
+    spawned = [line for thread in (threads[::-1] if where else threads) for line in thread]
+    text = "\n".join([declared, *(part[0] for part in parts), "thread::scope(|scope| {", *spawned, "});"])
     return f"\n// {' '.join(passes)} {where}\nfn s{number}() {{\n{text}\n}}\n", bool(where)
 
 
@@ -210,10 +214,8 @@ def judge_planted(racebench: str, seed: int) -> int:
         f"planted.rs:{number}": re.findall(r"// RACE (\w+)", line)
         for number, line in enumerate(text.splitlines(), start=1)
     }
-    found: set[str] = set()
-    for run in range(1, MOST_RUNS + 1):
-        if run > RUNS and not labels - found:
-            break
+    for run in range(1, RUNS + 1):
+        found: set[str] = set()
         with open("trace.std", "w", encoding="utf-8") as trace:
             trace.write(done([os.path.join(RECORD, "run"), "--seed", str(run), "./planted"]))
         printed = done([racebench, "triage", "trace.std"])
@@ -223,9 +225,9 @@ def judge_planted(racebench: str, seed: int) -> int:
             if not shared:
                 raise Wrong(f"program {seed}, seed {run}: a race without a label: {first} and {second}\n{text}")
             found |= shared
-    if labels - found:
-        raise Wrong(f"program {seed}: no run has the races {sorted(labels - found)}\n{text}")
-    return len(found)
+        if labels - found:
+            raise Wrong(f"program {seed}, seed {run}: the races {sorted(labels - found)} are not there\n{text}")
+    return len(labels)
 
 
 def judge_few(racebench: str) -> None:

@@ -23,6 +23,8 @@ FOLDER = os.path.join(SOURCES, "strangers")
 SEEDS = (1, 2)
 # A race may hang on chance, as on a timer. Where one is not met, further seeds are recorded, up to this one.
 LAST_SEED = 15
+# Seconds after which a program hangs that takes one.
+ENDLESS = 120
 # What a program of this kind is compiled by, what it is called with, and what it reads.
 STATIC = ["-std=c++17", "-static-libstdc++", "-static-libgcc"]
 COMPILED = {
@@ -268,6 +270,21 @@ def judge_late(c: str) -> None:
     places = {line.split("|", 2)[2] for line in trace.splitlines() if "plugged)" in line}
     if status != 134 or not places or not all(place.startswith("plugin.c:4 < touch") for place in places):
         raise Wrong(f"status {status}, and the places in a library that is opened late are {sorted(places)}: {errors}")
+
+
+def judge_opening(c: str) -> None:
+    """While a thread opens a library, and waits for its turn in the constructor, another makes threads. Both go on."""
+    environment, folder = dict(os.environ, RECORD_CC=c), os.path.join(SOURCES, "late")
+    library = ["-fPIC", "-shared", os.path.join(folder, "slow.c"), "-oslow.so"]
+    for arguments in (library, [os.path.join(folder, "makes.c"), "-oprogram"]):
+        status, _, errors = ran([os.path.join(RECORD, "cc"), "-O1", *arguments], env=environment)
+        if status:
+            raise Wrong(f"{arguments[-1]} is not linked: {errors[-600:]}")
+    for seed in range(1, 6):
+        command = [os.path.join(RECORD, "run"), "--yield", "2", "--seed", str(seed), "./program"]
+        status, trace, errors = ran(["timeout", str(ENDLESS), *command])
+        if status or not trace.endswith("recording|end(WHOLE)|\n") or not errors.startswith("8\n"):
+            raise Wrong(f"threads beside one that opens a library: seed {seed}, status {status}: {errors}")
 
 
 def judge_waves(c: str) -> None:
@@ -590,7 +607,7 @@ def cases(racebench: str, c: str, cxx: str | None) -> list[Case]:
     names = sorted(name for name in os.listdir(FOLDER) if name.endswith((".c", ".cpp")))
     names = [name for name in names if (cxx or name.endswith(".c")) and (c == "gcc" or name not in OPENMP)]
     found = [(f"calls behind a jump, {c}", judge_calls), (f"a library that is opened late, {c}", judge_late)]
-    found += [(f"calls in a search, {c}", judge_searches)]
+    found += [(f"calls in a search, {c}", judge_searches), (f"threads beside an opener, {c}", judge_opening)]
     found += [(f"threads in waves, {c}", judge_waves)]
     found += [(f"few open files, {c}", judge_few_files), (f"a header for later, {c}", judge_header)]
     found += [(f"descriptors of the recorder, {c}", judge_descriptors), (f"names of its own, {c}", judge_own_names)]

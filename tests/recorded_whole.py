@@ -88,6 +88,29 @@ CAUSES: list[tuple[list[str], str, str]] = [
 LIBRARY = "int twice(int n) { return 2 * n; }\n"
 USER = PROGRAM.replace("hits++;", "hits = twice(hits) - hits + 1;")
 USER = USER.replace("extern char", "int twice(int n);\nextern char")
+# Opens each library that is named, calls it and closes it, and ends without the end of the recorder.
+OPENER = PROGRAM.replace(
+    "int main(int count, char **words) {",
+    """#include <dlfcn.h>
+static int use(const char *path) {
+    void *library = dlopen(path, RTLD_NOW);
+    int (*twice)(int) = dlsym(library, "twice"), n = twice(1);
+    return dlclose(library) + n;
+}
+int main(int count, char **words) {
+    two();
+    for (int k = 1; k < count; k++) use(words[k]);
+    _exit(0);
+""",
+)
+OPENED = {
+    "hooked": r"WHOLE",
+    "one": r"LEFT OUT 1 FROM 0: LIBRARY",
+    "one one": r"LEFT OUT 1 FROM 0: LIBRARY",
+    "one other": r"LEFT OUT 2 FROM 0: LIBRARY",
+    "hooked one hooked": r"LEFT OUT 1 FROM 0: LIBRARY",
+    "one hooked other one": r"LEFT OUT 2 FROM 0: LIBRARY",
+}
 
 
 def write(name: str, text: str) -> None:
@@ -141,19 +164,38 @@ def judge_linked(c: str) -> None:
         "part.o": r"LEFT OUT 1 FROM 0: HOOKS",
         "libparts.a": r"LEFT OUT 1 FROM 0: HOOKS",
         "libpart.so": r"LEFT OUT 1 FROM 0: LIBRARY",
+        "-Wl,-Bstatic -L. -lparts -Wl,-Bdynamic": r"LEFT OUT 1 FROM 0: HOOKS",
+        "part.c -static-libgcc": r"WHOLE",
     }
     for part, last in linked.items():
-        command = ["user.c", part, "-Wl,-rpath," + os.getcwd(), "-o", "program"]
+        command = ["user.c", *part.split(), "-Wl,-rpath," + os.getcwd(), "-o", "program"]
         done = subprocess.run(
             [os.path.join(RECORD, "cc"), "-O1", *command], capture_output=True, text=True, check=False, env=environment
         )
         if done.returncode or ("no hooks" in done.stderr) != ("HOOKS" in last):
             raise Wrong(f"linked with {part}: {done}")
         judge_run(["./program"], last, 0 if last == "WHOLE" else 4)
+    ran(
+        [os.path.join(RECORD, "cc"), "user.c", "libpart.so", "-Wl,-rpath," + os.getcwd(), "-o", "program"],
+        env=environment,
+    )
     judge_run(["--trust", "libpart", "./program"], "WHOLE", 0)
-    environment["RECORD_CC"] = c
     ran([os.path.join(RECORD, "cc"), "-shared", "-fPIC", "part.c", "-o", "libpart.so"], env=environment)
     judge_run(["./program"], "WHOLE", 0)
+
+
+def judge_opened(c: str) -> None:
+    """Libraries without hooks that were opened and closed are counted, each once, also if one took the place of
+    another."""
+    write("opener.c", OPENER)
+    write("part.c", LIBRARY)
+    environment = dict(os.environ, RECORD_CC=c)
+    ran([os.path.join(RECORD, "cc"), "-O1", "opener.c", "-o", "program"], env=environment)
+    for name in ("one", "other"):
+        ran([c, "-shared", "-fPIC", "part.c", "-o", f"{name}.so"])
+    ran([os.path.join(RECORD, "cc"), "-shared", "-fPIC", "part.c", "-o", "hooked.so"], env=environment)
+    for names, last in OPENED.items():
+        judge_run(["./program", *(f"./{name}.so" for name in names.split())], last, 0 if last == "WHOLE" else 4)
 
 
 def judge_small_disk(c: str) -> None:
@@ -188,6 +230,7 @@ def judge_broken(racebench: str, c: str) -> None:
 def cases(racebench: str, c: str) -> list[Case]:
     found: list[Case] = [
         (f"causes of a recording that is not whole, {c}", judge_causes, (c,)),
+        (f"libraries that are opened and closed, {c}", judge_opened, (c,)),
         (f"a disk that becomes full, {c}", judge_small_disk, (c,)),
         (f"a trace that breaks off, {c}", judge_broken, (racebench, c)),
     ]

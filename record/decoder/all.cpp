@@ -28,6 +28,7 @@
 #include "streams.cpp"
 #include "deadlocks.cpp"
 #include "trace.cpp"
+#include "finding.cpp"
 #include "words.cpp"
 #include "writing.cpp"
 #include "main.cpp"

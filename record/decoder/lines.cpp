@@ -8,16 +8,16 @@ std::string &Lines::text_of(const record &one, const Operation &operation) {
     places::Key at{one.pc, one.stack};
     bool is_of_operation = found.place == operation.place && found.word == operation.word &&
         found.before == operation.before && found.thing == operation.thing && found.of_thread == operation.thread;
-    if (!is_of_operation || !(found.at == at) || found.thread != one.thread || found.kind != one.kind)
-        found = {at,
-                 operation.place,
-                 operation.word,
-                 operation.before,
-                 operation.thing,
-                 operation.thread,
-                 one.thread,
-                 one.kind,
-                 ""};
+    if (is_of_operation && found.at == at && found.thread == one.thread && found.kind == one.kind) return found.text;
+    found.at = at;
+    found.place = operation.place;
+    found.word = operation.word;
+    found.before = operation.before;
+    found.thing = operation.thing;
+    found.of_thread = operation.thread;
+    found.thread = one.thread;
+    found.kind = one.kind;
+    found.text.clear();
     return found.text;
 }
 

@@ -15,7 +15,8 @@ bool Lives::see_write(const forks::Forks &forks, objects::Thing thing, u64 place
     for (auto life = lives.lower_bound(place); life != lives.end() && life->first < place + size; ++life) {
         for (auto &use : life->second.uses) {
             if (forks.order(write, use.first, use.second)) continue;
-            any = meets = life->second.has_reads = true;
+            life->second.has_reads = true;
+            any = meets = true;
         }
     }
     return meets;

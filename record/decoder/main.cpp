@@ -11,7 +11,7 @@ namespace {
 
 const char *const USAGE = "decoder [--max N] [--from N] [--frames N] [--no-free] [--raw-names] [--only FILE].. "
                           "[--trust LIB].. [--cause CAUSE] [--killed] "
-                          "[--numbers FILE] [--all] [--ordered FILE] RAW | decoder --places RAW";
+                          "[--numbers FILE] [--all] [--ordered FILE] [--workers N] RAW | decoder --places RAW";
 
 struct Request {
     trace::Options options;
@@ -44,19 +44,31 @@ bool read_option(int option, Request &request) {
     case 'k': request.options.killed = true; return true;
     case 'a': request.options.all = true; return true;
     case 'd': request.options.ordered = optarg; return true;
+    case 's':
+        if (!number_in(optarg, number)) return false;
+        request.options.workers = number;
+        return true;
     default: return false;
     }
 }
 
 bool read_arguments(int count, char **arguments, Request &request) {
     static const option known[] = {
-        {"max", required_argument, nullptr, 'm'},    {"from", required_argument, nullptr, 'f'},
-        {"frames", required_argument, nullptr, 'c'}, {"no-free", no_argument, nullptr, 'n'},
-        {"only", required_argument, nullptr, 'o'},   {"numbers", required_argument, nullptr, 'e'},
-        {"places", no_argument, nullptr, 'p'},       {"raw-names", no_argument, nullptr, 'r'},
-        {"trust", required_argument, nullptr, 't'},  {"cause", required_argument, nullptr, 'w'},
-        {"killed", no_argument, nullptr, 'k'},       {"ordered", required_argument, nullptr, 'd'},
-        {"all", no_argument, nullptr, 'a'},          {nullptr, 0, nullptr, 0},
+        {"max", required_argument, nullptr, 'm'},
+        {"from", required_argument, nullptr, 'f'},
+        {"frames", required_argument, nullptr, 'c'},
+        {"no-free", no_argument, nullptr, 'n'},
+        {"only", required_argument, nullptr, 'o'},
+        {"numbers", required_argument, nullptr, 'e'},
+        {"places", no_argument, nullptr, 'p'},
+        {"raw-names", no_argument, nullptr, 'r'},
+        {"trust", required_argument, nullptr, 't'},
+        {"cause", required_argument, nullptr, 'w'},
+        {"killed", no_argument, nullptr, 'k'},
+        {"ordered", required_argument, nullptr, 'd'},
+        {"all", no_argument, nullptr, 'a'},
+        {"workers", required_argument, nullptr, 's'},
+        {nullptr, 0, nullptr, 0},
     };
     for (int option; (option = getopt_long(count, arguments, "", known, nullptr)) != -1;) {
         if (!read_option(option, request)) return false;

@@ -10,9 +10,7 @@ constexpr int PIECE_BITS = 20;
 constexpr size_t MOST_USES = 16;
 
 void Objects::restart() {
-    living.clear();
-    inside.clear();
-    next = 0;
+    on = {};
     std::fill(known.begin(), known.end(), Found{});
     std::fill(pages.begin(), pages.end(), Whole{});
 }
@@ -26,69 +24,69 @@ void Objects::changed(u64 start, u64 end) {
 
 void Objects::begin(u64 start, u64 size) {
     u64 end = start + (size ? size : 1);
-    auto at = living.upper_bound(start);
-    if (at != living.begin()) --at;
-    while (at != living.end() && at->first < end) {
+    auto at = on.living.upper_bound(start);
+    if (at != on.living.begin()) --at;
+    while (at != on.living.end() && at->first < end) {
         u64 its_end = at->second.end(at->first);
         if (its_end <= start) {
             ++at;
             continue;
         }
         changed(at->first, its_end);
-        at = living.erase(at);
+        at = on.living.erase(at);
     }
     cut_inside(start, end);
     changed(start, end);
-    living[start] = {size, next++};
+    on.living[start] = {size, on.next++};
 }
 
 void Objects::begin_block(const record &one) {
     begin(one.at, one.size);
-    if (names.size() >= next) return;
-    u32 site = site_at({one.pc, one.stack}), place = place_of_site[site];
-    names.push_back({place, ++given[place], site, one.thread, one.size});
+    if (all->names.size() >= on.next) return;
+    u32 site = site_at({one.pc, one.stack}), place = all->place_of_site[site];
+    all->names.push_back({place, ++all->given[place], site, one.thread, one.size});
 }
 
 u32 Objects::site_at(const places::Key &key) {
-    auto made = site_of.emplace(key, static_cast<u32>(sites.size()));
+    auto made = all->site_of.emplace(key, static_cast<u32>(all->sites.size()));
     if (!made.second) return made.first->second;
     const std::string &name = modules.place(key.pc, key.call);
-    auto number = place_numbers.emplace(name, static_cast<u32>(place_names.size()));
-    if (number.second) place_names.push_back(name), given.push_back(0);
-    sites.push_back({key, {0, 0}, false, false, std::nullopt, ""});
-    place_of_site.push_back(number.first->second);
+    auto number = all->place_numbers.emplace(name, static_cast<u32>(all->place_names.size()));
+    if (number.second) all->place_names.push_back(name), all->given.push_back(0);
+    all->sites.push_back({key, {0, 0}, false, false, std::nullopt, ""});
+    all->place_of_site.push_back(number.first->second);
     return made.first->second;
 }
 
 void Objects::begin_stack(const record &one) {
     begin(one.at, one.size);
-    if (names.size() < next) names.push_back({STACK_PLACE, one.thread, 0, one.thread, one.size});
+    if (all->names.size() < on.next) all->names.push_back({STACK_PLACE, one.thread, 0, one.thread, one.size});
 }
 
 // What was inside there is there no more.
 void Objects::cut_inside(u64 start, u64 end) {
-    auto at = inside.upper_bound(start);
-    while (at != inside.end() && at->second.start < end) {
+    auto at = on.inside.upper_bound(start);
+    while (at != on.inside.end() && at->second.start < end) {
         Piece piece = at->second;
-        if (piece.start < start) inside.emplace_hint(at, start, piece);
+        if (piece.start < start) on.inside.emplace_hint(at, start, piece);
         if (at->first > end) {
             at->second.start = end;
             return;
         }
-        at = inside.erase(at);
+        at = on.inside.erase(at);
     }
 }
 
 // If one piece alone is in the way and has the same end, its entry is used again: so it is for most calls.
 void Objects::begin_inside(u64 end, const Piece &piece) {
     if (end <= piece.start) return;
-    auto at = inside.upper_bound(piece.start);
-    if (at != inside.end() && at->first == end) {
-        if (at->second.start < piece.start) inside.emplace_hint(at, piece.start, at->second);
+    auto at = on.inside.upper_bound(piece.start);
+    if (at != on.inside.end() && at->first == end) {
+        if (at->second.start < piece.start) on.inside.emplace_hint(at, piece.start, at->second);
         at->second = piece;
     } else {
         cut_inside(piece.start, end);
-        inside[end] = piece;
+        on.inside[end] = piece;
     }
     changed_inside(end, piece);
 }
@@ -117,8 +115,8 @@ void Objects::changed_inside(u64 end, const Piece &piece) {
 
 // The activation that has more memory than was known, or else a new one.
 Thing Objects::same_frame(const record &one) const {
-    auto at = one.order ? inside.find(one.at + one.size) : inside.end();
-    if (at == inside.end()) return NOTHING;
+    auto at = one.order ? on.inside.find(one.at + one.size) : on.inside.end();
+    if (at == on.inside.end()) return NOTHING;
     const Activation *found = activation_of(at->second.thing);
     bool is_same = found && found->frame.end == at->first && found->body == one.pc;
     return is_same ? at->second.thing : NOTHING;
@@ -128,10 +126,10 @@ void Objects::begin_frame(const record &one) {
     Thing thing = same_frame(one);
     u64 end = one.at + one.size;
     if (thing == NOTHING) {
-        thing = next++;
-        if (names.size() < next) {
-            names.push_back({FRAME_PLACE, 0, static_cast<u32>(activations.size()), one.thread, 0});
-            activations.push_back({one.pc, {one.answer, end}, one.thread});
+        thing = on.next++;
+        if (all->names.size() < on.next) {
+            all->names.push_back({FRAME_PLACE, 0, static_cast<u32>(all->activations.size()), one.thread, 0});
+            all->activations.push_back({one.pc, {one.answer, end}, one.thread});
         }
     }
     begin_inside(end, {one.at, end - BEFORE_END, thing});
@@ -140,42 +138,39 @@ void Objects::begin_frame(const record &one) {
 void Objects::begin_own_variables(const record &stack) {
     u64 size = stack.answer ? modules.own_variables() : 0;
     if (!size || size > stack.answer) return;
-    Thing thing = next++;
-    if (names.size() < next) names.push_back({OWN_PLACE, 0, 0, stack.thread, size});
+    Thing thing = on.next++;
+    if (all->names.size() < on.next) all->names.push_back({OWN_PLACE, 0, 0, stack.thread, size});
     begin_inside(stack.answer, {stack.answer - size, stack.answer - size, thing});
 }
 
 const Activation *Objects::activation_of(Thing thing) const {
-    bool is_frame = thing < names.size() && names[thing].place == FRAME_PLACE;
-    return is_frame ? &activations[names[thing].site] : nullptr;
+    bool is_frame = thing < all->names.size() && all->names[thing].place == FRAME_PLACE;
+    return is_frame ? &all->activations[all->names[thing].site] : nullptr;
 }
 
 void Objects::resize(u64 start, u64 size) {
-    auto at = living.find(start);
-    if (at == living.end()) return;
+    auto at = on.living.find(start);
+    if (at == on.living.end()) return;
     changed(start, std::max(at->second.end(start), start + size));
     at->second.size = size;
 }
 
 Where Objects::living_at(u64 start) const {
-    auto at = living.find(start);
-    return at == living.end() ? Where{NOTHING, 0} : Where{at->second.thing, at->second.size};
+    auto at = on.living.find(start);
+    return at == on.living.end() ? Where{NOTHING, 0} : Where{at->second.thing, at->second.size};
 }
 
 // Pages that no block has alone are kept too, as those of nothing.
 void Objects::find_whole(u64 page, Whole &to) const {
     u64 start = page << PAGE_BITS, end = start + (1ull << PAGE_BITS);
     to = {page, 0, ages[page % PAGES], NOTHING};
-    auto piece = inside.upper_bound(start);
-    if (piece != inside.end() && piece->second.start < end) return;
-    auto after = living.upper_bound(start);
-    if (after == living.begin()) return;
+    auto piece = on.inside.upper_bound(start);
+    if (piece != on.inside.end() && piece->second.start < end) return;
+    auto after = on.living.upper_bound(start);
+    if (after == on.living.begin()) return;
     auto &block = *std::prev(after);
     if (block.second.end(block.first) >= end) to.start = block.first, to.thing = block.second.thing;
 }
-
-// Words beside each other have places beside each other.
-size_t Objects::place_of(u64 address) { return ((address >> 3) ^ (address << 13) ^ (address >> 19)) % CACHE; }
 
 Where Objects::found_at(u64 address) {
     u64 page = address >> PAGE_BITS;
@@ -196,26 +191,32 @@ Where Objects::found_at(u64 address) {
 }
 
 Where Objects::searched(u64 address) {
-    auto found = inside.upper_bound(address);
-    if (found != inside.end() && found->second.start <= address) {
+    auto found = on.inside.upper_bound(address);
+    if (found != on.inside.end() && found->second.start <= address) {
         const Piece &piece = found->second;
         recent[(address >> PAGE_BITS) % WHOLE_PAGES].put(
             {piece.start, found->first - piece.start, piece.base, piece.thing});
         return {piece.thing, address - piece.base};
     }
-    auto after = living.upper_bound(address);
-    if (after != living.begin()) {
+    auto after = on.living.upper_bound(address);
+    if (after != on.living.begin()) {
         auto &block = *std::prev(after);
         if (address < block.second.end(block.first)) return {block.second.thing, address - block.first};
     }
+    return lasting_at(address);
+}
+
+// Others may look for things that last at the same time.
+Where Objects::lasting_at(u64 address) {
+    std::lock_guard<std::mutex> guard(all->lasting);
     places::Variable variable = modules.variable_at(address);
     if (!variable.name.empty()) {
-        auto made = symbols.emplace(variable.start, NOTHING);
+        auto made = all->symbols.emplace(variable.start, NOTHING);
         if (made.second) made.first->second = lasting(variable.name, variable.start);
         return {made.first->second, address - variable.start};
     }
     u64 piece = address >> PIECE_BITS;
-    auto made = pieces.emplace(piece, NOTHING);
+    auto made = all->pieces.emplace(piece, NOTHING);
     if (made.second) {
         char name[40];
         snprintf(name, sizeof name, "memory:%llx", static_cast<unsigned long long>(piece << PIECE_BITS));
@@ -225,47 +226,55 @@ Where Objects::searched(u64 address) {
 }
 
 Thing Objects::lasting(const std::string &name, u64 symbol) {
-    lasting_names.push_back(name);
-    lasting_symbols.push_back(symbol);
-    return LASTING + static_cast<Thing>(lasting_names.size() - 1);
+    all->lasting_names.push_back(name);
+    all->lasting_symbols.push_back(symbol);
+    return LASTING + static_cast<Thing>(all->lasting_names.size() - 1);
 }
 
 Thing Objects::named(int kind, u64 number) {
     static const char *const kinds[] = {"memory", "fd", "channel", "chance", "team"};
-    auto made = others.emplace(static_cast<u64>(kind) << 56 ^ number, NOTHING);
+    std::lock_guard<std::mutex> guard(all->lasting);
+    auto made = all->others.emplace(static_cast<u64>(kind) << 56 ^ number, NOTHING);
     if (made.second) made.first->second = lasting(std::string(kinds[kind % 5]) + ":" + std::to_string(number));
     return made.first->second;
 }
 
 std::string Objects::name(Thing thing, u64 place) const {
     std::string whole;
-    if (thing >= LASTING) whole = lasting_names[thing - LASTING];
-    else if (names[thing].place == STACK_PLACE) whole = "stack:T" + std::to_string(names[thing].number);
-    else whole = "heap:" + place_names[names[thing].place] + "#" + std::to_string(names[thing].number);
+    if (thing >= LASTING) whole = all->lasting_names[thing - LASTING];
+    else if (all->names[thing].place == STACK_PLACE) whole = "stack:T" + std::to_string(all->names[thing].number);
+    else whole = "heap:" + all->place_names[all->names[thing].place] + "#" + std::to_string(all->names[thing].number);
     return place ? whole + "+" + std::to_string(place) : whole;
 }
 
 std::string Objects::source_name(Thing thing, u64 place, u64 size) {
     if (thing < LASTING) {
-        switch (names[thing].place) {
+        switch (all->names[thing].place) {
         case STACK_PLACE: return "";
         case FRAME_PLACE: return frame_name(thing, place, size);
-        case OWN_PLACE: return own_name(names[thing], place, size);
+        case OWN_PLACE: return own_name(all->names[thing], place, size);
         default: return block_name(thing, place, size);
         }
     }
-    u64 symbol = lasting_symbols[thing - LASTING];
+    u64 symbol = all->lasting_symbols[thing - LASTING];
     return symbol ? modules.variable_name(symbol, place, size) : "";
 }
 
-void Objects::see_write(Thing thing, const record &one) {
-    if (thing >= names.size() || names[thing].place >= OWN_PLACE || names[thing].thread != one.thread) return;
-    Site &site = sites[names[thing].site];
-    if (!site.written.pc) site.written = {one.pc, one.stack};
+void Objects::see_write(Thing thing, const record &one, Writes &first) const {
+    if (thing >= all->names.size()) return;
+    const Name &block = all->names[thing];
+    if (block.place >= OWN_PLACE || block.thread != one.thread) return;
+    if (first.size() <= block.site) first.resize(all->sites.size());
+    if (!first[block.site].pc) first[block.site] = {one.pc, one.stack};
+}
+
+void Objects::keep_writes(const Writes &first) {
+    for (size_t site = 0; site < first.size(); site++)
+        if (!all->sites[site].written.pc) all->sites[site].written = first[site];
 }
 
 const Objects::Site &Objects::site_of_block(const Name &block) {
-    Site &site = sites[block.site];
+    Site &site = all->sites[block.site];
     if (site.was_looked_for) return site;
     site.was_looked_for = true;
     site.type = modules.allocated(site.key.pc, site.key.call);
@@ -289,40 +298,41 @@ std::string Objects::label_of(const Name &block) {
 
 // The name of a block or frame without a number: the place and the type of a block, or the function.
 std::string Objects::base_name(Thing thing) {
-    const Name &of = names[thing];
-    if (of.place == FRAME_PLACE) return modules.function_at(activations[of.site].body);
+    const Name &of = all->names[thing];
+    if (of.place == FRAME_PLACE) return modules.function_at(all->activations[of.site].body);
     std::string label = label_of(of);
-    return "heap:" + place_names[of.place] + (label.empty() ? "" : " " + label);
+    return "heap:" + all->place_names[of.place] + (label.empty() ? "" : " " + label);
 }
 
 // Those with one name are counted by their threads, and the only one has no number.
 void Objects::number(const std::vector<Thing> &printed) {
-    std::unordered_map<std::string, u32> all;
+    std::unordered_map<std::string, u32> counts;
     std::map<std::pair<std::string, u16>, u32> by_thread;
     std::vector<std::pair<Thing, std::string>> bases;
     for (Thing thing : printed) {
-        if (thing >= LASTING || names[thing].place == STACK_PLACE || names[thing].place == OWN_PLACE) continue;
+        if (thing >= LASTING || all->names[thing].place == STACK_PLACE || all->names[thing].place == OWN_PLACE)
+            continue;
         bases.emplace_back(thing, base_name(thing));
-        all[bases.back().second]++;
+        counts[bases.back().second]++;
     }
     for (auto &[thing, base] : bases) {
-        u16 thread = names[thing].thread;
+        u16 thread = all->names[thing].thread;
         u32 count = ++by_thread[{base, thread}];
-        if (all[base] == 1) continue;
+        if (counts[base] == 1) continue;
         std::string number = count > 1 ? std::to_string(count) : "";
         if (thread) number = "T" + std::to_string(thread) + (number.empty() ? "" : "." + number);
-        if (!number.empty()) numbers[thing] = "#" + number;
+        if (!number.empty()) all->numbers[thing] = "#" + number;
     }
 }
 
 std::string Objects::number_of(Thing thing) const {
-    auto found = numbers.find(thing);
-    return found == numbers.end() ? "" : found->second;
+    auto found = all->numbers.find(thing);
+    return found == all->numbers.end() ? "" : found->second;
 }
 
 // A block of two objects or more is an array. Bytes of two elements have the offset in the block.
 std::string Objects::block_name(Thing thing, u64 place, u64 size) {
-    const Name &block = names[thing];
+    const Name &block = all->names[thing];
     const Site &site = site_of_block(block);
     std::optional<Dwarf_Die> type = label_of(block).empty() ? std::nullopt : types::object_type(*site.type);
     u64 each = type ? types::size_of(*type) : 0;
@@ -333,21 +343,38 @@ std::string Objects::block_name(Thing thing, u64 place, u64 size) {
     return name + text::plain(types::path_in(*site.type, place % each, size));
 }
 
-void Objects::use(Thing thing, u64 place, u64 pc) {
-    locals::Uses &known = uses[{thing, place}];
-    auto same = std::find_if(known.begin(), known.end(), [pc](auto &one) { return one.first == pc; });
-    if (same != known.end()) same->second++;
-    else if (known.size() < MOST_USES) known.emplace_back(pc, 1);
+static std::pair<Dwarf_Addr, uint64_t> *use_at(locals::Uses &uses, u64 pc) {
+    auto same = std::find_if(uses.begin(), uses.end(), [pc](auto &one) { return one.first == pc; });
+    return same == uses.end() ? nullptr : &*same;
+}
+
+void Objects::Used::add(u64 pc) {
+    if (auto same = use_at(first, pc)) same->second++;
+    else if (first.size() < MOST_USES) first.emplace_back(pc, 1);
+    else others[pc]++;
+}
+
+// Of all places of code the first MOST_USES are kept. Others of one part may be first ones of an earlier part.
+void Objects::keep_uses(const Uses &more) {
+    for (auto &place : more) {
+        locals::Uses &known = all->uses[place.first];
+        for (auto &one : place.second.first) {
+            if (auto same = use_at(known, one.first)) same->second += one.second;
+            else if (known.size() < MOST_USES) known.push_back(one);
+        }
+        for (auto &one : place.second.others)
+            if (auto same = use_at(known, one.first)) same->second += one.second;
+    }
 }
 
 // If no variable is known there, the offset from the frame's end.
 std::string Objects::frame_name(Thing thing, u64 place, u64 size) {
-    const Activation &of = activations[names[thing].site];
+    const Activation &of = all->activations[all->names[thing].site];
     std::string function = base_name(thing), number = number_of(thing);
-    auto known = uses.find({thing, place});
+    auto known = all->uses.find({thing, place});
     u64 address = place + of.frame.end - BEFORE_END;
     locals::Name name =
-        modules.local_name(of.body, of.frame, address, size, known == uses.end() ? locals::Uses{} : known->second);
+        modules.local_name(of.body, of.frame, address, size, known == all->uses.end() ? locals::Uses{} : known->second);
     if (!name.variable.empty())
         return (name.inlined.empty() ? function : text::function_name(name.inlined)) + number + ":" + name.variable;
     auto offset = static_cast<long long>(place) - static_cast<long long>(BEFORE_END);

@@ -18,6 +18,12 @@ void Cuts::add_far(u64 end) {
     settled = ends.size();
 }
 
+void Cuts::join(const Cuts &later) {
+    if (later.marks.size() > marks.size()) marks.resize(later.marks.size());
+    for (size_t word = 0; word < later.marks.size(); word++) marks[word] |= later.marks[word];
+    for (u64 end : later.ends) add_far(end);
+}
+
 void Cuts::settle() {
     for (u64 word = 0; word < marks.size(); word++)
         for (u64 rest = marks[word]; rest; rest &= rest - 1)

@@ -48,15 +48,34 @@ Records::Records(const File &file)
     : file(file), reader(static_cast<struct reader *>(calloc(1, sizeof(struct reader))), free) {
     if (!reader) throw std::bad_alloc();
     reader->words = file.first_word();
-    reader->end = file.words();
+    reader->end = stop = file.words();
 }
 
-bool Records::next() {
-    while (read_record(reader.get())) {
+Records::Records(const File &file, const Start &start, u64 end) : Records(file) {
+    reader->next = passed = start.word;
+    reader->tick = start.tick;
+    reader->thread = start.thread;
+    for (auto &form : start.forms) reader->form[form.first] = form.second;
+    stop = std::min(end, stop);
+}
+
+Start Records::start() const {
+    Start found{reader->next, reader->tick, reader->thread, {}};
+    for (u32 slot = FIRST_SLOT; slot < SLOTS; slot++)
+        if (reader->form[slot].done) found.forms.emplace_back(slot, reader->form[slot]);
+    return found;
+}
+
+bool Records::next_other() {
+    now = &reader->now;
+    while (reader->next < stop && read_record(reader.get())) {
         if (reader->place >= passed + AT_ONCE) file.forget(passed, reader->place), passed = reader->place;
         if (reader->now.kind != VOID) return true;
     }
-    if (!reader->is_faulty) return false;
+    if (!reader->is_faulty) {
+        file.forget(passed, reader->next);
+        return false;
+    }
     throw Wrong(file.path() + ": word " + std::to_string(reader->place) + " of the records is damaged");
 }
 

@@ -4,6 +4,8 @@
 #include <memory>
 #include <stdexcept>
 #include <string>
+#include <utility>
+#include <vector>
 #include "../runtime/reading.h"
 
 namespace raw {
@@ -37,21 +39,51 @@ private:
     const node *first_node;
 };
 
-// Goes over the records that happened, in their order.
+// Where the records of a piece begin, and what the reader knows there: the thread, its tick, and the forms.
+struct Start {
+    u64 word = 0, tick = 0;
+    u16 thread = 0;
+    std::vector<std::pair<u32, record>> forms;
+};
+
+// Goes over the records that happened, in their order: all, or those of a piece.
 class Records {
 public:
     explicit Records(const File &file);
+    Records(const File &file, const Start &start, u64 end);
+    // From now on `next` is false before the first record that begins at this word or later.
+    void stop_at(u64 word) { stop = word; }
+    // Where the next record begins.
+    Start start() const;
     // Whether there is one more record; `one` and `number` are of it then.
-    bool next();
-    const record &one() const { return reader->now; }
+    bool next() { return has_form() || next_other(); }
+    const record &one() const { return *now; }
     // Its number rises from record to record: it is the one of its first word.
     u64 number() const { return reader->place; }
 
 private:
-    static constexpr u64 AT_ONCE = 1 << 20;
+    static constexpr u64 AT_ONCE = 1 << 18;
+    // Reads a record of a slot's form, as nearly all are. It is made in the form itself: what differs from record to
+    // record is written anew each time. False for any other word.
+    bool has_form() {
+        struct reader &all = *reader;
+        if (all.next >= stop || all.next >= passed + AT_ONCE) return false;
+        u64 word = all.words[all.next];
+        record &form = all.form[word % SLOTS];
+        if (!form.done || form.kind == VOID) return false;
+        all.place = all.next++;
+        form.at = word / SLOTS;
+        form.thread = all.thread;
+        form.answer = form.kind == FRAME ? form.at : 0;
+        form.pos = form.kind == FRAME ? 0 : ++all.tick << 16;
+        now = &form;
+        return true;
+    }
+    bool next_other();
     const File &file;
     std::unique_ptr<struct reader, void (*)(void *)> reader;
-    u64 passed = 0;
+    const record *now = nullptr;
+    u64 passed = 0, stop;
 };
 
 }

@@ -1,6 +1,7 @@
 // The order that releases and acquires give beyond that of an atomic variable's own events: that of fences, and that of
 // a release whose value another thread's read-modify-write changed before it was acquired.
 #pragma once
+#include <cstddef>
 #include <unordered_map>
 #include <unordered_set>
 #include <vector>

@@ -1,6 +1,7 @@
 // Channels through which each byte comes once, in the order of the sends: pipes, and sockets of streams. Who received a
 // byte comes after who sent it, and not after later sends.
 #pragma once
+#include <cstddef>
 #include <vector>
 #include "../runtime/format.h"
 

@@ -9,6 +9,7 @@
 #include <unordered_map>
 #include <unordered_set>
 #include <vector>
+#include "ahead.hpp"
 #include "deadlocks.hpp"
 #include "forks.hpp"
 #include "leaving.hpp"
@@ -20,6 +21,7 @@
 #include "operations.hpp"
 #include "ordered.hpp"
 #include "pages.hpp"
+#include "pieces.hpp"
 #include "parts.hpp"
 #include "places.hpp"
 #include "polls.hpp"
@@ -49,6 +51,8 @@ struct Options {
     // Why records had no room if the disk had some, and whether a signal ended the program.
     std::string cause = "ROOM";
     bool killed = false;
+    // How many workers go over the records; 0 for one on each processor, and for less if the recording is short.
+    size_t workers = 0;
 };
 
 // What a record is of: a thing, a place in it, and how many bytes.
@@ -135,6 +139,9 @@ bool is_end(const record &one);
 // Whether a record uses a lock, semaphore or barrier that may be destroyed.
 bool is_use(const record &one);
 
+// The number of what is no memory, with its kind.
+inline u64 key_of(const record &one) { return static_cast<u64>(one.of) << 56 ^ one.at; }
+
 class Trace {
 public:
     Trace(const raw::File &file, const Options &options);
@@ -150,26 +157,56 @@ public:
     std::set<std::string> stronger_places();
 
 private:
+    // What workers find in a piece, before all is put together.
+    class Comers;
+    class Cutter;
+    class Parted;
     template <class Do> void each(Do what);
+    // A record, its number and what it is of. If that is cut, `cuts` is the number of its cuts, and the parts are those
+    // from `from` on and before `end`.
+    struct Found {
+        u64 number;
+        record one;
+        Resolved of;
+        u32 cuts;
+        size_t from, end;
+    };
+    Found found_of(u64 number, const record &one, const Resolved &of, parts::Spans &known) const;
+    template <class Do> void walk_written(const pieces::Piece &piece, Do what) const;
     template <class Do> void each_written(Do what);
-    // What a record is of.
-    Resolved of_record(const record &one) {
-        if (!is_plain(one)) return resolve(one);
-        objects::Where where = things.at(one.at);
+    template <class Worker> void each_piece(const pieces::Pieces &some, std::vector<Worker> &workers) const;
+    // What a record is of, in a walk over the records.
+    Resolved of_record(objects::Objects &its, const record &one) const {
+        if (!is_plain(one)) return resolve(its, one);
+        objects::Where where = its.at(one.at);
         return {where.thing, where.place, one.size};
     }
-    Resolved resolve(const record &one);
-    Resolved freed_by(const record &one);
-    void find_users();
+    Resolved resolve(objects::Objects &its, const record &one) const;
+    Resolved freed_by(objects::Objects &its, const record &one) const;
+    size_t workers() const;
+    void find_pieces();
+    // What was seen of a lock: most records are of the lock of the last one.
+    LockSeen &lock_of(const Lock &lock) {
+        if (!last_lock || !(last_lock->first == lock)) last_lock = &*locks.try_emplace(lock).first;
+        return last_lock->second;
+    }
+    void see_user(u64 number, const record &one);
+    void see_border(u64 number, const record &one);
+    void drop_single_users();
     void find_shared();
-    void find_lives();
-    Resolved access_of(const record &one, const Resolved &of) const;
+    // What a record accesses: an access itself, or the first byte of a lock.
+    Resolved access_of(const record &one, const Resolved &of) const {
+        return is_plain(one) || !of.there() || is_access(one) ? of : access_of_use(one, of);
+    }
+    Resolved access_of_use(const record &one, const Resolved &of) const;
     void find_cuts();
+    void keep_last_places(const std::vector<places::Key> &last);
+    void settle_cuts();
+    void count_beyond();
     bool gives_more_parts();
     void see_parts();
-    void see_parts_of(const record &one, const Resolved &of);
-    places::Key &last_place(u16 thread);
-    void see_use(const record &one, const objects::Activation &frame, objects::Thing thing, u64 place);
+    bool see_parts_in(const pieces::Pieces &some);
+    bool join_parts(std::vector<Parted> &all);
     void number_things();
     void find_kept();
     void choose();
@@ -178,10 +215,17 @@ private:
     void find_polls();
     void restart_locks();
     void see_lock(const record &one, const Resolved &of);
-    parts::Span span_of(const Resolved &of);
+    parts::Span span_of(const Resolved &of) { return span_in(spans, of, cuts[cuts_of.of(of.thing)]); }
+    // The parts of an access, of a thing with these cuts. A call would take longer than what it does.
+    [[gnu::always_inline]] parts::Span span_in(parts::Spans &spans, const Resolved &of, const parts::Cuts &ends) const {
+        if (!ends.is_even()) return searched_span(spans, of, ends);
+        auto [from, to] = ends.between(of.place, of.place + of.size);
+        return {of.thing, of.place, of.size, from, to, std::min(to, from + most_parts)};
+    }
+    const parts::Span &searched_span(parts::Spans &spans, const Resolved &of, const parts::Cuts &ends) const;
     bool is_chosen(const record &one);
-    void find_operations(const record &one, size_t number, const Resolved &of);
-    void find_accesses(const record &one, size_t number, const Resolved &of);
+    void find_operations(const Found &found);
+    void find_accesses(const Found &found);
     void add_atomic(const record &one, const parts::Cuts &ends, relaxed::Form form, const Resolved &of);
     void add_acquired(size_t number);
     void add_released(size_t number);
@@ -195,15 +239,26 @@ private:
     std::string name_of(const Operation &operation);
     u64 size_at(objects::Thing thing, u64 place);
     const std::string &location(const record &one);
+    void add_name(std::string &to, const Operation &operation);
+    void add_text(std::string &to, const record &one, const Operation &operation);
     std::string text_of(const record &one, const Operation &operation);
     Line line_of(const record &one, size_t number, const Operation &operation);
-    void write_operation(const record &one, size_t number, const Operation &operation);
-    void write_record(const record &one, size_t number);
+    // An operation of a record, and the number of that.
+    struct Event {
+        u64 number;
+        record one;
+        Operation operation;
+    };
+    void write_event(const Event &event);
+    template <class Write> void find_events(const record &one, u64 number, Write write);
+    template <class Write> void each_event(Write write);
+    void write_events();
     void pass_by(const record &one, size_t number, const Operation &operation);
     void open();
     void write_text(const std::string &text, u64 number);
     bool fits(u16 thread, u64 other);
-    void write_mark(const std::string &line);
+    void put(const std::string &text);
+    void flush();
     void see_deadlock(const record &one, const Resolved &of);
 
     const raw::File &file;
@@ -212,18 +267,22 @@ private:
     objects::Objects things;
     names::Names names;
     std::unordered_map<u64, parts::Seen> users;
+    std::unordered_map<u64, objects::Thing> user_locks;
     parts::PerThing<parts::Seen> seen;
     // The cuts of a thing, by their number; 0 is that of none.
     parts::PerThing<u32> cuts_of;
     std::vector<parts::Cuts> cuts;
     // How many parts an access gives, and how many more all would give by each number of MORE_PARTS.
     size_t most_parts = parts::MOST_PARTS;
-    std::array<size_t, parts::MORE_PARTS.size()> beyond = {};
+    parts::Beyond beyond = {};
     std::vector<parts::Seen> kept;
     parts::Spans spans;
+    parts::Wide wide;
     std::unordered_map<Lock, LockSeen, LockHash> locks;
-    // Where each thread was at its last record.
-    std::vector<places::Key> last_places;
+    std::pair<const Lock, LockSeen> *last_lock = nullptr;
+    pieces::Pieces pieces;
+    // Where each thread was at its last record before each piece.
+    std::vector<std::vector<places::Key>> last_places;
     // Locations of frees, of ends of frames, of locks by a try, and of all other records.
     std::unordered_map<places::Key, std::string, places::KeyHash> free_locations, end_locations, try_locations,
         locations;
@@ -232,17 +291,23 @@ private:
     std::unordered_set<u64> threads;
     u64 last_fitting = NO_LIMIT;
     lines::Lines known_lines;
+    std::vector<const std::string *> part_names;
     bool has_threads = false, has_uses = false;
     Operations operations;
     std::vector<size_t> written_parts;
+    std::vector<int> section_threads;
     forks::Forks forks;
     lives::Lives lives;
     relaxed::Relaxed relaxed;
     deadlocks::Holders holders;
     // The last records of a run that ended in a deadlock, each with what it waits for.
     std::vector<std::pair<record, Resolved>> requests;
-    leaving::Leaving leaving;
-    pages::Pages pages;
+    moments::Moments order;
+    std::vector<leaving::Leaving> left;
+    // The page of each part; the pages of parts that are written, those of locks, semaphores and barriers, and those of
+    // accesses of shared things.
+    std::vector<u32> page_of;
+    pages::Set written_pages, used_pages, shared_pages;
     polls::Polls polls;
     std::optional<ordered::Ordered> ordered;
     // Before the first event that is written: the acquires of locks that are held.
@@ -250,21 +315,56 @@ private:
     bool is_open = false;
     Counts counts;
     FILE *out = nullptr, *numbers = nullptr;
+    // Text that is not yet written, and how much is written at once.
+    static constexpr size_t AT_ONCE = 1 << 18;
+    std::string written;
 };
 
 // All that happened goes by once more, each record with what it is of.
 template <class Do> void Trace::each(Do what) {
     things.restart();
-    for (raw::Records records(file); records.next();) what(records.number(), records.one(), of_record(records.one()));
+    for (raw::Records records(file); records.next();)
+        what(records.number(), records.one(), of_record(things, records.one()));
 }
 
-// The same without plain accesses of which nothing is written.
-template <class Do> void Trace::each_written(Do what) {
-    things.restart();
-    for (raw::Records records(file); records.next();) {
+// A piece goes by without plain accesses of which nothing is written, until `what` is false.
+template <class Do> void Trace::walk_written(const pieces::Piece &piece, Do what) const {
+    objects::Objects its(things, piece.ground);
+    parts::Spans known;
+    for (raw::Records records(file, piece.start, piece.end); records.next();) {
         const record &one = records.one();
-        if (!is_plain(one) || pages.may_have(one.at, one.size)) what(records.number(), one, of_record(one));
+        if (is_plain(one) && !written_pages.may_have(one.at, one.size)) continue;
+        if (!what(found_of(records.number(), one, of_record(its, one), known))) return;
     }
+}
+
+// All pieces go by so, one after another. If there are several, each has a thread, which goes ahead of what is used.
+template <class Do> void Trace::each_written(Do what) {
+    std::vector<std::unique_ptr<ahead::Ahead<Found>>> begun(pieces.size());
+    for (size_t k = 0; k < pieces.size() && pieces.size() > 1; k++) {
+        auto find = [this, k](auto &to) {
+            this->walk_written(pieces[k], [&to](const Found &one) { return to.put(one); });
+        };
+        begun[k] = std::make_unique<ahead::Ahead<Found>>();
+        if (!begun[k]->begin(find)) begun[k].reset();
+    }
+    for (size_t k = 0; k < pieces.size(); k++) {
+        if (begun[k]) begun[k]->take(what);
+        else walk_written(pieces[k], [&what](const Found &one) { return what(one), true; });
+        begun[k].reset();
+    }
+}
+
+// The pieces go by side by side, each with its worker, which sees the records that it wants.
+template <class Worker> void Trace::each_piece(const pieces::Pieces &some, std::vector<Worker> &workers) const {
+    pieces::side_by_side(some.size(), [&](size_t k) {
+        Worker &worker = workers[k];
+        objects::Objects its(things, some[k].ground);
+        for (raw::Records records(file, some[k].start, some[k].end); records.next();) {
+            const record &one = records.one();
+            if (worker.wants(one)) worker.see(records.number(), one, of_record(its, one));
+        }
+    });
 }
 
 }

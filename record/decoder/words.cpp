@@ -125,24 +125,25 @@ void Trace::add_atomic(const record &one, const parts::Cuts &ends, relaxed::Form
     operations.push_back({"rel", "atomic:", of.thing, first});
 }
 
-void Trace::find_accesses(const record &one, size_t number, const Resolved &of) {
-    const parts::Cuts &ends = cuts[cuts_of[of.thing]];
-    parts::Span span = span_of(of);
+void Trace::find_accesses(const Found &found) {
+    const record &one = found.one;
+    if (!found.cuts) return;
+    const parts::Cuts &ends = cuts[found.cuts];
     written_parts.clear();
-    for (size_t part = ends.first + span.from; part < ends.first + span.end; part++) {
+    for (size_t part = found.from; part < found.end; part++) {
         if (kept[part].shared()) written_parts.push_back(part);
         if (kept[part].ordered && ordered) ordered->see(part, one, is_write(one));
     }
     if (written_parts.empty()) return;
     if (is_atomic(one.kind)) {
-        relaxed::Form form = relaxed.form_of(forks, number, one, written_parts);
-        if (form != relaxed::NOTHING) add_atomic(one, ends, form, of);
-        add_acquired(number);
-        add_released(number);
+        relaxed::Form form = relaxed.form_of(forks, found.number, one, written_parts);
+        if (form != relaxed::NOTHING) add_atomic(one, ends, form, found.of);
+        add_acquired(found.number);
+        add_released(found.number);
         return;
     }
     for (size_t part : written_parts)
-        operations.push_back({is_write(one) ? "w" : "r", "", of.thing, ends.at(part - ends.first)});
+        operations.push_back({is_write(one) ? "w" : "r", "", found.of.thing, ends.at(part - ends.first), -1, 0, part});
 }
 
 // A use of a lock reads its first byte.
@@ -177,7 +178,7 @@ void Trace::add_message(const record &one, const Resolved &of, streams::Stream &
 // Each reader holds another lock, and a writer those of all readers. The state of a lock is written beside it if a
 // try was refused: who was refused comes between.
 void Trace::find_synchronization(const record &one, const Resolved &of) {
-    LockSeen &known = locks[{of.thing, of.place}];
+    LockSeen &known = lock_of({of.thing, of.place});
     bool is_reader = one.kind == READER_IN || one.kind == READER_OUT;
     if (one.kind == ARRIVED || one.kind == WENT_ON) return add_meeting(of, one.answer, one.kind == ARRIVED);
     if (known.is_counted()) return add_counted(one, of, known);
@@ -190,7 +191,8 @@ void Trace::find_synchronization(const record &one, const Resolved &of) {
         return;
     }
     if (is_reader) return add_section(of, one.kind == READER_IN, known.tried, {one.thread});
-    std::vector<int> threads = {-1};
+    std::vector<int> &threads = section_threads;
+    threads.assign(1, -1);
     bool all = one.kind == TRIED ? !one.size : one.kind == WRITER || known.is_written;
     for (u16 other : known.readers) {
         if (all && other != one.thread) threads.push_back(other);
@@ -200,7 +202,10 @@ void Trace::find_synchronization(const record &one, const Resolved &of) {
     add_section(of, is_taken(one), known.tried, threads);
 }
 
-void Trace::find_operations(const record &one, size_t number, const Resolved &of) {
+void Trace::find_operations(const Found &found) {
+    const record &one = found.one;
+    const Resolved &of = found.of;
+    u64 number = found.number;
     operations.clear();
     if (one.kind == FENCE) {
         add_acquired(number);
@@ -209,7 +214,7 @@ void Trace::find_operations(const record &one, size_t number, const Resolved &of
     if (is_use(one) && lives.has_reads(of.thing, of.place)) add_use(of);
     if (one.kind == FORK) operations.push_back({"fork", "T", objects::NOTHING, one.at});
     else if (one.kind == JOIN) operations.push_back({"join", "T", objects::NOTHING, one.at});
-    else if (of.there() && is_access(one)) find_accesses(one, number, of);
+    else if (of.there() && is_access(one)) find_accesses(found);
     else if (of.there() && is_synchronization(one.kind)) find_synchronization(one, of);
 }
 

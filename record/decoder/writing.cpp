@@ -2,6 +2,7 @@
 #include "trace.hpp"
 #include "text.hpp"
 #include <algorithm>
+#include <charconv>
 #include <cstring>
 
 namespace trace {
@@ -17,11 +18,35 @@ bool Trace::fits(u16 thread, u64 other) {
     return !counts.too_many_threads;
 }
 
+// The name of a part is looked up once.
+void Trace::add_name(std::string &to, const Operation &operation) {
+    if (operation.part == operations::NO_PART) {
+        to += text::fitting(name_of(operation));
+        return;
+    }
+    if (part_names.empty()) part_names.resize(kept.size());
+    const std::string *&known = part_names[operation.part];
+    if (!known) known = &names.of(operation.thing, operation.place, size_at(operation.thing, operation.place));
+    to += *known;
+}
+
+void Trace::add_text(std::string &to, const record &one, const Operation &operation) {
+    char thread[16];
+    auto end = std::to_chars(thread, thread + sizeof thread, one.thread).ptr;
+    to += 'T';
+    to.append(thread, end);
+    to += '|';
+    to += operation.word;
+    to += '(';
+    add_name(to, operation);
+    to += ")|";
+    to += location(one);
+    to += '\n';
+}
+
 std::string Trace::text_of(const record &one, const Operation &operation) {
-    std::string text =
-        "T" + std::to_string(one.thread) + "|" + operation.word + "(" + text::fitting(name_of(operation)) + ")|";
-    text += location(one);
-    text += '\n';
+    std::string text;
+    add_text(text, one, operation);
     return text;
 }
 
@@ -31,16 +56,17 @@ Line Trace::line_of(const record &one, size_t number, const Operation &operation
 }
 
 void Trace::write_text(const std::string &text, u64 number) {
-    fwrite(text.data(), 1, text.size(), out);
-    counts.bytes += text.size();
-    if (numbers) fwrite(&number, sizeof number, 1, numbers);
-    counts.written++;
+    put(text);
+    if (numbers) fwrite_unlocked(&number, sizeof number, 1, numbers);
 }
 
-void Trace::write_operation(const record &one, size_t number, const Operation &operation) {
+void Trace::write_event(const Event &event) {
+    const record &one = event.one;
+    const Operation &operation = event.operation;
+    u64 number = event.number;
     if (operation.meeting || is_try(one)) return write_text(text_of(one, operation), number);
     std::string &text = known_lines.text_of(one, operation);
-    if (text.empty()) text = text_of(one, operation);
+    if (text.empty()) add_text(text, one, operation);
     write_text(text, number);
 }
 
@@ -62,18 +88,19 @@ void Trace::open() {
     for (auto &lock : held) lines.insert(lines.end(), lock.second.begin(), lock.second.end());
     std::sort(lines.begin(), lines.end(), [](const Line &a, const Line &b) { return a.event < b.event; });
     for (const Line &line : lines) {
-        if (fits(line.thread, line.other)) write_text(line.text, line.record);
-        else counts.left_out++;
+        if (!fits(line.thread, line.other)) counts.left_out++;
+        else counts.written++, write_text(line.text, line.record);
     }
     held.clear();
 }
 
-void Trace::write_record(const record &one, size_t number) {
+// `write` gets the events that are written.
+template <class Write> void Trace::find_events(const record &one, u64 number, Write write) {
     u64 other = one.kind == FORK || one.kind == JOIN ? one.at : one.thread;
     if (!is_open && !operations.empty() && counts.before >= options.first) open();
     for (const Operation &operation : operations) {
         if (!is_open) pass_by(one, number, operation);
-        else if (fits(one.thread, other)) write_operation(one, number, operation);
+        else if (fits(one.thread, other)) counts.written++, write(Event{number, one, operation});
         else counts.left_out++;
     }
 }
@@ -90,29 +117,45 @@ void Trace::restart_locks() {
 void Trace::find_polls() {
     if (!polls.is_wanted()) return;
     restart_locks();
-    each_written([this](size_t number, const record &one, const Resolved &of) {
-        find_operations(one, number, of);
-        polls.see_event(number, one, operations);
+    each_written([this](const Found &found) {
+        find_operations(found);
+        polls.see_event(found.number, found.one, operations);
     });
     relaxed.stronger = 0;
+}
+
+template <class Write> void Trace::each_event(Write write) {
+    each_written([this, &write](const Found &found) {
+        find_operations(found);
+        if (polls.is_left_out(found.number)) counts.polls++;
+        else find_events(found.one, found.number, write);
+        if (file.top().deadlock) see_deadlock(found.one, found.of);
+    });
+}
+
+// If there are several workers, one finds the events while the text of earlier ones is made. With --from both would
+// need names.
+void Trace::write_events() {
+    ahead::Ahead<Event> events;
+    auto find = [this](auto &to) { this->each_event([&to](const Event &event) { to.put(event); }); };
+    auto write = [this](const Event &event) { write_event(event); };
+    if (pieces.size() > 1 && !options.first && events.begin(find)) events.take(write);
+    else each_event(write);
 }
 
 Counts Trace::write(FILE *to, FILE *to_numbers) {
     out = to;
     numbers = to_numbers;
-    write_mark(losses::BEGIN);
+    written.reserve(AT_ONCE + AT_ONCE / 4);
+    put(losses::BEGIN);
     find_polls();
     restart_locks();
     if (!options.ordered.empty()) ordered.emplace(kept.size());
-    each_written([this](size_t number, const record &one, const Resolved &of) {
-        find_operations(one, number, of);
-        if (polls.is_left_out(number)) counts.polls++;
-        else write_record(one, number);
-        if (file.top().deadlock) see_deadlock(one, of);
-    });
+    write_events();
     counts.stronger = relaxed.stronger;
     counts.threads = threads.size();
-    write_mark(losses().end());
+    put(losses().end());
+    flush();
     return counts;
 }
 
@@ -151,9 +194,16 @@ void Trace::write_ordered() {
     if (fclose(to)) throw raw::Wrong(options.ordered + ": can't be written");
 }
 
-void Trace::write_mark(const std::string &line) {
-    fwrite(line.data(), 1, line.size(), out);
-    counts.bytes += line.size();
+// The text is written when there is much of it.
+void Trace::put(const std::string &text) {
+    counts.bytes += text.size();
+    written += text;
+    if (written.size() >= AT_ONCE) flush();
+}
+
+void Trace::flush() {
+    fwrite(written.data(), 1, written.size(), out);
+    written.clear();
 }
 
 losses::Losses Trace::losses() const {

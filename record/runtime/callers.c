@@ -17,6 +17,13 @@ static int is_hooked(u64 pc) {
     return 0;
 }
 
+/* Whether code with hooks is in this memory, or was. */
+static int had_hooks(u64 start, u64 end) {
+    for (u32 k = 0; k < hooked_count; k++)
+        if (hooked[k].start - start < end - start) return 1;
+    return 0;
+}
+
 /* The part of a program or library that a place is in. */
 static struct range part_of(const struct dl_phdr_info *info, u64 pc) {
     for (int i = 0; i < info->dlpi_phnum; i++) {

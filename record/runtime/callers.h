@@ -28,7 +28,9 @@ SHARED struct range c_library;
 SHARED __thread u8 by_library;
 SHARED __thread struct library_call library_call;
 
+SHARED struct range part_of(const struct dl_phdr_info *info, u64 pc);
 SHARED int is_hooked(u64 pc);
+SHARED int had_hooks(u64 start, u64 end);
 SHARED int note_c_library(struct dl_phdr_info *info, size_t size, void *none);
 SHARED int note_trusted(struct dl_phdr_info *info, size_t size, void *none);
 SHARED int is_foreign(u64 pc);

@@ -239,23 +239,46 @@ static void *next(const char *name, const char *version) {
     return f;
 }
 
+static int is_named(const struct module *m, const char *path) { return !strncmp(m->path, path, MODULE_PATH - 1); }
+
+static struct module *module_at(u64 base, u64 end) {
+    for (u64 k = 0; k < head->modules; k++)
+        if (head->module[k].base == base && head->module[k].end == end) return &head->module[k];
+    return NULL;
+}
+
+/* The entry for a library or program, or NULL if there is no room. A library without hooks keeps its entry if it is
+ * opened again elsewhere. Of one that was closed, and whose memory another has now, only the name is kept. */
+static struct module *module_for(const char *path, u64 base, u64 end) {
+    struct module *found = head->modules < MOST_MODULES ? &head->module[head->modules] : NULL;
+    for (u64 k = 0; k < head->modules; k++) {
+        struct module *m = &head->module[k];
+        if (had_hooks(m->base, m->end)) continue;
+        if (m->base < end && base < m->end) m->base = m->end = 0;
+        if (path[0] && is_named(m, path)) found = m;
+    }
+    return found;
+}
+
 static int note_module(struct dl_phdr_info *info, size_t size, void *none) {
     (void)size, (void)none;
-    u64 n = head->modules, end = 0;
+    const char *path = info->dlpi_name;
+    u64 base = info->dlpi_addr, end = 0;
     for (int i = 0; i < info->dlpi_phnum; i++) {
         const ElfW(Phdr) *p = &info->dlpi_phdr[i];
-        if (p->p_type == PT_LOAD && p->p_vaddr + p->p_memsz > end) end = p->p_vaddr + p->p_memsz;
+        if (p->p_type == PT_LOAD && base + p->p_vaddr + p->p_memsz > end) end = base + p->p_vaddr + p->p_memsz;
     }
-    end += info->dlpi_addr;
-    for (u64 i = 0; i < n; i++)
-        if (head->module[i].base == info->dlpi_addr && head->module[i].end == end) return 0;
-    if (n == MOST_MODULES) return 1;
-    struct module *m = &head->module[n];
-    m->base = info->dlpi_addr;
-    m->end = end;
-    if (info->dlpi_name[0]) strncpy(m->path, info->dlpi_name, MODULE_PATH - 1);
+    struct module *there = module_at(base, end);
+    if (there && (!path[0] || is_named(there, path))) return 0;
+    struct module *m = module_for(path, base, end);
+    if (!m) return 1;
+    /* A closed library with hooks keeps its memory, since records are in it. */
+    int is_taken = !!module_at(base, end);
+    m->base = is_taken ? 0 : base;
+    m->end = is_taken ? 0 : end;
+    if (path[0]) strncpy(m->path, path, MODULE_PATH - 1);
     else if (readlink("/proc/self/exe", m->path, MODULE_PATH - 1) < 0) m->path[0] = 0;
-    head->modules = n + 1;
+    if (m == &head->module[head->modules]) head->modules++;
     return 0;
 }
 

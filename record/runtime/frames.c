@@ -90,8 +90,8 @@ static int is_return(const struct call *c, u64 at) { return *(volatile u64 *)at 
 static u64 end_of(struct call *c, u64 outer) {
     if (c->end) return c->end;
     u64 start = start_of(c), step = sizeof(u64);
-    if (c->base >= start && c->base % step == 0 && c->base + 2 * step <= outer && is_return(c, c->base + step))
-        return c->end = c->base + 2 * step;
+    if (c->base >= start && c->base < outer && outer - c->base >= 2 * step && c->base % step == 0)
+        if (is_return(c, c->base + step)) return c->end = c->base + 2 * step;
     if (outer >= start + step && is_return(c, outer - step)) return c->end = outer;
     for (u64 at = start; at + step <= outer; at += step)
         if (is_return(c, at)) return c->end = at + step;

@@ -37,6 +37,7 @@ void *dlopen(const char *path, int how) {
     if (before == NOBODY) unpark(m->at);
     if (!library) return NULL;
     keep_turn();
+    note_modules();
     int kind = is_first_open(library) ? ARRIVED : WENT_ON;
     meet(kind, OF_CHANNEL, channel_of(LIBRARY, (u64)library), 1, PC);
     return library;

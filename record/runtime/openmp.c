@@ -115,12 +115,17 @@ static void in_region(void *p) {
     if (!idle) end_region(r);
 }
 
-/* Whether a thread belongs to libgomp, where it waits without hooks for what to do. */
+static int is_body_here(struct dl_phdr_info *info, size_t size, void *body) {
+    (void)size;
+    return part_of(info, *(u64 *)body).size && strstr(info->dlpi_name, "libgomp");
+}
+
+/* Whether a thread belongs to libgomp, where it waits without hooks for what to do. Its maker waits for it with the
+ * token. So this must not wait for a thread that opens a library, as dladdr does: that one may wait for the token. */
 static int is_of_openmp(void *(*body)(void *)) {
-    Dl_info about;
     u8 was = inside;
     inside = 1;
-    int is = dladdr((void *)body, &about) && about.dli_fname && strstr(about.dli_fname, "libgomp");
+    int is = dl_iterate_phdr(is_body_here, &body);
     inside = was;
     return is;
 }
