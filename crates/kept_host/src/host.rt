@@ -68,7 +68,7 @@ fn cause_of(error: &io::Error) -> DeviceError
     }
 }
 
-/// Waits for the lock, and tells how long the file is then.
+/// Waits for the lock. Returns how long the file is then.
 fn locked_length(file: &File) -> io::Result<u64> {
     file.lock()?;
     Ok(file.metadata()?.len())

@@ -70,8 +70,8 @@ enum Block<'a> {
     First(&'a [u8]),
 }
 
-// The first line without its line feed, and the text after the line feed; None if there is no line feed.
-fn first_line(text: &[u8]) -> (&[u8], Option<&[u8]>)
+/// The first line without its line feed, and the text after the line feed; None if there is no line feed.
+pub fn first_line(text: &[u8]) -> (&[u8], Option<&[u8]>)
     ensures lines { slice_split is_line_feed text.now ≡ result.0.now ∷ lines_left result.1 }
     ensures shorter { bytes_left result.1 ≤ length text.now }
 {
@@ -151,8 +151,8 @@ fn place_of(places: &Places, line: &[u8]) -> Result<Option<u32>, OutOfMemory>
     }
 }
 
-// The location in an access line: the text after the second bar. Returns None if there are fewer than two bars.
-fn location_of(line: &[u8]) -> Option<&[u8]>
+/// The location in an access line: the text after the second bar. Returns None if there are fewer than two bars.
+pub fn location_of(line: &[u8]) -> Option<&[u8]>
     ensures some { IfSome result (λ location. IsLocation line.now location.now) }
     ensures none { IfNone result ((location : List ℕ) → ¬ IsLocation line.now location) }
 {

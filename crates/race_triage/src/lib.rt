@@ -24,7 +24,7 @@ mod workers;
 pub use between::{USUAL_TRIES, verdict_between};
 pub use chosen::{Chosen, chosen_of, is_kept, is_known};
 pub use filters::Filters;
-pub use known::{Known, has_block, known_of};
+pub use known::{Known, first_line, has_block, known_of, location_of};
 pub use laws::{texts_are_one, totals_are_of_the_trace, verdicts_are_one};
 pub use located::Located;
 pub use pieces::append_event;

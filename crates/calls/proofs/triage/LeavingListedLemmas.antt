@@ -1,9 +1,10 @@
 -- Races that a text names, by the numbers of their locations.
-use Rattle.std.proofs.Common.{◌≡◌, ◌≤◌, ℕ, nat_eq, min, max, Bool, List, [], ◌∷◌, drop, length, Contains, Vec, get_or, sym, ap, ◌∙◌, refl, subst, arith, inl, inr}
+use Rattle.std.proofs.Common.{◌≡◌, ◌≤◌, ℕ, nat_eq, min, max, ◌<◌, ◌&&◌, Bool, true, false, ltb, List, [], ◌∷◌, drop, length, Contains, Vec, get_or, sym, ap, ◌∙◌, refl, subst, arith, lt-ltb, ltb-true, inl, inr}
+use Rattle.std.specs.List.{list_any}
 use Rattle.std.specs.Prelude.{◌⊎◌}
 use Rattle.std.specs.Cmp.Lexicographic.{pointwise, bytes_decides}
 use Rattle.std.specs.declared.alloc.Global.{Global}
-use Rattle.std.proofs.lemmas.Bool.{cases_lt}
+use Rattle.std.proofs.lemmas.Bool.{and_from, and_parts, cases_Bool, cases_lt}
 use Rattle.std.proofs.lemmas.List.{drop_all}
 use Rattle.std.proofs.lemmas.List.Sums.{passes_at_first}
 use Rattle.std.proofs.lemmas.Map.Views.{list_any-from_Contains}
@@ -13,7 +14,7 @@ use Rattle.race_groups.proofs.RowLemmas.{same_places-equiv, same_places_are}
 use Rattle.race_parts.specs.declared.cells.Cell.{Cell}
 use Rattle.race_triage.specs.Known.{AreKnown, NamesRace}
 use Rattle.race_triage.specs.Places.{AreKept, IsSpot}
-use Rattle.calls.specs.triage.LeavingListed.{AreListed, HasPlaces, HaveAllPlaces, IsRight, in_pairs, number_in}
+use Rattle.calls.specs.triage.LeavingListed.{AreListed, HasPlaces, HaveAllPlaces, IsRight, in_pairs, is_numbered, number_in}
 
 -- whether a key is the text
 abbrev pub is_text : List ℕ → Vec ℕ Global → Bool
@@ -29,6 +30,18 @@ one_text (k ∷ ks) s t n is also =
     let one : s ≡ at.items = (bytes_decides s at.items).0 (ap (λ i. is_text s (get_or (k ∷ ks) i k)) (sym is.0) ∙ first) in
     let other : t ≡ at.items = (bytes_decides t at.items).0 (ap (λ i. is_text t (get_or (k ∷ ks) i k)) (sym also.0) ∙ second) in
     one ∙ sym other
+
+-- a location without a number is none of these
+pub is_numbered-none : (keys : List (Vec ℕ Global)) (name : List ℕ) → ((n : ℕ) → ¬ IsSpot keys name n) → is_numbered keys name ≡ false
+is_numbered-none keys name none =
+    elim (cases_Bool (is_numbered keys name)) [
+      | inl so ↦ absurd (none (number_in keys name) (refl, ltb-true (number_in keys name) (length keys) so))
+      | inr not_so ↦ not_so
+    ]
+
+-- and one with a number is
+pub is_numbered-some : (keys : List (Vec ℕ Global)) (name : List ℕ) (n : ℕ) → IsSpot keys name n → is_numbered keys name ≡ true
+is_numbered-some keys name n is = lt-ltb (number_in keys name) (length keys) (omega (arith, is.0, is.1))
 
 -- a set that keeps the numbers of another has those of its cells
 pub HasPlaces-kept : (old new : List (Vec ℕ Global)) (c : Cell) → AreKept old new → HasPlaces old c → HasPlaces new c
@@ -77,8 +90,13 @@ module _ (keys : List (Vec ℕ Global)) (text : List ℕ) (pairs : List (ℕ × 
       let x_at : IsSpot keys c.first.now a = subst (λ k. IsSpot keys c.first.now k) (sym has.0.1.0) has.0.1 in
       let y_at : IsSpot keys c.second.now b = subst (λ k. IsSpot keys c.second.now k) (sym has.1.1.0) has.1.1 in
       record {
-        named = λ is. named c.first.now c.second.now a b x_at y_at (Contains-list_any same_places same_places_are pairs (min a b, max a b) is);
-        all_named = λ names. list_any-from_Contains same_places-equiv (min a b, max a b) pairs (noted c.first.now c.second.now a b x_at y_at names);
+        named = λ is.
+            named c.first.now c.second.now a b x_at y_at
+            (Contains-list_any same_places same_places_are pairs (min a b, max a b) (and_parts (ltb a (length keys) && ltb b (length keys)) (list_any (same_places (min a b, max a b)) pairs) is).1);
+        all_named = λ names.
+            and_from (ltb a (length keys) && ltb b (length keys)) (list_any (same_places (min a b, max a b)) pairs)
+            (and_from (ltb a (length keys)) (ltb b (length keys)) (lt-ltb a (length keys) x_at.1) (lt-ltb b (length keys) y_at.1))
+            (list_any-from_Contains same_places-equiv (min a b, max a b) pairs (noted c.first.now c.second.now a b x_at y_at names));
       }
 
   pub right_all : (cs : List Cell) → HaveAllPlaces keys cs → AreListed text (in_pairs keys pairs) cs

@@ -4,7 +4,7 @@ use Rattle.std.specs.Prelude.{◌≡◌, ◌⊎◌, ℕ, min, max, Bool, true, f
 use Rattle.rapid_text.specs.Recording.{Recording}
 use Rattle.schedule.specs.Reordering.{IsCorrectReordering}
 use Rattle.lock_waits.specs.Waits.{ShowsDeadlock}
-use Rattle.deadlock_triage.specs.Findings.{IsFinding}
+use Rattle.deadlock_triage.specs.Findings.{AreOpen, IsFinding}
 use Rattle.deadlock_triage.specs.Requests.{IsPair}
 use Rattle.deadlock_triage.specs.Verdicts.{IsNeverShown}
 use Rattle.deadlock_triage.specs.declared.finding.Finding.{Finding}
@@ -55,7 +55,8 @@ pub record IsDeadlockWitness (r : Recording) (one other : Name) (form : Form) (t
   pub shows : ShowsDeadlock r.events events (a ∷ b ∷ [])
   pub printed : IsDeadlockPrinted r events a b form text
 
--- if the names mean requests that are apart, no correct reordering shows them
+-- The names mean two requests. If they are apart, no correct reordering shows them; otherwise neither order nor a lock
+-- forbids one.
 abbrev pub IsNoDeadlock : Recording → Name → Name → Bool → Type 0
 IsNoDeadlock r one other true = (a b : ℕ) × AreNamedRequests r one other a b × IsNeverShown r.events a b
-IsNoDeadlock r one other false = (a b : ℕ) × AreNamedRequests r one other a b
+IsNoDeadlock r one other false = (a b : ℕ) × AreNamedRequests r one other a b × AreOpen r.events a b

@@ -1,5 +1,5 @@
 -- Which races a text of known races names. All notions here are this project's own.
-use Rattle.std.specs.Prelude.{◌≡◌, ◌⊎◌, ℕ, nat_eq, min, max, Bool, true, false, List, [], ◌∷◌, Vec, Option, Some, None, ⊤}
+use Rattle.std.specs.Prelude.{◌≡◌, ◌⊎◌, ◌&&◌, ℕ, nat_eq, nat_lt, length, min, max, Bool, true, false, List, [], ◌∷◌, Vec, Option, Some, None, ⊤}
 use Rattle.std.specs.List.{list_any, position_or_len}
 use Rattle.std.specs.Cmp.Lexicographic.{pointwise}
 use Rattle.std.specs.declared.alloc.Global.{Global}
@@ -45,8 +45,15 @@ HaveAllPlaces ks (c ∷ cs) = HasPlaces ks c × HaveAllPlaces ks cs
 abbrev pub has_pair : List (ℕ × ℕ) → ℕ → ℕ → Bool
 has_pair pairs m n = list_any (same_places (min m n, max m n)) pairs
 
+-- whether the location is one of these
+abbrev pub is_numbered : List (Vec ℕ Global) → List ℕ → Bool
+is_numbered ks name = nat_lt (number_in ks name) (length ks)
+
+-- both locations of the cell are, and the pairs have theirs
 abbrev pub in_pairs : List (Vec ℕ Global) → List (ℕ × ℕ) → Cell → Bool
-in_pairs ks pairs c = has_pair pairs (number_in ks c.first.now) (number_in ks c.second.now)
+in_pairs ks pairs c =
+    (is_numbered ks c.first.now && is_numbered ks c.second.now)
+    && has_pair pairs (number_in ks c.first.now) (number_in ks c.second.now)
 
 abbrev pub is_listed : Listed → Cell → Bool
 is_listed l c = in_pairs (keys l.places.locations) (keys l.known) c

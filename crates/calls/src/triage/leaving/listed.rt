@@ -80,15 +80,15 @@ pub(crate) fn listed_of(
     Ok(Listed { places, known })
 }
 
-/// Whether the text names the cell's two locations. Both must have numbers.
+/// Whether the text names the cell's two locations. If one of them has no number, the text does not name it.
 pub(crate) fn is_listed(listed: &Listed, cell: &Cell<'_>) -> Result<bool, OutOfMemory>
     ensures { IfOk result (λ is. is ≡ is_listed listed.now cell.now) }
 {
-    match (
-        listed.places.number(cell.first)?,
-        listed.places.number(cell.second)?,
-    ) {
-        (Some(one), Some(other)) => Ok(listed.known.contains(&(one.min(other), one.max(other)))),
-        _ => Err(OutOfMemory),
-    }
+    let Some(one) = listed.places.number(cell.first)? else {
+        return Ok(false);
+    };
+    let Some(other) = listed.places.number(cell.second)? else {
+        return Ok(false);
+    };
+    Ok(listed.known.contains(&(one.min(other), one.max(other))))
 }
