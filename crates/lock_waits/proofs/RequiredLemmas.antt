@@ -1,18 +1,16 @@
 -- What the requests require is in each correct reordering after which they are next.
-use Rattle.std.proofs.Common.{◌≡◌, ℕ, ◌<◌, List, take, Contains, Some, sym, ◌∙◌, subst, arith, inl, inr}
-use Rattle.std.proofs.lemmas.Bool.{cases_Bool, cases_lt, false≢true}
+use Rattle.std.proofs.Common.{◌≡◌, ℕ, ◌<◌, List, Contains, Some, sym, ◌∙◌, subst, arith, inl, inr}
+use Rattle.std.proofs.lemmas.Bool.{cases_Bool, false≢true}
 use Rattle.std.proofs.lemmas.List.Elements.{All-contains}
 use Rattle.std.proofs.lemmas.Option.{same_Some, none-some}
 use Rattle.rapid_text.specs.declared.event.Event.{Event}
-use Rattle.rapid_text.specs.declared.event.Op.TheVariants.{Acquire}
 use Rattle.trace_rules.specs.Rules.{IsDisciplined, hold_count}
-use Rattle.event_index.specs.Events.{op_at, thread_at}
 use Rattle.event_index.specs.Lookups.{section_end}
 use Rattle.schedule.specs.Refusals.{is_in}
 use Rattle.schedule.specs.Reordering.{IsCorrectReordering, events_at}
 use Rattle.schedule.specs.Shows.{IsReady}
 use Rattle.schedule.proofs.CallerLemmas.{is_in-true, is_in-member}
-use Rattle.must_order.proofs.CallerLemmas.{IsMustBefore-in, base_of-ready, hold_count-ready, one_holder_in, stands_at, member_before, before_member, section-open, section_end-is}
+use Rattle.must_order.proofs.CallerLemmas.{IsMustBefore-in, base_of-ready, hold_count-ready, one_holder_in, open_in}
 use Rattle.lock_waits.specs.Laws.{RequiredIsThere, RefutedIsNeverShown}
 use Rattle.lock_waits.specs.Required.{IsForeign, IsRequired, base, before, ended, IsUnended}
 use Rattle.lock_waits.specs.Waits.{AreReady}
@@ -21,26 +19,10 @@ module _ (T : List Event) (rules : IsDisciplined T) (P es : List ℕ) (is : IsCo
   ready : (e : ℕ) → Contains es e → IsReady T P e
   ready e has = All-contains (IsReady T P) es e all_ready has
 
-  -- a section whose beginning is in the list, and whose end is not, is open after it
-  open_in : (p l u : ℕ) → op_at T p ≡ Some (Acquire l) → thread_at T p ≡ Some u → Contains P p
-      → ((r : ℕ) → section_end T p ≡ Some r → ¬ Contains P r) → 0 < hold_count (events_at T P) u l
-  open_in p l u op of has no_end =
-      let found = stands_at T P u (is.thread_order u) in
-      let early = member_before T P u p (is.thread_order u) of has found.0 found.1 in
-      let opened : 0 < hold_count (take found.0 T) u l =
-      section-open T rules p l u found.0 op of
-      (λ r ends.
-      elim (cases_lt r found.0) [
-        | inl early_end ↦ absurd (no_end r ends (before_member T P u r (is.thread_order u) (section_end-is T p l u r op of ends).2 found.0 found.1 early_end))
-        | inr le ↦ omega arith
-      ])
-      early found.1.within in
-      omega (arith, opened, found.1.holds l)
-
   -- two threads would hold the lock
   must_end : (e p : ℕ) → Contains es e → IsForeign T e p → Contains P p → ¬ ((r : ℕ) → section_end T p ≡ Some r → ¬ Contains P r)
   must_end e p has f there no_end =
-      let opened : 0 < hold_count (events_at T P) f.owner f.lock = open_in p f.lock f.owner f.acquires f.of_owner there no_end in
+      let opened : 0 < hold_count (events_at T P) f.owner f.lock = open_in T rules P is p f.lock f.owner f.acquires f.of_owner there no_end in
       let held = hold_count-ready T P is e (ready e has) f.thread f.lock f.of_thread in
       f.other (one_holder_in T P is f.owner f.thread f.lock opened (omega (arith, held, f.holds)))
 

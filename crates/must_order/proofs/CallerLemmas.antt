@@ -1,8 +1,9 @@
 -- Lemmas for the crates above: what must-before tells, from its definitions alone.
 -- must-before goes on from event to event, along a thread and from its fork, and never leads back in the trace
 pub use Rattle.must_order.proofs.OrderLemmas.{IsMustBefore-trans, IsMustBefore-le, along_thread, from_fork, Link-earlier, EndsFirst-earlier, section-closed}
--- what is must-before an event of a correct reordering is in it; so is what a link or the rule of sections leads from
-pub use Rattle.must_order.proofs.MustLemmas.{IsMustBefore-in, Link-in, EndsFirst-in, one_holder_in}
+-- what is must-before an event of a correct reordering is in it, before the event; so is what a link or the rule of
+-- sections leads from
+pub use Rattle.must_order.proofs.MustLemmas.{IsMustBefore-in, Link-in, EndsFirst-in, IsReached, reached, must_law, one_holder_in, open_in}
 -- an event that is ready: its base is in the list, and its thread holds what it holds in the trace
 pub use Rattle.must_order.proofs.ReadyLemmas.{IsReady-allowed, base_of-ready, hold_count-ready}
 -- where a thread stands in a list

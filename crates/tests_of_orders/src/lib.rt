@@ -5,6 +5,8 @@
 #[cfg(test)]
 mod clock_tests;
 #[cfg(test)]
+mod closed_tests;
+#[cfg(test)]
 mod fixtures;
 #[cfg(test)]
 mod in_order_tests;

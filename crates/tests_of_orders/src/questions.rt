@@ -3,6 +3,7 @@
 //! proved once.
 
 use crate::clock_tests::is_told_by_clocks;
+use crate::closed_tests::is_contradicted;
 use crate::fixtures::indexed_of;
 use crate::in_order_tests::{are_free, is_in_order, is_turned};
 use crate::must_tests::is_told_by_must;
@@ -56,6 +57,8 @@ pub(crate) enum Question {
     Turned(Pair, Numbers),
     // The size of what it finds.
     TurnedSize(Pair, Pair),
+    // Whether the closed order of a pair contradicts itself.
+    Contradicted(Pair, bool),
     // A list of two events that wait for no other.
     Free(Numbers),
 }
@@ -76,6 +79,7 @@ fn is_answered_on(alloc: Global, indexed: &Indexed, question: Question) -> Optio
             is_found(alloc, indexed, start, pair, budget, wanted)
         },
         Question::List(events, fault) => is_listed(alloc, indexed, events, fault),
+        Question::Contradicted(pair, wanted) => is_contradicted(alloc, indexed, pair, wanted),
         Question::Schedule => is_changed_and_cut(alloc, indexed),
         Question::Held(..) | Question::Reasons | Question::Size(..) | Question::TurnedSize(..) => {
             is_told_by_must(alloc, indexed, question)

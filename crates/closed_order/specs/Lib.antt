@@ -1,0 +1,4 @@
+pub mod Closed
+pub mod Known
+pub mod Laws
+pub mod Steps

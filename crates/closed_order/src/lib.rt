@@ -1,0 +1,25 @@
+//! The order that every correct reordering keeps after which some requests are the next events of their threads.
+#![tactic(auto)]
+
+mod closing;
+mod contradicting;
+mod facts;
+mod following;
+mod known;
+mod laws;
+mod locking;
+mod proving;
+mod reading;
+mod rows;
+mod steps;
+mod tables;
+mod telling;
+
+pub use contradicting::contradiction_of;
+pub use laws::{
+    contradicted_is_never_ready, contradicted_is_never_shown, contradicted_is_no_deadlock,
+    precedes_is_kept,
+};
+pub use proving::contradicts;
+pub use steps::{Rule, Step};
+pub use tables::Tables;

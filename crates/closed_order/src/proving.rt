@@ -1,0 +1,77 @@
+//! Whether a derivation shows that requests are contradicted.
+ghost use Rattle.std.specs.Prelude.{◌≡◌, ◌<◌, ◌↔◌, ℕ, All, IsTrue, Option, None, Some, length};
+ghost use Rattle.closed_order.specs.Closed.{AreContradicted};
+ghost use Rattle.closed_order.specs.Known.{IsKnown, IsTrueAfter};
+ghost use Rattle.closed_order.specs.Steps.{AreTrueSteps, IsTrueStep};
+
+use crate::following::{is_base, is_by_must, is_chain};
+use crate::known::Known;
+use crate::locking::{ends_first, enters_later, lasts_longer};
+use crate::reading::{is_initial, is_overwritten, is_unseen};
+use crate::steps::{Rule, Step};
+use must_order::Analysis;
+
+/// Whether each step follows from earlier ones, and the last ones contradict the requests. The last step says that a
+/// request has to be there, or that an event precedes itself; the step before it then says that this event is there.
+pub fn contradicts<'a>(analysis: &'a Analysis<'a>, requests: &'a [u32], steps: &'a [Step]) -> bool
+    requires requests { All (λ e. e < length analysis.now.events) requests.now }
+    ensures contradicted { IsTrue result → AreContradicted analysis.now.events requests.now }
+{
+    all_follow(analysis, requests, steps) && is_conflicting(analysis, requests, steps)
+}
+
+// Whether each step follows from those before it.
+fn all_follow<'a>(analysis: &'a Analysis<'a>, requests: &'a [u32], steps: &'a [Step]) -> bool
+    requires requests { All (λ e. e < length analysis.now.events) requests.now }
+    ensures { IsTrue result → AreTrueSteps analysis.now.events requests.now steps.now }
+{
+    for at in 0..steps.len() {
+        let known = Known {
+            analysis,
+            requests,
+            earlier: &steps[..at],
+        };
+        if !follows(&known, steps[at]) {
+            return false;
+        }
+    }
+    true
+}
+
+// Whether the last steps contradict the requests.
+fn is_conflicting(_analysis: &Analysis, requests: &[u32], steps: &[Step]) -> bool
+    requires steps { AreTrueSteps _analysis.now.events requests.now steps.now }
+    ensures { IsTrue result → AreContradicted _analysis.now.events requests.now }
+{
+    let Some((last, earlier)) = steps.split_last() else {
+        return false;
+    };
+    let Some(second) = last.second else {
+        return requests.contains(&last.first);
+    };
+    let Some(there) = earlier.last() else {
+        return false;
+    };
+    if second != last.first {
+        return false;
+    }
+    there.first == second && there.second == None
+}
+
+// Whether the step follows from the earlier ones.
+fn follows(known: &Known<'_>, step: Step) -> bool
+    requires { IsKnown known.now }
+    ensures { IsTrue result → IsTrueAfter known.now step }
+{
+    match step.rule {
+        Rule::Base { request } => is_base(known, step, request),
+        Rule::Must => is_by_must(known, step),
+        Rule::Through { left, right } => is_chain(known, step, left, right),
+        Rule::Overwritten { read, before, due } => is_overwritten(known, step, read, before, due),
+        Rule::Unseen { after, due } => is_unseen(known, step, after, due),
+        Rule::Initial { due } => is_initial(known, step, due),
+        Rule::Enters { event, before, due } => enters_later(known, step, event, before, due),
+        Rule::Ends { start, before } => ends_first(known, step, start, before),
+        Rule::Lasts { request, due } => lasts_longer(known, step, request, due),
+    }
+}
