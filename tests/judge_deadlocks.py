@@ -3,8 +3,9 @@
 
 Each two requests that wait for each other have a block on their pattern. A reordering of the printed size shows each
 deadlock, and none shows what is apart. The rest of the text follows from the trace and is compared with it. `witness`
-prints a correct reordering of the printed size that shows the deadlock, and `explain` says the same. Takes the
-program's path, how many traces are drawn, and the first seed.
+prints a correct reordering of the printed size that shows the deadlock, and `explain` says the same. `--known`,
+`--only` and `--hide` leave out the blocks that they should. Takes the program's path, how many traces are drawn, and
+the first seed.
 """
 
 from __future__ import annotations
@@ -12,6 +13,8 @@ from __future__ import annotations
 import random
 import sys
 from collections import Counter
+from collections.abc import Sequence
+from typing import NamedTuple
 
 if __name__ == "__main__":
     sys.dont_write_bytecode = True
@@ -27,7 +30,7 @@ TRACES = 1_000
 MOST_STATES = 20_000
 REACHED = [
     *["deadlock", "apart", "ordered", "turned", "real", "held by both", "forced", "no requests"],
-    *["pictures", "arrows"],
+    *["pictures", "arrows", "kept", "hidden", "known"],
 ]
 KINDS = ["deadlock", "undecided", "apart"]
 
@@ -61,17 +64,107 @@ def blocks_of(text: str) -> list[Block]:
     return [Block(line) for line in text.splitlines() if line.split(" ")[0] in KINDS and line.count(" ") > 1]
 
 
-def expected(trace: deadlocked.Trace, blocks: list[Block], is_apart_wanted: bool) -> str:
-    """The text with the blocks, and the counts before them."""
+def lines_of(trace: deadlocked.Trace, block: Block) -> list[str]:
+    """The lines of a block below its first one."""
+    return [*trace.request_lines(*block.pair), *trace.request_lines(*reversed(block.pair))]
+
+
+class Choice(NamedTuple):
+    """The texts of `--only` and `--hide`, and the blocks that the file of `--known` names; None without a file."""
+
+    only: Sequence[str] = ()
+    hide: Sequence[str] = ()
+    known: Sequence[Block] | None = None
+
+    def options(self) -> list[str]:
+        """The arguments of the choice."""
+        options = [word for text in self.only for word in ("--only", text)]
+        options += [word for text in self.hide for word in ("--hide", text)]
+        return options + ["--known", "known"] * (self.known is not None)
+
+    def keeps(self, lines: list[str]) -> bool:
+        """Whether the filters keep a block with these lines."""
+
+        def mention(texts: Sequence[str]) -> bool:
+            return any(text in line for text in texts for line in lines)
+
+        return (mention(self.only) or not self.only) and not mention(self.hide)
+
+
+def expected(trace: deadlocked.Trace, blocks: list[Block], is_apart_wanted: bool, choice: Choice = Choice()) -> str:
+    """The text with the chosen blocks, the counts before them, and after them how many are left out."""
     tally = Counter(block.verdict for block in blocks)
     lines = [f"events {len(trace.events)}", f"threads {len(trace.names())}", f"nested {trace.nested()}"]
     lines += [f"patterns {len(blocks)}", f"deadlocks {tally['deadlock']}", f"undecided {tally['undecided']}"]
     lines += [f"apart {tally['apart']}", "whole 2"]
-    for block in sorted(blocks, key=Block.place):
-        if is_apart_wanted or block.verdict != "apart":
-            one, other = block.pair
-            lines += [block.line, *trace.request_lines(one, other), *trace.request_lines(other, one)]
+    wanted = [block for block in sorted(blocks, key=Block.place) if is_apart_wanted or block.verdict != "apart"]
+    known = [block for block in wanted if block.verdict == "deadlock" and block in (choice.known or [])]
+    kept = [block for block in wanted if block not in known and choice.keeps(lines_of(trace, block))]
+    for block in kept:
+        lines += [block.line, *lines_of(trace, block)]
+    if choice.known is not None:
+        lines.append(f"known {len(known)}")
+    if choice.only or choice.hide:
+        lines.append(f"hidden {len(wanted) - len(known) - len(kept)}")
     return "".join(f"{line}\n" for line in lines)
+
+
+def check_choice(run: Run, trace: deadlocked.Trace, blocks: list[Block], choice: Choice, note: bytes = b"") -> None:
+    """Whether the choice leaves out the right blocks, with this note, and whether `--fail` counts the printed ones."""
+    for is_apart in (False, True):
+        options = [*choice.options(), *["--apart"] * is_apart]
+        status, out, err = running.ended(run.program, ["deadlocks", "trace", "--fail", *options])
+        text = out.decode("ascii")
+        if err != note or text != expected(trace, blocks, is_apart, choice):
+            raise Wrong(f"with {options}, it prints another text:\n{text}")
+        printed = any(block.verdict == "deadlock" for block in blocks_of(text))
+        if status != (3 if printed else 0):
+            raise Wrong(f"with {options}, --fail ends with status {status}")
+        run.tally["kept"] += len(blocks_of(text))
+        run.tally["hidden"] += bool(choice.only or choice.hide) and not text.endswith("hidden 0\n")
+
+
+def check_filters(run: Run, trace: deadlocked.Trace, blocks: list[Block]) -> None:
+    """Whether `--only` and `--hide` leave out the right blocks."""
+    lines = [line for block in blocks for line in lines_of(trace, block)]
+    if not lines:
+        return
+    location, held, nowhere = lines[0].split("|")[2], lines[-1].strip(), "no such text"
+    check_choice(run, trace, blocks, Choice(only=[location]))
+    check_choice(run, trace, blocks, Choice(hide=[location]))
+    check_choice(run, trace, blocks, Choice(only=[location, nowhere], hide=[held]))
+    check_choice(run, trace, blocks, Choice(only=[nowhere]))
+    check_choice(run, trace, blocks, Choice(hide=[held]))
+
+
+def turned(trace: deadlocked.Trace, block: Block) -> list[str]:
+    """The block as another run may have it: the other request first, and other threads, locks and events."""
+    lines = [*trace.request_lines(*reversed(block.pair)), *trace.request_lines(*block.pair)]
+    located = [line.split("|", 2) for line in lines if "|" in line]
+    request, hold, other, other_hold = (location for _, _, location in located)
+    return [
+        "deadlock 7 8 ordered events 9 threads 9",
+        *[f"  T8|acq(p)|{request}", f"    holds q since 6  T8|acq(q)|{hold}", "    holds r"],
+        *[f"  T9|acq(q)|{other}", f"    holds p since 5  T9|acq(p)|{other_hold}"],
+    ]
+
+
+def check_known(run: Run, trace: deadlocked.Trace, blocks: list[Block]) -> None:
+    """Whether `--known` leaves out the deadlocks of a file, and nothing else."""
+    deadlocks = [block for block in blocks if block.verdict == "deadlock"]
+    running.write("known", expected(trace, blocks, is_apart_wanted=True))
+    note = b"" if deadlocks else b"racebench: known has no block `deadlock`: no deadlock is known\n"
+    check_choice(run, trace, blocks, Choice(known=deadlocks), note)
+    if not deadlocks:
+        return
+    lines = turned(trace, deadlocks[-1])
+    running.write("known", "".join(f"{line}\n" for line in lines))
+    check_choice(run, trace, blocks, Choice(known=deadlocks[-1:]))
+    check_choice(run, trace, blocks, Choice(hide=[lines[1].split("|")[2]], known=deadlocks[-1:]))
+    lines[2] += " elsewhere"
+    running.write("known", "".join(f"{line}\n" for line in lines))
+    check_choice(run, trace, blocks, Choice(known=[]))
+    run.tally["known"] += len(deadlocks)
 
 
 def check_verdicts(run: Run, trace: deadlocked.Trace, blocks: list[Block], shown: Shown) -> None:
@@ -242,6 +335,8 @@ def judge_trace(run: Run, trace: deadlocked.Trace, shown: Shown) -> None:
             check_picture(run, trace, block)
         else:
             check_reason(run, trace, block)
+    check_filters(run, trace, blocks)
+    check_known(run, trace, blocks)
     check_others(run, trace)
 
 

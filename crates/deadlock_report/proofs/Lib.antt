@@ -1,4 +1,5 @@
 mod CountLemmas
 mod HoldLemmas
+mod KnownLemmas
 mod PieceLemmas
 pub mod WaitLemmas

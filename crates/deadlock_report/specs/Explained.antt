@@ -12,6 +12,7 @@ use Rattle.explain_report.specs.RunTexts.{AreRunsTold}
 use Rattle.explain_report.specs.Runs.{run_total}
 use Rattle.explain_report.specs.Verdicts.{count_text, forced_head, guarded_head, undecided_head}
 use Rattle.lock_waits.specs.Waits.{WaitsFor}
+use Rattle.deadlock_triage.specs.Findings.{AreOpen}
 use Rattle.deadlock_triage.specs.declared.finding.Finding.{Finding}
 use Rattle.deadlock_triage.specs.declared.finding.Finding.TheVariants.{Shown, Apart, Undecided}
 use Rattle.deadlock_triage.specs.declared.outcomes.How.{How}
@@ -69,8 +70,12 @@ IsReason r a b text =
     ⊎ (IsForced r.events a b × (text ≡ forced_head a b))
     ⊎ (text ≡ codes "apart: no correct reordering leads to both requests\n")
 
+-- neither order nor a lock forbids a schedule that shows both, and the text says so
+abbrev pub IsUndecidedTold : Recording → ℕ → ℕ → List ℕ → Type 0
+IsUndecidedTold r a b text = AreOpen r.events a b × (text ≡ undecided_head ++ requests_text r a b)
+
 -- the text of what is known of the two requests
 abbrev pub IsDeadlockTold : Recording → Finding → ℕ → ℕ → Bool → List ℕ → Type 0
 IsDeadlockTold r (Shown s) a b all text = IsShownTold r s.events a b all text
 IsDeadlockTold r Apart a b all text = (reason : List ℕ) × IsReason r a b reason × (text ≡ reason ++ requests_text r a b)
-IsDeadlockTold r Undecided a b all text = text ≡ undecided_head ++ requests_text r a b
+IsDeadlockTold r Undecided a b all text = IsUndecidedTold r a b text

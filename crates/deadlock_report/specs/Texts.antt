@@ -8,7 +8,7 @@ use Rattle.trace_rules.specs.Rules.{hold_count}
 use Rattle.event_index.specs.Events.{thread_at}
 use Rattle.explain_report.specs.Causes.{lock_taken}
 use Rattle.race_triage.specs.Pieces.{count_line, event_words_at, number_text}
-use Rattle.race_triage.specs.Texts.{held_locks, lock_line}
+use Rattle.race_triage.specs.Texts.{held_locks, left_out_text, lock_line}
 use Rattle.deadlock_triage.specs.declared.outcomes.How.{How}
 use Rattle.deadlock_triage.specs.declared.outcomes.How.TheVariants.{Ordered, Turned}
 use Rattle.deadlock_triage.specs.declared.outcomes.Outcome.{Outcome}
@@ -16,6 +16,7 @@ use Rattle.deadlock_triage.specs.declared.outcomes.Outcome.TheVariants.{Deadlock
 use Rattle.deadlock_triage.specs.declared.outcomes.Verdict.{Verdict}
 use Rattle.deadlock_triage.specs.declared.verdicts.Deadlocks.{Deadlocks}
 use Rattle.deadlock_report.specs.Counts.{is_of, AreCountsIn}
+use Rattle.deadlock_report.specs.declared.chosen.Chosen.{Chosen}
 use Rattle.deadlock_report.specs.declared.counts.Counts.{Counts}
 use Rattle.deadlock_report.specs.declared.kinds.Kind.{Kind}
 use Rattle.deadlock_report.specs.declared.kinds.Kind.TheVariants.{Shown, Open, Never}
@@ -117,20 +118,24 @@ block_if r k v = cond (is_of k v) (block_text r v) []
 abbrev pub kind_blocks : Recording → Kind → List Verdict → List ℕ
 kind_blocks r k vs = flat_map (block_if r k) vs
 
--- the blocks of the verdicts that are apart, if they are wanted
-abbrev pub apart_blocks : Recording → Bool → List Verdict → List ℕ
-apart_blocks r apart vs = cond apart (kind_blocks r Never vs) []
+-- the blocks: deadlocks, then undecided patterns, then patterns that are apart
+abbrev pub verdict_blocks : Recording → List Verdict → List ℕ
+verdict_blocks r vs = kind_blocks r Shown vs ++ kind_blocks r Open vs ++ kind_blocks r Never vs
 
--- the counts, and the blocks of deadlocks, of undecided patterns, and of those that are apart
-abbrev pub deadlocks_words : Recording → Counts → List Verdict → Bool → List ℕ
-deadlocks_words r c vs apart = counts_text c ++ kind_blocks r Shown vs ++ kind_blocks r Open vs ++ apart_blocks r apart vs
+-- how many known deadlocks are left out, and how many blocks the filters leave out, if that is counted
+abbrev pub left_out_lines : Chosen → List ℕ
+left_out_lines chosen = left_out_text (codes "known") chosen.known ++ left_out_text (codes "hidden") chosen.hidden
 
--- The text lists the verdicts, and counts them.
-pub record IsDeadlocksText (r : Recording) (found : Deadlocks) (apart : Bool) (text : List ℕ) : Type 0 where
+-- the counts of all verdicts, the blocks of the chosen ones, and how many are left out
+abbrev pub deadlocks_words : Recording → Counts → Chosen → List ℕ
+deadlocks_words r c chosen = counts_text c ++ verdict_blocks r chosen.verdicts.items ++ left_out_lines chosen
+
+-- The text lists the chosen verdicts, and counts all verdicts.
+pub record IsDeadlocksText (r : Recording) (found : Deadlocks) (chosen : Chosen) (text : List ℕ) : Type 0 where
   pub counts : Counts
   pub counted : AreCountsIn r found counts
-  pub printed : text ≡ deadlocks_words r counts found.verdicts.items apart
+  pub printed : text ≡ deadlocks_words r counts chosen
 
 -- such a text is appended
-abbrev pub AppendsDeadlocks : Recording → Deadlocks → Bool → Vec ℕ Global → Vec ℕ Global → Type 0
-AppendsDeadlocks r found apart old new = (text : List ℕ) × IsDeadlocksText r found apart text × (new.items ≡ old.items ++ text)
+abbrev pub AppendsDeadlocks : Recording → Deadlocks → Chosen → Vec ℕ Global → Vec ℕ Global → Type 0
+AppendsDeadlocks r found chosen old new = (text : List ℕ) × IsDeadlocksText r found chosen text × (new.items ≡ old.items ++ text)

@@ -67,8 +67,8 @@ fn whole_of(is_whole: bool) -> u64
     if is_whole { 2 } else { 1 }
 }
 
-// 1 if the verdict is of this kind, otherwise 0.
-fn one_if(verdict: &Verdict, kind: Kind) -> u64
+/// 1 if the verdict is of this kind, otherwise 0.
+pub(crate) fn one_if(verdict: &Verdict, kind: Kind) -> u64
     ensures { result ≡ cond (is_of kind verdict.now) 1 0 }
 {
     if belongs(verdict, kind) { 1 } else { 0 }

@@ -5,8 +5,9 @@ ghost use Rattle.rapid_text.specs.declared.event.Op.TheVariants.{Acquire};
 ghost use Rattle.event_index.specs.Events.{op_at};
 ghost use Rattle.must_order.specs.Held.{IsHeldFrom};
 ghost use Rattle.explain_report.specs.Runs.{run_total};
+ghost use Rattle.deadlock_triage.specs.Findings.{AreOpen, IsFinding};
 ghost use Rattle.deadlock_triage.specs.declared.outcomes.How.TheVariants.{Ordered};
-ghost use Rattle.deadlock_report.specs.Explained.{AreWaitsTold, IsDeadlockTold, IsEndTold, IsReason, IsShownTold, IsWaitTold, deadlock_head, holder_words, requests_text, wait_line, wait_words};
+ghost use Rattle.deadlock_report.specs.Explained.{AreWaitsTold, IsDeadlockTold, IsEndTold, IsReason, IsShownTold, IsUndecidedTold, IsWaitTold, deadlock_head, holder_words, requests_text, wait_line, wait_words};
 
 use crate::blocks::how_text;
 use crate::pieces::append_words;
@@ -32,6 +33,7 @@ pub fn deadlock_text(
 ) -> Result<(), OutOfMemory>
     requires first { pair.0 < length analysis.now.events }
     requires second { pair.1 < length analysis.now.events }
+    requires finding { IsFinding analysis.now pair.0 pair.1 finding.now }
     ensures ok { AppendedOne result out.old out.new (IsDeadlockTold analysis.now finding.now pair.0 pair.1 all) }
     ensures err { OnErr result (out.new.items ≡ out.old.items) }
 {
@@ -51,6 +53,7 @@ fn append_finding(
 ) -> Result<(), OutOfMemory>
     requires first { pair.0 < length analysis.now.events }
     requires second { pair.1 < length analysis.now.events }
+    requires finding { IsFinding analysis.now pair.0 pair.1 finding.now }
     ensures { AppendedOne result out.old out.new (IsDeadlockTold analysis.now finding.now pair.0 pair.1 all) }
 {
     match finding {
@@ -59,17 +62,23 @@ fn append_finding(
             append_reason(out, analysis, pair.0, pair.1)?;
             append_requests(out, analysis, pair.0, pair.1)
         }
-        Finding::Undecided => {
-            append_head(
-                out,
-                analysis.indexed(),
-                &Verdict::Undecided { events: &[] },
-                pair.0,
-                pair.1,
-            )?;
-            append_requests(out, analysis, pair.0, pair.1)
-        }
+        Finding::Undecided => append_undecided(out, analysis, pair.0, pair.1),
     }
+}
+
+// Appends two requests which neither order nor a lock keeps apart, and for which no schedule was found.
+fn append_undecided(
+    out: &mut Vec<u8>,
+    analysis: &Analysis<'_>,
+    first: u32,
+    second: u32,
+) -> Result<(), OutOfMemory>
+    requires { AreOpen analysis.now.events first second }
+    ensures { AppendedOne result out.old out.new (IsUndecidedTold analysis.now first second) }
+{
+    let undecided = Verdict::Undecided { events: &[] };
+    append_head(out, analysis.indexed(), &undecided, first, second)?;
+    append_requests(out, analysis, first, second)
 }
 
 // Appends a deadlock that the schedule shows.

@@ -3,15 +3,19 @@
 #![tactic(auto)]
 
 mod blocks;
+mod chosen;
 mod counts;
 mod explained;
 mod kinds;
+mod known;
 mod pieces;
 mod requests;
 mod showing;
 mod text;
 
+pub use chosen::{Chosen, chosen_of};
 pub use counts::{Counts, counts_of};
 pub use explained::deadlock_text;
+pub use known::{Known, has_pattern, known_of};
 pub use showing::schedule_text;
 pub use text::deadlocks_text;

@@ -1,10 +1,11 @@
 //! Finds what is known of two requests that wait for each other.
 ghost use Rattle.std.specs.Prelude.{◌≡◌, ◌<◌, ◌↔◌, [], ◌∷◌, IfOk, IsTrue, length, true};
-ghost use Rattle.deadlock_triage.specs.Findings.{IsFinding};
+ghost use Rattle.deadlock_triage.specs.Findings.{AreOpen, IsFinding};
 ghost use Rattle.deadlock_triage.specs.Requests.{IsPair};
 ghost use Rattle.lock_waits.specs.Required.{AreRefuted};
 ghost use Rattle.lock_waits.specs.Waits.{ShowsDeadlock};
 
+use crate::closing::Closing;
 use crate::requests::is_request;
 use crate::searching::schedule_of;
 use lock_waits::{are_refuted, is_cycle, refuted_is_never_shown};
@@ -55,7 +56,28 @@ pub fn find(
     ensures { IfOk result (IsFinding analysis.now first second) }
 {
     let mut work = 0;
-    found(alloc, analysis, first, second, true, &mut work)
+    match found(alloc, analysis, first, second, true, &mut work)? {
+        Finding::Undecided => closed(alloc, analysis, first, second),
+        finding => Ok(finding),
+    }
+}
+
+// The finding if no schedule was found: whether the closed order of the requests contradicts itself.
+fn closed(
+    alloc: Global,
+    analysis: &Analysis<'_>,
+    first: u32,
+    second: u32,
+) -> Result<Finding, OutOfMemory>
+    requires first { first < length analysis.now.events }
+    requires second { second < length analysis.now.events }
+    requires open { AreOpen analysis.now.events first second }
+    ensures { IfOk result (IsFinding analysis.now first second) }
+{
+    if Closing::new().are_contradicted(alloc, analysis, first, second)? {
+        return Ok(Finding::Apart);
+    }
+    Ok(Finding::Undecided)
 }
 
 /// The same. It searches for a schedule only if `may_search` is true. It adds to `work` how many events it visited, and

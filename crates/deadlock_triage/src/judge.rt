@@ -1,9 +1,10 @@
 //! Visits pairs of requests, and keeps a row for each pattern.
 ghost use Rattle.std.specs.Prelude.{◌≡◌, ◌+◌, ◌<◌, IfOk, OnOk, Some, length, slice_get, slice_index};
 ghost use Rattle.deadlock_triage.specs.Rows.{AreRowsOf, IsJudge, IsNext, IsRowAt, first_outcome};
-ghost use Rattle.deadlock_triage.specs.Verdicts.{IsVerdict};
+ghost use Rattle.deadlock_triage.specs.Verdicts.{IsJudged, IsVerdict};
 
-use crate::judging::judged;
+use crate::closing::Closing;
+use crate::judging::{Judgement, judged};
 use crate::outcomes::Verdict;
 use crate::patterns::pattern_of;
 use crate::refusal::Refusal;
@@ -31,12 +32,19 @@ pub(crate) struct Judge<'a> {
     pub(crate) is_whole: bool,
 }
 
+/// What may still be spent on all pairs together: on visited events and steps of searches, and on closing orders.
+#[derive(Drop)]
+pub(crate) struct Left {
+    pub(crate) work: u64,
+    pub(crate) closing: Closing,
+}
+
 impl Judge<'_> {
     /// Visits the pairs of a later request with each earlier one.
     pub(crate) fn visit_all(
         &self,
         rows: &mut Rows,
-        left: &mut u64,
+        left: &mut Left,
         later: usize,
     ) -> Result<(), Refusal>
         requires judge { IsJudge self.now }
@@ -54,7 +62,7 @@ impl Judge<'_> {
     fn visit(
         &self,
         rows: &mut Rows,
-        left: &mut u64,
+        left: &mut Left,
         earlier: usize,
         later: usize,
     ) -> Result<(), Refusal>
@@ -79,7 +87,7 @@ impl Judge<'_> {
     fn visit_cycle(
         &self,
         rows: &mut Rows,
-        left: &mut u64,
+        left: &mut Left,
         start: Verdict,
         earlier: usize,
         later: usize,
@@ -127,7 +135,7 @@ impl Judge<'_> {
     fn next(
         &self,
         row: Verdict,
-        left: &mut u64,
+        left: &mut Left,
         first: u32,
         second: u32,
     ) -> Result<Verdict, OutOfMemory>
@@ -139,7 +147,7 @@ impl Judge<'_> {
         if is_settled(row, self.tries) {
             return Ok(row);
         }
-        if is_over(row, *left) {
+        if is_over(row, left) {
             return Ok(given_up(row, first, second, indexed));
         }
         let mut work = 1;
@@ -152,12 +160,45 @@ impl Judge<'_> {
             may_search,
             &mut work,
         )?;
-        *left = left.saturating_sub(work);
-        Ok(after(row, first, second, answer, self.tries, indexed))
+        left.work = left.work.saturating_sub(work);
+        let known = self.closed(left, first, second, answer)?;
+        Ok(after(row, first, second, known, self.tries, indexed))
+    }
+
+    // The answer, if there is one. If a schedule was searched in vain, whether the closed order of the two requests
+    // contradicts itself.
+    fn closed(
+        &self,
+        left: &mut Left,
+        first: u32,
+        second: u32,
+        answer: Judgement,
+    ) -> Result<Judgement, OutOfMemory>
+        requires first { first < length self.now.analysis.now.events }
+        requires second { second < length self.now.analysis.now.events }
+        requires answer { IsJudged self.now.analysis.now.events first second answer }
+        ensures { IfOk result (IsJudged self.now.analysis.now.events first second) }
+    {
+        match answer {
+            Judgement::Missed => {
+                let analysis = self.analysis;
+                if self.tries == 0 {
+                    return Ok(Judgement::Missed);
+                }
+                if left
+                    .closing
+                    .are_contradicted(self.alloc, analysis, first, second)?
+                {
+                    return Ok(Judgement::Never);
+                }
+                Ok(Judgement::Missed)
+            }
+            known => Ok(known),
+        }
     }
 }
 
 // Whether no more pairs of the pattern are judged: the work is bounded.
-fn is_over(row: Verdict, left: u64) -> bool {
-    row.judged >= MAX_JUDGED || left == 0
+fn is_over(row: Verdict, left: &Left) -> bool {
+    row.judged >= MAX_JUDGED || left.work == 0
 }

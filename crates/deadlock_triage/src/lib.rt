@@ -2,6 +2,7 @@
 //! every correct reordering, or undecided.
 #![tactic(auto)]
 
+mod closing;
 mod finding;
 mod judge;
 mod judging;

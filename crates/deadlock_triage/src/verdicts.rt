@@ -5,7 +5,8 @@ ghost use Rattle.deadlock_triage.specs.Rows.{IsJudge};
 ghost use Rattle.deadlock_triage.specs.Requests.{AreNested, IsNestedCount};
 ghost use Rattle.deadlock_triage.specs.Verdicts.{AreApart, AreComplete, ArePatternsOnce, AreVerdicts};
 
-use crate::judge::Judge;
+use crate::closing::Closing;
+use crate::judge::{Judge, Left};
 use crate::outcomes::Verdict;
 use crate::refusal::Refusal;
 use crate::requests::nested_requests;
@@ -116,7 +117,10 @@ fn verdicts_of(judge: &Judge<'_>, count: usize) -> Result<Vec<Verdict>, Refusal>
         patterns: IndexSet::with_hasher(judge.alloc, indexed.trace().raw().keyed()),
         verdicts: Vec::new(judge.alloc),
     };
-    let mut left = MOST_WORK;
+    let mut left = Left {
+        work: MOST_WORK,
+        closing: Closing::new(),
+    };
     for later in 0..count {
         judge.visit_all(&mut rows, &mut left, later)?;
     }

@@ -9,6 +9,7 @@ pub(crate) const DEADLOCKS: Words = Words {
 
   racebench deadlocks trace.std
   racebench deadlocks trace.std --apart --fail
+  racebench deadlocks trace.std --known before.txt --fail
 
 Each of two threads holds a lock and waits for the lock that the other holds. Such pairs are listed
 by source locations. They are a deadlock if a schedule leads there, apart if no correct reordering
@@ -16,6 +17,21 @@ of this trace does, and undecided if neither was found. Apart is about this trac
 run, the same locations may deadlock.",
     words: &[
         TRACE,
+        Word {
+            name: "known",
+            kind: Kind::Text("FILE"),
+            help: Some("Leave out the deadlocks in FILE, which `deadlocks` printed before"),
+        },
+        Word {
+            name: "only",
+            kind: Kind::Texts("TEXT"),
+            help: Some("Show only blocks that mention TEXT (repeatable)"),
+        },
+        Word {
+            name: "hide",
+            kind: Kind::Texts("TEXT"),
+            help: Some("Hide blocks that mention TEXT (repeatable)"),
+        },
         Word {
             name: "apart",
             kind: Kind::Flag(&[]),

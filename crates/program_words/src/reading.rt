@@ -15,7 +15,7 @@ use clap::ArgMatches;
 use clap::error::{Error, ErrorKind};
 use std::alloc::{AllocError, Global};
 
-/// The argument with this name. `clap` has checked that there is one.
+/// The argument with this name. `clap` has checked for it.
 pub(crate) fn word<'a>(given: &ArgMatches<'a>, name: &str) -> &'a str {
     given.get_str(name).unwrap_or("")
 }
@@ -190,12 +190,18 @@ fn triage<'a>(alloc: Global, given: &ArgMatches<'a>, limits: Limits) -> Result<T
 const TRIES: &str = "`--tries` takes a number in decimal digits";
 
 /// The task that the arguments of `deadlocks` name.
-fn deadlocks<'a>(given: &ArgMatches<'a>, limits: Limits) -> Result<Task<'a>, Unread>
+fn deadlocks<'a>(alloc: Global, given: &ArgMatches<'a>, limits: Limits) -> Result<Task<'a>, Unread>
     ensures { IfOk result (IsWithin limits) }
 {
     let tries = number(word(given, "tries"), 0, limits.tries, TRIES)?;
+    let trace = word(given, "TRACE");
+    check_inputs(&[trace], &[word(given, "known")])?;
+    let Filters { only, hide } = block_filters(alloc, given)?;
     Ok(Task::Deadlocks(DeadlocksTask {
-        trace: word(given, "TRACE"),
+        trace,
+        known: given.get_str("known"),
+        only,
+        hide,
         apart: given.get_flag("apart"),
         tries,
         fail: given.get_flag("fail"),
@@ -267,7 +273,7 @@ fn command_task<'a>(
         CommandName::Log => Ok(Task::Log(word(given, "LOG"))),
         CommandName::Threads => threads(alloc, given, limits),
         CommandName::Triage => triage(alloc, given, limits),
-        CommandName::Deadlocks => deadlocks(given, limits),
+        CommandName::Deadlocks => deadlocks(alloc, given, limits),
         CommandName::Explain => Ok(Task::Explain(pair(given), given.get_flag("all"))),
         CommandName::Witness => Ok(Task::Witness(pair(given), schedule_form(given))),
         CommandName::Uses => Ok(Task::Uses(pair(given))),
@@ -327,7 +333,7 @@ fn untaken(alloc: Global, words: &[String], limits: Limits, error: &Error) -> To
     told_of(alloc, error)
 }
 
-/// The command that the words name, if they name one.
+/// The command in the arguments, if they have one.
 fn command_in(given: &ArgMatches<'_>) -> Option<CommandName> {
     match given.subcommand() {
         Some((name, _)) => command_of(name),
@@ -335,7 +341,7 @@ fn command_in(given: &ArgMatches<'_>) -> Option<CommandName> {
     }
 }
 
-/// What is asked for in the words that `clap` took, or what is said in its place.
+/// The task in the arguments that `clap` took, or the text in its place.
 fn task_or_told<'a>(alloc: Global, given: &ArgMatches<'a>, limits: Limits) -> Result<Task<'a>, Told>
     ensures { IfOk result (IsWithin limits) }
 {
@@ -345,7 +351,7 @@ fn task_or_told<'a>(alloc: Global, given: &ArgMatches<'a>, limits: Limits) -> Re
     }
 }
 
-/// What is said in the place of a task that was not read.
+/// The text in the place of a task that was not read.
 fn told(alloc: Global, given: &ArgMatches<'_>, limits: Limits, unread: Unread) -> Told {
     match unread {
         Unread::Refused(reason) => refused(alloc, limits, command_in(given), reason),

@@ -136,10 +136,16 @@ pub struct TriageTask<'a> {
 }
 
 /// The deadlocks of a trace, by the locations of requests and holds.
-#[derive(Clone, Copy)]
+#[derive(Drop)]
 pub struct DeadlocksTask<'a> {
     /// The path of the trace.
     pub trace: &'a str,
+    /// The path of an earlier report, whose deadlocks are left out.
+    pub known: Option<&'a str>,
+    /// Texts of which a block must have one, if there are any.
+    pub only: Vec<&'a str>,
+    /// Texts of which a block may have none.
+    pub hide: Vec<&'a str>,
     /// Whether to print the blocks of patterns that are apart.
     pub apart: bool,
     /// How many pairs of requests are tried for a pattern.

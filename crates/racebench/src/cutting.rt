@@ -4,9 +4,10 @@ ghost use Rattle.std.specs.Prelude.{◌<◌};
 use crate::doing::finish;
 use crate::folders::{Folder, folder_at};
 use crate::kept::Kept;
+use crate::notes::{append_named, are_wanted};
 use crate::pieces::{Pieces, pieces_at};
 use crate::quoted::append_number;
-use crate::telling::{tell_past_end, tell_replay, tell_windows};
+use crate::telling::{say, tell_past_end, tell_replay, tell_windows};
 use crate::telling_paths::{tell_full, tell_unlisted, tell_unwritten};
 use crate::trace_notes::{LATE, held_note};
 use crate::windows::Windows;
@@ -106,6 +107,7 @@ fn print_whole(
     match cut_window(rt.alloc(), &mut reader, task.from, task.most, &mut writer) {
         Ok(()) => {
             pieces.tell_mark(rt, task.trace);
+            tell_whole(rt, events, task);
             let text = with_marks(rt.alloc(), &pieces.wholeness(rt.alloc())?, writer.bytes)?;
             Ok(print_text(rt, text.as_slice()))
         }
@@ -115,6 +117,24 @@ fn print_whole(
             Err(BenchFault::Replay(ReplayFault::OutOfMemory))
         }
         Err(fault) => Err(fault),
+    }
+}
+
+/// How many events a window has if no size is given.
+const USUAL: u32 = 1_000_000;
+
+/// The note if no size of windows is given, and the one window has all events of the trace.
+const WHOLE: &[u8] = b" fits in one window: with `--windows N` a window has at most N events";
+
+/// Writes that note, if notes are wanted.
+fn tell_whole(rt: &HostRuntime, events: u64, task: &CutTask<'_>) {
+    let is_whole = task.from == 0 && events <= u64::from(task.most);
+    if !is_whole || task.most != USUAL || !are_wanted(rt) {
+        return;
+    }
+    let mut line = Vec::new(rt.alloc());
+    if append_named(&mut line, task.trace, WHOLE).is_ok() {
+        say(rt, &line);
     }
 }
 

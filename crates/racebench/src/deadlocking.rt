@@ -5,10 +5,11 @@ use crate::input::input_at;
 use crate::marked::tell_mark;
 use crate::missing::write_missing;
 use crate::telling::{Fault, tell, tell_files, tell_replay};
+use crate::telling_triage::tell_deadlockless;
 use calls::BenchFault;
-use calls::triage::{Judged, Wholeness, read_recording};
-use client_scripts::{FromWrite, ReplayFault, write_all};
-use deadlock_report::{Counts, counts_of, deadlocks_text};
+use calls::triage::{Filters, Judged, Wholeness, read_recording};
+use client_scripts::{FromWrite, ReplayFault, read_input, write_all};
+use deadlock_report::{Known, chosen_of, deadlocks_text, has_pattern, known_of};
 use deadlock_triage::{Refusal, deadlocks_of};
 use event_index::Indexed;
 use must_order::Analysis;
@@ -43,18 +44,40 @@ impl From<Refusal> for Unlisted {
     }
 }
 
-/// The text of the deadlocks of a trace, and its counts.
+/// The number of the text of known deadlocks in faults.
+const KNOWN: u32 = 2;
+
+/// The known deadlocks in the file at this path, if one is named. Reports that a file has none.
+fn known_at(rt: &HostRuntime, path: Option<&str>) -> Result<Option<Known>, ReplayFault> {
+    let Some(path) = path else {
+        return Ok(None);
+    };
+    let text = read_input(rt.alloc(), &mut input_at(rt, path), KNOWN)?;
+    let known = known_of(rt.alloc(), text.as_slice())?;
+    if !has_pattern(&known) {
+        tell_deadlockless(rt, path)?;
+    }
+    Ok(Some(known))
+}
+
+/// The text of the deadlocks of a trace, and how many it lists.
 fn text_of(
     alloc: Global,
     indexed: &Indexed,
     task: &DeadlocksTask<'_>,
-) -> Result<(Vec<u8>, Counts), Unlisted> {
+    known: &Option<Known>,
+) -> Result<(Vec<u8>, u64), Unlisted> {
     let places = Places::of(alloc, indexed)?;
     let analysis = Analysis::new(alloc, indexed)?;
     let found = deadlocks_of(alloc, &analysis, places.numbers.as_slice(), task.tries)?;
+    let filters = Filters {
+        only: task.only.as_slice(),
+        hide: task.hide.as_slice(),
+    };
+    let chosen = chosen_of(alloc, &analysis, &found, known, filters, task.apart)?;
     let mut text = Vec::new(alloc);
-    deadlocks_text(&analysis, &found, task.apart, &mut text)?;
-    Ok((text, counts_of(indexed, &found)))
+    deadlocks_text(&analysis, &found, &chosen, &mut text)?;
+    Ok((text, chosen.deadlocks))
 }
 
 /// Writes the text. If something is missing in the recording, the text says what.
@@ -82,12 +105,13 @@ fn list_deadlocks(
     task: &DeadlocksTask<'_>,
     indexed: &Indexed,
     wholeness: &Wholeness,
+    known: &Option<Known>,
 ) -> ExitCode {
-    match text_of(rt.alloc(), indexed, task) {
-        Ok((text, counts)) => match write_listed(rt, wholeness, text.as_slice()) {
+    match text_of(rt.alloc(), indexed, task, known) {
+        Ok((text, deadlocks)) => match write_listed(rt, wholeness, text.as_slice()) {
             Ok(()) => {
                 let judged = Judged {
-                    races: counts.deadlocks,
+                    races: deadlocks,
                     has_events: indexed.len() > 0,
                     is_whole: wholeness.is_whole(),
                 };
@@ -104,12 +128,28 @@ fn list_deadlocks(
     }
 }
 
+/// The same. The known deadlocks are read first.
+fn list_unknown(
+    rt: &HostRuntime,
+    task: &DeadlocksTask<'_>,
+    indexed: &Indexed,
+    wholeness: &Wholeness,
+) -> ExitCode {
+    match known_at(rt, task.known) {
+        Ok(known) => list_deadlocks(rt, task, indexed, wholeness, &known),
+        Err(fault) => {
+            let paths = [task.trace, task.known.unwrap_or("")];
+            tell_files(rt, BenchFault::from(fault), &paths)
+        }
+    }
+}
+
 /// Prints the deadlocks of the trace in a file, and returns the exit status.
 pub(crate) fn deadlocks_in_file(rt: &HostRuntime, task: &DeadlocksTask<'_>) -> ExitCode {
     let mut reader = input_at(rt, task.trace);
     match read_recording(rt.alloc(), &mut reader) {
         Ok((indexed, wholeness)) => {
-            let status = list_deadlocks(rt, task, &indexed, &wholeness);
+            let status = list_unknown(rt, task, &indexed, &wholeness);
             tell_mark(rt, &reader, task.trace);
             status
         }

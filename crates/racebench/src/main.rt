@@ -130,6 +130,7 @@ fn has_empty(texts: &[&str]) -> bool {
 fn filters_by_nothing(task: &Task<'_>) -> bool {
     match task {
         Task::Triage(task) => has_empty(&task.only) || has_empty(&task.hide),
+        Task::Deadlocks(task) => has_empty(&task.only) || has_empty(&task.hide),
         Task::Merge(task) => has_empty(&task.only) || has_empty(&task.hide),
         _ => false,
     }

@@ -140,10 +140,24 @@ fn append_mark(out: &mut Vec<u8>, path: &str, at: u64, words: &[u8]) -> Result<(
 
 /// Prints that the text of known races at this path has no block `race`.
 pub(crate) fn tell_blockless(rt: &HostRuntime, path: &str) -> Result<(), OutOfMemory> {
+    tell_nothing_known(rt, path, b" has no block `race`: no race is known\n")
+}
+
+/// Prints that the text of known deadlocks at this path has no block `deadlock`.
+pub(crate) fn tell_deadlockless(rt: &HostRuntime, path: &str) -> Result<(), OutOfMemory> {
+    tell_nothing_known(
+        rt,
+        path,
+        b" has no block `deadlock`: no deadlock is known\n",
+    )
+}
+
+/// Prints that the file at this path has nothing that is known, in these words.
+fn tell_nothing_known(rt: &HostRuntime, path: &str, words: &[u8]) -> Result<(), OutOfMemory> {
     let mut line = Vec::new(rt.alloc());
     line.extend_from_slice(b"racebench: ")?;
     append_name(&mut line, path)?;
-    line.extend_from_slice(b" has no block `race`: no race is known\n")?;
+    line.extend_from_slice(words)?;
     say(rt, &line);
     Ok(())
 }

@@ -32,3 +32,15 @@ returns-in_ok-append_reason-in-Apart c =
       subst (λ (f : Finding). IsDeadlockTold r f pair.0 pair.1 c.args.all (reason.0 ++ asked)) (sym c.in-Apart.is) (reason.0, reason.2, refl),
     ))
     c.append_requests.ensures
+
+pub returns-in-Undecided : goal.returns-in-Undecided
+returns-in-Undecided c =
+    let r = c.args.analysis.now in
+    let pair = c.args.pair in
+    on_ok_weaker c.append_undecided.result
+    (λ told. (
+      told.0,
+      told.1,
+      subst (λ (f : Finding). IsDeadlockTold r f pair.0 pair.1 c.args.all told.0) (sym c.in-Undecided.is) told.2,
+    ))
+    c.append_undecided.ensures

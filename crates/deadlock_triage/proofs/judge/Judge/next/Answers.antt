@@ -15,7 +15,7 @@ returns-then-is_over c =
 
 pub after-requires : goal.after-requires
 after-requires c =
-    subst (λ (p : Recording). IsJudged p.events c.args.first c.args.second c.in_ok-answer.answer) (sym c.indexed-indexed.ensures) c.in_ok-answer.ensures.judged
+    subst (λ (p : Recording). IsJudged p.events c.args.first c.args.second c.in_ok-known.known) (sym c.indexed-indexed.ensures) c.in_ok-known.ensures
 
 pub returns : goal.returns
 returns c =
