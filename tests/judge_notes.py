@@ -70,7 +70,7 @@ UNWRITTEN = [
     (["info", "good"], "a closed pipe", "standard output cannot be written: the pipe was closed"),
     (["info", "good"], "nothing", "standard output cannot be written: it is closed"),
     (["--help"], "a closed pipe", "standard output cannot be written: the pipe was closed"),
-    (["cut", "good"], "a closed pipe", "standard output cannot be written: the pipe was closed"),
+    (["cut", "good", "--windows", "2"], "a closed pipe", "standard output cannot be written: the pipe was closed"),
     (["session", "good", "log"], "a closed pipe", "standard output cannot be written: the pipe was closed"),
     (["session", "good", "kept"], "a pipe", "kept cannot be written: permission denied"),
     (["session", "good", "held/log"], "a pipe", "held/log cannot be written: permission denied"),
