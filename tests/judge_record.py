@@ -79,6 +79,7 @@ PROGRAMS: list[tuple[str, list[str], set[Lines | str]]] = [
     ("tests/recorded/freed.c", [], {("freed.c:11", "freed.c:6")}),
     ("tests/recorded/returned.c", [], {"RACE"}),
     ("tests/recorded/returned.c", ["--no-free"], set()),
+    ("tests/recorded/frame_pointer.c", [], {"RACE"}),
     ("tests/recorded/signals.c", [], {"RACE"}),
     ("tests/recorded/sockets.c", [], {"RACE"}),
     ("tests/recorded/openmp.c", [], {"RACE"}),

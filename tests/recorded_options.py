@@ -34,7 +34,7 @@ def run(*arguments: str) -> tuple[list[str], str]:
 # Programs of tests/recorded whose traces the judge computes. They are small, in C, and have no relaxed atomics.
 INTERPRETED = (
     "count each_kind barrier rounds semaphore_lock read_lock between_writers freed signals sockets frames named "
-    "returned"
+    "returned frame_pointer"
 ).split()
 
 
