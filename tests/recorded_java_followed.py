@@ -22,7 +22,7 @@ FOLLOW, CONFIRM = (os.path.join(recorded_java.TOP, "record", name) for name in (
 RACING = "Counter Hidden Published Checked Pool".split()
 CLASSICS = "account airline bubblesort pingpong producers".split()
 # Ways of Followed.java: what leads to the race.
-WAYS = "waits conditions pool ends crashes".split()
+WAYS = "waits conditions pool ends crashes interrupted sleeps".split()
 PROGRAMS = [[name] for name in RACING] + [["Classics", name, "6"] for name in CLASSICS]
 PROGRAMS += [["Followed", way] for way in WAYS]
 SEEDS = (1, 2)
@@ -106,6 +106,21 @@ def judge_orders(racebench: str) -> None:
     found = re.search(row, table, re.MULTILINE)
     if status or not found or set(found.groups()) != {"0", "1"}:
         raise Wrong(f"record/confirm: status {status}: {table}{notes[-600:]}")
+
+
+def judge_sleeper(racebench: str) -> None:
+    """A thread that is right before its access waits for the other one, however long that sleeps before its own."""
+    compiled("Followed")
+    events = recorded(["Followed", "sleeps"])
+    pair = races(racebench)[0]
+    a_writes = "|w(" in events[int(pair[0])]
+    for order, a_first in (("a-a", True), ("a-b", True), ("b-b", False), ("b-a", False)):
+        with open("witness", "w", encoding="utf-8") as file:
+            file.write(recorded_java.ran(racebench, "witness", "trace.std", *pair)[1])
+        status, printed, notes = recorded_java.ran(FOLLOW, "--witness", "witness", "--then", order, "clock", *pair)
+        wanted = f"seen {int(a_first == a_writes)}\n"
+        if status or wanted not in printed + notes or "departed" in notes:
+            raise Wrong(f"--then {order}, and {'A' if a_writes else 'B'} writes: {printed}{notes[-1500:]}")
 
 
 def judge_hangs(racebench: str) -> None:
@@ -278,6 +293,7 @@ def cases(racebench: str) -> Iterator[recorded_java.Case]:
     for arguments in PROGRAMS:
         yield " ".join(["java: following", *arguments]), judge_stands, (racebench, arguments)
     yield "java: following in each order", judge_orders, (racebench,)
+    yield "java: following a thread that sleeps", judge_sleeper, (racebench,)
     yield "java: following, and the program hangs", judge_hangs, (racebench,)
     yield "java: following what is no race", judge_clean, (racebench,)
     yield "java: following, and the run departs", judge_departures, (racebench,)

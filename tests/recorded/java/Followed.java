@@ -143,6 +143,46 @@ public class Followed {
         second.join();
     }
 
+    /** Waits for a condition and for a monitor, which interrupts end. */
+    static void interrupted() throws Exception {
+        Thread first = started(() -> {
+            own.lock();
+            try {
+                full.await();
+            } catch (InterruptedException e) {
+                items++;
+            } finally {
+                own.unlock();
+            }
+            total++; // RACE interrupted
+        });
+        Thread second = started(() -> {
+            synchronized (lock) {
+                try {
+                    lock.wait();
+                } catch (InterruptedException e) {
+                    isReady = true;
+                }
+            }
+            total++; // RACE interrupted
+        });
+        Thread.sleep(100);
+        first.interrupt();
+        second.interrupt();
+        Thread.sleep(100);
+        total++; // RACE interrupted
+        first.join();
+        second.join();
+    }
+
+    /** The thread of one access sleeps long before it, and that of the other one has come to its own by then. */
+    static void sleeps() throws Exception {
+        Thread first = started(() -> total = 1); // RACE sleeps
+        Thread.sleep(300);
+        System.out.println("seen " + total); // RACE sleeps
+        first.join();
+    }
+
     /** What comes in the second thread hangs on the environment. */
     static void changes() throws Exception {
         Thread first = started(() -> total = 1); // RACE changes
@@ -169,6 +209,8 @@ public class Followed {
             case "ends": ends(); break;
             case "crashes": crashes(); break;
             case "lost": lost(); break;
+            case "interrupted": interrupted(); break;
+            case "sleeps": sleeps(); break;
             default: changes();
         }
     }

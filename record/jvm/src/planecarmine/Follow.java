@@ -174,6 +174,12 @@ final class Follow {
     /** Whether the next record of a thread is of this kind in the recording; false if it is not known. */
     static boolean isNext(Turns.T t, int kind) { return (plan.expected(t.number, t.ticks + 1) & 127) == FORMAT[kind]; }
 
+    /** Whether the recording has an interrupt that ends this thread's wait there: its next record takes that. */
+    static boolean endsByInterrupt(Turns.T t, int site) {
+        long next = on ? plan.expected(t.number, t.ticks + 1) : 0;
+        return next != 0 && fits(next, F_PASS, site);
+    }
+
     /** Whether the recording has a wait of this thread that ended since its time was over. */
     static boolean isLate(Turns.T t) { return plan.answer(t.number, t.ticks + 1) != 0; }
 
@@ -220,15 +226,20 @@ final class Follow {
     }
 
     /** Whether a thread may go on before its turn: it ends, or its next record is no event, or all that this needs is
-     * done. */
+     * done. One that is right before its access of the race waits for the other. */
     private static boolean mayRunOn(Turns.T t) {
-        if (t.number >= plan.threads) return false;
+        if (t.number >= plan.threads || stands(t)) return false;
         if (t.atEnd) return true;
         if (t.ticks >= plan.records(t.number)) return false;
         if (!Plan.isEvent(plan.expected(t.number, t.ticks + 1))) return true;
         int step = plan.next(t.number);
         if (step >= plan.steps || plan.type(step) != Plan.STEP || plan.tick(step) != t.ticks + 1) return false;
         return plan.hasNeeds(step);
+    }
+
+    private static boolean stands(Turns.T t) {
+        for (Standing one : standing) if (one != null && one.thread == t.number) return true;
+        return false;
     }
 
     /** Which of the threads in a `wait` a notify is for: the first one that the schedule wants. */

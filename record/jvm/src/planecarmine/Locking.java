@@ -136,6 +136,23 @@ final class Locking {
             lock.count = count;
             if (Turns.on) Store.put(t, kindIn(lock), lock.number, t.wasLate ? Kinds.LATE : Kinds.LOCK, site);
         }
+
+        /** Whether an interrupt ended the wait. In a followed run it may come as late as here, if the recording has it:
+         * the thread may have had the turn before. */
+        boolean wasInterrupted() {
+            boolean isByPlan = !interrupted && Follow.endsByInterrupt(t, site);
+            if ((interrupted || isByPlan) && Turns.on) Work.takeInterrupt(t, site);
+            return interrupted || isByPlan && Thread.interrupted();
+        }
+    }
+
+    /** Whether an interrupt ends a wait before it begins. In a followed run it does if it does in the recording. */
+    private static boolean isInterrupted(Turns.T t, int site) {
+        boolean isByPlan = Follow.endsByInterrupt(t, site);
+        if (isByPlan) Work.takeInterrupt(t, site);
+        if (Follow.on && !isByPlan || !Thread.interrupted()) return false;
+        if (!isByPlan) Work.takeInterrupt(t, site);
+        return true;
     }
 
     private static int kindIn(Things.Thing lock) { return lock.isReadWrite ? Kinds.WRITER_IN : Kinds.ACQUIRE; }
@@ -149,10 +166,7 @@ final class Locking {
             o.wait(ms);
             return;
         }
-        if (Thread.interrupted()) {
-            Work.takeInterrupt(t, site);
-            throw new InterruptedException();
-        }
+        if (isInterrupted(t, site)) throw new InterruptedException();
         Waiting waiting = new Waiting(t, m, m, ms * 1000000, site);
         waiting.begin();
         while (Turns.on) {
@@ -168,9 +182,7 @@ final class Locking {
             waiting.look();
         }
         waiting.end();
-        if (!waiting.interrupted) return;
-        if (Turns.on) Work.takeInterrupt(t, site);
-        throw new InterruptedException();
+        if (waiting.wasInterrupted()) throw new InterruptedException();
     }
 
     static void wake(Object o, boolean all) {
@@ -217,10 +229,7 @@ final class Locking {
         Turns.T t = Turns.keep();
         Lock lock = lockOf(t, c);
         if (lock == null) return false;
-        if (interruptibly && Thread.interrupted()) {
-            Work.takeInterrupt(t, site);
-            throw new InterruptedException();
-        }
+        if (interruptibly && isInterrupted(t, site)) throw new InterruptedException();
         int holds = holds(lock);
         Things.Thing queue = Things.of(t, c);
         Waiting waiting = new Waiting(t, queue.base, queue, nanos, site);
@@ -229,11 +238,8 @@ final class Locking {
         awaitTurn(t, waiting, interruptibly);
         for (int k = 0; k < holds; k++) lock.lock();
         waiting.end();
-        if (waiting.interrupted && interruptibly) {
-            if (Turns.on) Work.takeInterrupt(t, site);
-            throw new InterruptedException();
-        }
-        if (waiting.interrupted) Thread.currentThread().interrupt();
+        if (interruptibly && waiting.wasInterrupted()) throw new InterruptedException();
+        if (waiting.interrupted) Turns.interruptAgain();
         return true;
     }
 

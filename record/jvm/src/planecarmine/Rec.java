@@ -184,7 +184,7 @@ public final class Rec {
                 return 0;
             });
         } catch (InterruptedException e) {
-            Thread.currentThread().interrupt();
+            Turns.interruptAgain();
         }
     }
 
@@ -245,7 +245,8 @@ public final class Rec {
     }
 
     public static void interrupts(Thread thread) {
-        if (!Turns.on || Turns.known(Thread.currentThread()) == null) return;
+        Turns.T by = Turns.on ? Turns.known(Thread.currentThread()) : null;
+        if (by == null || by.isInterruptedAgain) return;
         Turns.T to = Turns.known(thread);
         Turns.T t = to == null ? null : Turns.keep();
         if (t == null) return;

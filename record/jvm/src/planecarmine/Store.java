@@ -146,7 +146,7 @@ final class Store {
                 }
             }
         } finally {
-            if (interrupted) Thread.currentThread().interrupt();
+            if (interrupted) Turns.interruptAgain();
         }
     }
 }

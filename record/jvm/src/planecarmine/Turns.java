@@ -23,6 +23,7 @@ final class Turns {
         volatile boolean waitsShort;
         /** It was interrupted while it waited for its turn. */
         volatile boolean interrupted;
+        boolean isInterruptedAgain;
         /** How many makings of classes it is in: the turn may not pass there. */
         int quiet;
         Object parkedAt;
@@ -245,7 +246,15 @@ final class Turns {
                 }
             }
         }
-        if (interrupted) Thread.currentThread().interrupt();
+        if (interrupted) Turns.interruptAgain();
+    }
+
+    /** Sets the flag of an interrupt again that a hook took from this thread. It is no interrupt of the program. */
+    static void interruptAgain() {
+        T t = known(Thread.currentThread());
+        if (t != null) t.isInterruptedAgain = true;
+        Thread.currentThread().interrupt();
+        if (t != null) t.isInterruptedAgain = false;
     }
 
     static void give(T t) {
