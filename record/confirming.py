@@ -62,9 +62,7 @@ class Confirmer:
     def __init__(
         self, chosen: argparse.Namespace, clock: clocks.Clock, runner: following.Runner, settings: following.Settings
     ) -> None:
-        # Only programs with malloc have a heap that is filled.
-        has_malloc = not clock.fields.get("go") and not clock.fields.get("java")
-        self.settings = settings if has_malloc else settings._replace(filled_heap=False)
+        self.settings = following.with_heap_of(clock, settings)
         self.chosen, self.clock, self.runner = chosen, clock, runner
         self.messages = run_messages.RunMessages(clock)
 

@@ -27,7 +27,8 @@ class DeadlockConfirmer:
     def __init__(
         self, chosen: argparse.Namespace, clock: clocks.Clock, runner: following.Runner, settings: following.Settings
     ) -> None:
-        self.chosen, self.clock, self.runner, self.settings = chosen, clock, runner, settings
+        self.chosen, self.clock, self.runner = chosen, clock, runner
+        self.settings = following.with_heap_of(clock, settings)
         self.messages = run_messages.RunMessages(clock)
         self.deadlocks = deadlocks.Deadlocks(chosen.racebench, chosen.trace)
 

@@ -22,10 +22,9 @@ class Hold(NamedTuple):
 
 
 def check_kind(clock: clocks.Clock) -> None:
-    """Only programs that record/cc and its like compiled are followed into a deadlock."""
-    for kind, name in (("go", "Go"), ("java", "Java")):
-        if clock.fields.get(kind):
-            raise plans.BadWitness(f"record/follow follows races of {name} programs, and no deadlocks")
+    """Go programs are not followed into a deadlock."""
+    if clock.fields.get("go"):
+        raise plans.BadWitness("record/follow follows races of Go programs, and no deadlocks")
 
 
 def are_requests(clock: clocks.Clock, events: Sequence[int]) -> bool:

@@ -95,6 +95,12 @@ class Settings(NamedTuple):
     records: Optional[IO[bytes]] = None
 
 
+def with_heap_of(clock: clocks.Clock, settings: Settings) -> Settings:
+    """Only programs with malloc have a heap that is filled."""
+    has_malloc = not clock.fields.get("go") and not clock.fields.get("java")
+    return settings if has_malloc else settings._replace(filled_heap=False)
+
+
 class Result:
     """What the run left in the plan's file."""
 
@@ -318,6 +324,7 @@ def take_texts(result: Result, records: IO[bytes]) -> None:
         raise OtherProgram(f"java did not begin the program, which was recorded in {where}")
     result.place, result.is_deadlock = report.place, report.is_deadlock
     result.standing = [one._replace(shown=shown) for one, shown in zip(result.standing, report.shown)]
+    result.waiting = [one._replace(shown=shown) for one, shown in zip(result.waiting, report.shown)]
 
 
 def followed(

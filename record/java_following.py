@@ -9,6 +9,7 @@ from typing import IO, Any, Iterator, NamedTuple
 
 import java_agent
 import running
+from plans import MOST_REQUESTS
 
 # The raw file of jvm/src/planecarmine/Store.java: chunks of names begin so. An entry has its size, kind and numbers.
 CHUNK, HEAD, MAGIC, NAMES = 1 << 20, 32, 0x4A434C50, 2
@@ -30,8 +31,8 @@ class Shown(NamedTuple):
 
 
 class Report(NamedTuple):
-    """What the agent wrote: both threads, the place where the run departed, a class that is another one, and whether
-    it ended the program in a deadlock."""
+    """What the agent wrote: the threads at their accesses or their locks, the place where the run departed, a class
+    that is another one, and whether it ended the program in a deadlock."""
 
     shown: list[Shown]
     place: str
@@ -65,8 +66,8 @@ def entries_of(chunk: bytes) -> Iterator[tuple[int, int, int, str]]:
 
 def report_of(file: IO[bytes]) -> Report:
     """What the agent wrote of a followed run."""
-    calls: list[list[str]] = [[], []]
-    accessed, place, other, is_deadlock = ["", ""], "", "", False
+    calls: list[list[str]] = [[] for _ in range(MOST_REQUESTS)]
+    accessed, place, other, is_deadlock = [""] * MOST_REQUESTS, "", "", False
     values: dict[tuple[int, int], str] = {}
     for kind, first, second, text in entries(file):
         if kind == FRAME:
@@ -81,7 +82,7 @@ def report_of(file: IO[bytes]) -> Report:
             other = text[len("other ") :]
         elif kind == FACT and text == "deadlock":
             is_deadlock = True
-    shown = [Shown(calls[k], accessed[k], values.get((k, 0)), values.get((k, 1))) for k in range(2)]
+    shown = [Shown(calls[k], accessed[k], values.get((k, 0)), values.get((k, 1))) for k in range(MOST_REQUESTS)]
     return Report(shown, place, other, is_deadlock)
 
 

@@ -76,7 +76,8 @@ class RunMessages:
     def waiting(self, result: following.Result, plan: deadlock_plans.DeadlockPlan) -> Iterator[str]:
         """The lines of the threads of a deadlock."""
         for one in result.waiting:
-            yield f"  T{one.thread}, {self.kind(one.kind)} of {plan.lock_of(one.thread)} at {one.at:x}"
+            where = "" if one.shown else f" at {one.at:x}"
+            yield f"  T{one.thread}, {self.kind(one.kind)} of {plan.lock_of(one.thread)}{where}"
             yield from (f"    #{number} {frame}" for number, frame in enumerate(self.frames(one)))
 
     def frames(self, standing: following.Standing) -> list[str]:

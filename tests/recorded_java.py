@@ -170,11 +170,14 @@ def cases(racebench: str) -> list[Case]:
 
 
 def all_cases(racebench: str) -> list[Case]:
+    import recorded_java_deadlocks
     import recorded_java_ends
     import recorded_java_followed
 
     found = cases(racebench)
-    return [*found, *recorded_java_ends.cases(racebench), *recorded_java_followed.cases(racebench)] if found else []
+    for module in (recorded_java_ends, recorded_java_followed, recorded_java_deadlocks):
+        found += module.cases(racebench) if found else []
+    return found
 
 
 def main() -> int:

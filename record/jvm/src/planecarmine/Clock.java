@@ -45,7 +45,8 @@ final class Clock {
         words += SIZE / 8;
         record.clear();
         record.putLong(LONG);
-        record.putLong(isThread ? r.thing : (long) r.thing << 32 | r.part & 0xffffffffL);
+        int part = isLock ? Kinds.LOCK : r.part;
+        record.putLong(isThread ? r.thing : (long) r.thing << 32 | part & 0xffffffffL);
         record.putLong(place(r.site));
         record.putLong(++ticks[r.thread] << 16);
         record.putLong(isLock && r.part == Kinds.LATE ? 1 : 0);

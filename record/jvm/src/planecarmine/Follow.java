@@ -3,6 +3,7 @@ package planecarmine;
 import java.io.IOException;
 import java.nio.file.Files;
 import java.nio.file.Path;
+import java.util.ArrayList;
 import java.util.HashMap;
 import java.util.List;
 import java.util.Map;
@@ -38,6 +39,7 @@ final class Follow {
     private static Plan plan;
     private static Turns.T[] numbered;
     private static final Standing[] standing = new Standing[2];
+    private static final List<Request> requests = new ArrayList<>();
     private static int atStep, stood, heldBack = -1, idle, stuck;
     private static long lastRecords, changed, seenRecords;
     /** The next thread while nothing is recorded, since when, and the processor time that it had before. */
@@ -136,19 +138,21 @@ final class Follow {
             arrive(t);
             if (!on || due() != t) return;
             if (t.ticks + 1 > plan.tick(atStep)) depart(Plan.MISSED, t, FORMAT[kind], site);
-            if (!isStanding(t)) return;
+            if (isAt(t, Plan.WAIT)) didNotWait(t, FORMAT[kind], site);
+            if (!isAt(t, Plan.STAND)) return;
             stand(t, FORMAT[kind], thing, part, site);
         }
     }
 
-    private static boolean isStanding(Turns.T t) {
-        return on && due() == t && plan.type(atStep) == Plan.STAND && t.ticks + 1 == plan.tick(atStep);
+    /** Whether the next step is of this type, and this thread has come to it. */
+    private static boolean isAt(Turns.T t, int type) {
+        return on && due() == t && plan.type(atStep) == type && t.ticks + 1 == plan.tick(atStep);
     }
 
     /** Before an atomic operation of the library, which says afterwards what it was. */
     static void beforeAtomic(Turns.T t, int thing, int part, int site) {
         arrive(t);
-        if (!isStanding(t)) return;
+        if (!isAt(t, Plan.STAND)) return;
         stand(t, (int) plan.expected(t.number, t.ticks + 1) & 127, thing, part, site);
         arrive(t);
     }
@@ -186,19 +190,60 @@ final class Follow {
     // ---- both threads before their accesses
 
     private static void stand(Turns.T t, int kind, int thing, int part, int site) {
-        t.ticks++;
-        if (!fits(plan.expected(t.number, t.ticks), kind, site)) departWithRecord(t, kind, site);
-        t.ticks--;
+        lookWhatComes(t, kind, site);
         int side = stood++;
         standing[side] = new Standing(t, thing, part);
-        standing[side].tellCalls(side);
+        Standing.tellCalls(side, t.thread);
         long what = (long) thing << 32 | part & 0xffffffffL;
-        plan.setStanding(side, t.number, t.ticks + 1, what, kind, Classes.place(site));
+        plan.setStanding(side, t.number, t.ticks + 1 << 16, what, 1, kind, Classes.place(site));
         done(atStep);
         if (stood < 2) return;
         for (int k = 0; k < 2; k++) standing[k].tell(k, false);
         plan.set(Plan.STATE, Plan.STANDS);
         if (atStep == plan.steps) Runtime.getRuntime().halt(0);
+    }
+
+    /** Departs if the thread comes to another record than that of the recording. */
+    private static void lookWhatComes(Turns.T t, int kind, int site) {
+        t.ticks++;
+        if (!fits(plan.expected(t.number, t.ticks), kind, site)) departWithRecord(t, kind, site);
+        t.ticks--;
+    }
+
+    // ---- all threads of a deadlock before their locks
+
+    /** A thread waits for a lock that another one has. If the plan has this request as its next step, that is done. */
+    static void waits(Turns.T t, Things.Thing lock, boolean asReader, int site) {
+        if (!isAt(t, Plan.WAIT)) return;
+        boolean asWriter = (plan.expected(t.number, t.ticks + 1) & 127) == F_WRITER;
+        int kind = asReader ? F_READER_IN : asWriter ? F_WRITER : F_ACQUIRE, number = requests.size();
+        lookWhatComes(t, kind, site);
+        Standing.tellCalls(number, t.thread);
+        plan.setRequest(number, t.number, t.ticks + 1 << 16, (long) lock.number << 32, 1, kind, Classes.place(site));
+        requests.add(new Request(t, lock, asReader, site));
+        if (requests.size() == plan.requests) allWait();
+        else done(atStep);
+    }
+
+    /** The last thread waits. If none of the others has a lock, its waiter may go on: that is no deadlock. */
+    private static void allWait() {
+        for (int k = 0; k < requests.size(); k++) {
+            Request one = requests.get(k);
+            int holder = one.holder(requests);
+            if (holder < 0) depart(Plan.NOT_HELD, one.thread, F_ACQUIRE, one.site);
+            plan.setHolder(k, holder);
+        }
+        done(atStep);
+        plan.set(Plan.STATE, Plan.STANDS);
+        if (!plan.hangs) Runtime.getRuntime().halt(0);
+        on = false;
+    }
+
+    /** A thread comes to a record where the plan wants it to wait for a lock: it has the lock, or does something else. */
+    private static void didNotWait(Turns.T t, int kind, int site) {
+        long expected = plan.expected(t.number, t.ticks + 1);
+        plan.set(Plan.EXPECTED, expected);
+        depart(fits(expected, kind, site) ? Plan.NO_WAIT : Plan.OTHER_CODE, t, kind, site);
     }
 
     // ---- who goes on
@@ -208,7 +253,13 @@ final class Follow {
         Turns.T next = due();
         if (next == null) return null;
         if (!next.inLine && next.waits && wakes(next)) Turns.wake(next);
-        if (next.inLine) return Turns.canGo(next) ? next : null;
+        if (next.inLine && Turns.canGo(next)) return next;
+        if (next.inLine && isAt(next, Plan.WAIT)) {
+            // It comes back from a `wait`, and another thread of the deadlock has the lock.
+            waits(next, next.needs, false, next.wantedAt);
+            return choose(waiting);
+        }
+        if (next.inLine) return null;
         if (!open && next.parkedAt == null) return null;
         for (Turns.T t : waiting)
             if (mayRunOn(t) && Turns.canGo(t)) {

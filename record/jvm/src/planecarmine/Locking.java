@@ -32,6 +32,7 @@ final class Locking {
         t.wantsRead = asReader;
         t.wantedAt = site;
         t.wanted = m;
+        Follow.waits(t, m, asReader, site);
     }
 
     static void release(Turns.T t, Things.Thing m, int kind, int site) {

@@ -10,11 +10,12 @@ import java.nio.channels.FileChannel;
  * structures. Steps and ticks are in the order of the file; the clock of a thread is the number of its records. */
 final class Plan {
     /** Types of steps. */
-    static final int STEP = 0, STAND = 1, LAST = 2;
+    static final int STEP = 0, STAND = 1, LAST = 2, WAIT = 3;
     /** States of the run. */
     static final int FOLLOWING = 1, STANDS = 2, DEPARTED = 3, DONE = 4;
     /** Why a run departs. */
     static final int OTHER_CODE = 1, MISSED = 2, WOULD_WAIT = 3, HANGS = 4, OTHER_OUTCOME = 6, THREAD_ENDED = 8;
+    static final int NO_WAIT = 9, NOT_HELD = 10;
     /** Places of the numbers at the head that come back. */
     static final int STATE = 17, AT_STEP = 18, WHY = 19, THREAD = 20, POS = 21, KIND = 22, PC = 23, EXPECTED = 24;
     static final int SPURIOUS = 25, PASSED = 26, LAST_PC = 27, EARLY = 28;
@@ -22,11 +23,16 @@ final class Plan {
     private static final long MAGIC = 0x3357464252524352L;
     private static final int HEAD_SIZE = 31 * 8, STANDING_SIZE = (14 + 2 * 64) * 8, STEP_SIZE = 64, TICK_SIZE = 24;
     private static final int TOLD_AT = HEAD_SIZE + 2 * STANDING_SIZE, MOST_TOLD = 64;
+    /** After the ticks are 16 uses of freed blocks, which a Java program has not, and then the requests of a deadlock. */
+    private static final int REQUESTS_AT = TOLD_AT + MOST_TOLD * 8 + 16 * 6 * 8, REQUEST_AT = REQUESTS_AT + 2 * 8;
+    private static final int MOST_REQUESTS = 8, HOLDERS_AT = REQUEST_AT + MOST_REQUESTS * STANDING_SIZE;
     /** Places of numbers in a step, in bytes. */
     private static final int TYPE = 4, CLOCK = 8, NEXT = 24, NEEDS = 32, NEEDS_COUNT = 40, IS_DONE = 48;
 
     private final MappedByteBuffer file;
-    final int threads, steps, heldBack, alone;
+    final int threads, steps, heldBack, alone, requests;
+    /** Whether the program goes on when its deadlock stands. */
+    final boolean hangs;
     final long patience;
     private final int forks, threadsAt, forksAt, stepsAt, ticksAt, needsAt, firstAt;
 
@@ -35,7 +41,7 @@ final class Plan {
             file = opened.getChannel().map(FileChannel.MapMode.READ_WRITE, 0, opened.length());
         }
         file.order(ByteOrder.LITTLE_ENDIAN);
-        if (file.limit() < TOLD_AT || file.getLong(0) != MAGIC) throw new IOException(path + " is no plan");
+        if (file.limit() < HOLDERS_AT || file.getLong(0) != MAGIC) throw new IOException(path + " is no plan");
         threads = head(1);
         steps = head(2);
         forks = head(3);
@@ -48,6 +54,8 @@ final class Plan {
         ticksAt = head(12);
         needsAt = head(13);
         firstAt = head(14);
+        requests = (int) file.getLong(REQUESTS_AT);
+        hangs = file.getLong(REQUESTS_AT + 8) != 0;
         set(STATE, FOLLOWING);
     }
 
@@ -104,10 +112,17 @@ final class Plan {
         return -1;
     }
 
-    /** A thread right before its access: its number, its clock, what it accesses, the kind and the place. */
-    void setStanding(int side, int thread, long tick, long what, long kind, long place) {
-        long[] numbers = {thread, tick << 16, what, 1, kind, place};
-        for (int k = 0; k < numbers.length; k++) file.putLong(HEAD_SIZE + side * STANDING_SIZE + 8 * k, numbers[k]);
+    /** A thread right before its access: its number and clock, what it accesses and how much, the kind and the place. */
+    void setStanding(int side, long... numbers) { setAt(HEAD_SIZE + side * STANDING_SIZE, numbers); }
+
+    /** The same of a thread that waits for a lock. */
+    void setRequest(int number, long... numbers) { setAt(REQUEST_AT + number * STANDING_SIZE, numbers); }
+
+    /** A thread of the deadlock that has the lock of a request. */
+    void setHolder(int number, int thread) { setAt(HOLDERS_AT + 8 * number, thread); }
+
+    private void setAt(int at, long... numbers) {
+        for (int k = 0; k < numbers.length; k++) file.putLong(at + 8 * k, numbers[k]);
     }
 
     void setTold(int thread, long tick) {

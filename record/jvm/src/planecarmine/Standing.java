@@ -2,11 +2,14 @@ package planecarmine;
 
 import java.lang.reflect.Array;
 import java.lang.reflect.Field;
+import java.util.Set;
 
 /** A thread right before its access: its calls, and the value there. */
 final class Standing {
     /** The most calls that are written, and the most characters of a text. */
     private static final int MOST_CALLS = 64, MOST_TEXT = 40;
+    /** Classes whose methods a thread in a hook may be in. */
+    private static final Set<String> WAITS = Set.of("java.lang.Thread", "java.lang.Object");
     final int thread;
     private final Thread of;
     private final Things.Thing thing;
@@ -19,14 +22,14 @@ final class Standing {
         this.part = part;
     }
 
-    /** Writes the calls of this thread, which runs this. A synchronized method is two: one takes the lock. */
-    void tellCalls(int side) {
+    /** Writes the calls of a thread that is in a hook. A synchronized method is two: one takes the lock. */
+    static void tellCalls(int side, Thread of) {
         int count = 0;
         String held = "";
-        for (StackTraceElement at : Thread.currentThread().getStackTrace()) {
-            String of = at.getClassName(), method = at.getMethodName(), name = of + "." + method.replace("$held", "");
-            boolean isOwn = of.startsWith("planecarmine.") || method.startsWith("rec$");
-            if (isOwn || count == 0 && of.equals("java.lang.Thread") || name.equals(held)) {
+        for (StackTraceElement at : of.getStackTrace()) {
+            String type = at.getClassName(), method = at.getMethodName(), name = type + "." + method.replace("$held", "");
+            boolean isOwn = type.startsWith("planecarmine.") || method.startsWith("rec$");
+            if (isOwn || count == 0 && WAITS.contains(type) || name.equals(held)) {
                 held = "";
                 continue;
             }
