@@ -31,7 +31,7 @@ final class Plan {
 
     private final MappedByteBuffer file;
     final int threads, steps, heldBack, alone, requests;
-    /** Whether the program goes on when its deadlock stands. */
+    /** Whether the program goes on when all threads of its deadlock wait. */
     final boolean hangs;
     final long patience;
     private final int forks, threadsAt, forksAt, stepsAt, ticksAt, needsAt, firstAt;

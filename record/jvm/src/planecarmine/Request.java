@@ -16,7 +16,7 @@ final class Request {
         this.site = site;
     }
 
-    /** The number of a thread of these requests that has the lock, or -1. A reader waits for no reader. */
+    /** The number of another thread of the deadlock that has the lock, or -1. A reader waits for no reader. */
     int holder(List<Request> all) {
         for (Request one : all) if (one != this && isOf(one.thread)) return one.thread.number;
         return -1;
