@@ -1,6 +1,5 @@
 """A followed run: the program runs by a plan, and this module reads what came of it."""
 import contextlib
-import math
 import os
 import re
 import signal
@@ -16,6 +15,7 @@ import clocks
 import java_agent
 import java_following
 import plans
+import program_time
 import raw as raw_file
 import running
 from golang import following as following_go
@@ -197,10 +197,11 @@ class Runner:
             raise OutOfTime
 
     def wait(self, seconds: int) -> Tuple[int, bool]:
-        """The program's status, and whether its time was over."""
+        """The program's status, and whether its time was over, as the program had it, or that of this work."""
         assert self.started
+        had = program_time.ProgramTime(self.started.pid)
         try:
-            for _ in range(seconds):
+            while had.seconds() < seconds and (self.end is None or time.monotonic() < self.end):
                 with contextlib.suppress(subprocess.TimeoutExpired):
                     return self.started.wait(GRACE if self.number else 1), False
                 if self.number:
@@ -231,9 +232,8 @@ class Runner:
             raise running.Unrunnable(running.why_not_begun(command[0], error)) from None
         finally:
             signal.pthread_sigmask(signal.SIG_SETMASK, blocked)
-        left = settings.timeout if self.end is None else math.ceil(self.end - time.monotonic())
         with beside(settings.beside, self.started.pid):
-            ended = self.wait(max(1, min(settings.timeout, left)))
+            ended = self.wait(settings.timeout)
         self.look()
         return ended
 

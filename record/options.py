@@ -55,7 +55,11 @@ def add_run_options(parser: argparse.ArgumentParser, tries: int) -> None:
         help="longest time between two hooks of a schedule (8000)",
     )
     parser.add_argument(
-        "--timeout", type=positive, default=60, metavar="S", help="longest time of a run in seconds (60)"
+        "--timeout",
+        type=positive,
+        default=60,
+        metavar="S",
+        help="longest time of a run in seconds, without waits for a processor (60)",
     )
     parser.add_argument(
         "--beside",

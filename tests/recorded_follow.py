@@ -5,6 +5,7 @@ What no other judge sees: a schedule that the program does not take, a departure
 order than the requested one.
 """
 
+import contextlib
 import functools
 import itertools
 import json
@@ -16,7 +17,7 @@ import signal
 import subprocess
 import sys
 import tempfile
-from collections.abc import Mapping, Sequence
+from collections.abc import Iterator, Mapping, Sequence
 from typing import Any
 
 from judging import Case, Wrong
@@ -435,6 +436,36 @@ def judge_waits(racebench: str) -> None:
         raise Wrong(f"a thread that waits for a relaxed flag: {found}")
 
 
+# Programs that keep one processor busy, and the longest time of a run in seconds: works_on.c needs half of it.
+BUSY, LONGEST = 5, "1"
+
+
+@contextlib.contextmanager
+def busy_processor() -> Iterator[None]:
+    """On the first processor programs compute without end."""
+    command = ["taskset", "-c", str(min(os.sched_getaffinity(0))), sys.executable, "-c", "while True: pass"]
+    started = [subprocess.Popen(command) for _ in range(BUSY)]
+    try:
+        yield
+    finally:
+        for each in started:
+            each.kill()
+            each.wait()
+
+
+def judge_busy(racebench: str) -> None:
+    """The time of a run is that of the program: on a busy processor it takes longer, and a program that waits for ever
+    is ended there too."""
+    recorded(os.path.join(SOURCES, "works_on.c"), [])
+    pair, witness = witness_of(racebench, "program")
+    follow = [FOLLOW[0], "--patience", "60000", "--timeout", LONGEST, "program.clock", *pair, "./program"]
+    with busy_processor():
+        for arguments, end in (([], "the program ended with status 7"), (["waits"], "the program hangs")):
+            _, errors = ran([*follow, *arguments], text=witness)
+            if errors.splitlines()[-1] != f"record/follow: {end}":
+                raise Wrong(f"{arguments} on a busy processor: {errors}")
+
+
 def judge_recorded_order(racebench: str) -> None:
     """A schedule from which the run departs is tried again in the order of the recording."""
     recorded(os.path.join(SOURCES, "told_relaxed.cpp"), [])
@@ -494,6 +525,7 @@ JUDGES = [
     ("the program's name", judge_program),
     ("a departure", judge_departs),
     ("a thread that waits", judge_waits),
+    ("a busy processor", judge_busy),
     ("the order of the recording", judge_recorded_order),
     ("teams of OpenMP", judge_teams),
     ("gdb", judge_debugger),
