@@ -19,7 +19,7 @@ from judging import Wrong
 FOLLOW, CONFIRM = (os.path.join(recorded_java.TOP, "record", name) for name in ("follow", "confirm"))
 SOURCE = os.path.join(recorded_java.SOURCES, "LockOrders.java")
 # Ways of LockOrders.java: those with a deadlock, and those without.
-DEADLOCKS, CLEAN = "monitors lock readers notified".split(), "gate ordered same".split()
+DEADLOCKS, CLEAN = "monitors lock readers notified".split(), "gate ordered same tries".split()
 # Seeds of which one has to end without the deadlock: such a recording has its requests.
 SEEDS = range(1, 11)
 
@@ -27,7 +27,9 @@ SEEDS = range(1, 11)
 def lines_with(label: str) -> list[str]:
     """The places of LockOrders.java with this label."""
     with open(SOURCE, encoding="utf-8") as text:
-        labeled = [(number, re.findall(r"(?:HOLDS|WAITS) \w+", line)) for number, line in enumerate(text, start=1)]
+        labeled = [
+            (number, re.findall(r"(?:HOLDS|WAITS) \w+|TRIES", line)) for number, line in enumerate(text, start=1)
+        ]
     return [f"LockOrders.java:{number}" for number, labels in labeled if label in labels]
 
 
@@ -101,6 +103,30 @@ def judge_none(racebench: str, way: str) -> None:
         raise Wrong(f"{way}: {found}")
 
 
+def judge_marks(racebench: str) -> None:
+    """Each lock that a try took is marked, and no other one is. What a try took is no request."""
+    recorded("tries")
+    with open("trace.std", encoding="utf-8") as file:
+        acquires = [(number, line) for number, line in enumerate(file, start=-1) if "|acq(heap:" in line]
+    marked = [(number, line) for number, line in acquires if " < try in LockOrders.tries" in line]
+    places = [line.split("|")[2].split(" < ")[0] for _, line in marked]
+    others = [line for pair in acquires if pair not in marked for line in pair[1:]]
+    if set(places) != set(lines_with("TRIES")) or any(
+        "try" in line.replace("LockOrders.tries", "") for line in others
+    ):
+        raise Wrong(f"marks: {acquires}")
+    events = [
+        marked[0][0],
+        next(number for number, line in acquires if "LockOrders.waitsFor" in line and "Object" in line),
+    ]
+    notes = followed(racebench, events, wanted=3)
+    if (
+        "does not wait for a lock: it tries, or waits for a time" not in notes
+        and "no schedule leads to the requests" not in notes
+    ):
+        raise Wrong(f"{events}: {notes}")
+
+
 def judge_departs(racebench: str) -> None:
     """A thread that takes another lock than in the recording does not wait, and the run says so."""
     recorded("lock")
@@ -118,3 +144,4 @@ def cases(racebench: str) -> Iterator[recorded_java.Case]:
         yield f"java: no deadlock, {way}", judge_none, (racebench, way)
     yield "java: a deadlock that hangs", judge_hangs, (racebench,)
     yield "java: a deadlock, and the run departs", judge_departs, (racebench,)
+    yield "java: locks that a try took", judge_marks, (racebench,)

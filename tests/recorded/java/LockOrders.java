@@ -1,4 +1,5 @@
 import java.util.concurrent.CountDownLatch;
+import java.util.concurrent.TimeUnit;
 import java.util.concurrent.locks.ReentrantLock;
 import java.util.concurrent.locks.ReentrantReadWriteLock;
 
@@ -100,6 +101,25 @@ public class LockOrders {
         }
     }
 
+    /** A try of a lock waits for nobody, or for a time only. */
+    static void tries() throws InterruptedException {
+        synchronized (a) {
+            if (own.tryLock()) own.unlock(); // TRIES
+            if (table.writeLock().tryLock(1, TimeUnit.MILLISECONDS)) table.writeLock().unlock(); // TRIES
+            if (table.readLock().tryLock()) table.readLock().unlock(); // TRIES
+        }
+    }
+
+    static void waitsFor() {
+        own.lock();
+        table.writeLock().lock();
+        synchronized (a) {
+            shared++;
+        }
+        table.writeLock().unlock();
+        own.unlock();
+    }
+
     static void after(CountDownLatch latch) throws InterruptedException {
         latch.await();
         nested(b, a);
@@ -119,6 +139,7 @@ public class LockOrders {
             case "gate": first = () -> gated(a, b); second = () -> gated(b, a); break;
             case "ordered": first = () -> before(isFirstDone); second = () -> after(isFirstDone); break;
             case "same": second = first; break;
+            case "tries": first = LockOrders::tries; second = LockOrders::waitsFor; break;
             default:
         }
         Thread one = started(first), two = started(second);

@@ -13,6 +13,8 @@ final class Clock {
     private static final long LONG = 1;
     private static final int SIZE = 56;
     private static final int MOST_THREADS = 1 << 16;
+    /** What a record of a lock has if its call waits for nobody, or not for ever. */
+    private static final int BY_TRY = 2;
 
     private final OutputStream records, events;
     private final ByteBuffer record = ByteBuffer.allocate(SIZE).order(ByteOrder.LITTLE_ENDIAN);
@@ -40,7 +42,7 @@ final class Clock {
         if (!Kinds.isTick(r.kind)) return;
         if (r.thread >= MOST_THREADS) hasTooMany = true;
         if (r.thread >= ticks.length) ticks = java.util.Arrays.copyOf(ticks, 2 * r.thread);
-        boolean isThread = Variables.isThread(r.kind), isLock = r.kind >= Kinds.ACQUIRE && r.kind <= Kinds.WRITER_OUT;
+        boolean isThread = Variables.isThread(r.kind), isLock = Variables.isLock(r.kind);
         last = words;
         words += SIZE / 8;
         record.clear();
@@ -55,7 +57,9 @@ final class Clock {
         record.putShort((short) r.thread);
         record.put((byte) Follow.format(r.kind));
         record.put((byte) 1);
-        record.putInt(0);
+        record.put((byte) (isLock && r.part == Kinds.TRY ? BY_TRY : 0));
+        record.put((byte) 0);
+        record.putShort((short) 0);
         records.write(record.array());
     }
 

@@ -19,8 +19,8 @@ final class Kinds {
     static final int WANTED = 20;
 
     /** Parts of an object that are no field and no element. A lock that a thread has again is LATE if the time of its
-     * wait was over. */
-    static final int WHOLE = -1, LOCK = -2, ORDER = -3, LATE = -4;
+     * wait was over. A TRY took it without a wait, or would have waited for a time only. */
+    static final int WHOLE = -1, LOCK = -2, ORDER = -3, LATE = -4, TRY = -5;
 
     /** Whether a record is a tick of its thread's clock. The others depend on what other threads did. */
     static boolean isTick(int kind) { return kind <= JOIN; }

@@ -11,7 +11,10 @@ import java.util.concurrent.locks.ReentrantReadWriteLock;
 final class Locking {
     private Locking() { }
 
-    static void acquire(Turns.T t, Things.Thing m, int kind, int site) {
+    static void acquire(Turns.T t, Things.Thing m, int kind, int site) { acquire(t, m, kind, Kinds.LOCK, site); }
+
+    /** The same; `part` is LOCK, or TRY. */
+    static void acquire(Turns.T t, Things.Thing m, int kind, int part, int site) {
         if (m.owner == t) {
             m.count++;
             return;
@@ -23,7 +26,7 @@ final class Locking {
         }
         m.owner = t;
         m.count = 1;
-        Store.put(t, kind, m.number, Kinds.LOCK, site);
+        Store.put(t, kind, m.number, part, site);
     }
 
     /** A thread is about to wait for a lock. */
@@ -55,9 +58,10 @@ final class Locking {
                 || m.readers.size() == 1 && m.readers.containsKey(t.number);
     }
 
-    static void readerIn(Turns.T t, Things.Thing m, int site) {
+    /** `part` is LOCK, or TRY. */
+    static void readerIn(Turns.T t, Things.Thing m, int part, int site) {
         if (m.readers == null) m.readers = new HashMap<>();
-        if (m.readers.merge(t.number, 1, Integer::sum) == 1) Store.put(t, Kinds.READER_IN, m.number, Kinds.LOCK, site);
+        if (m.readers.merge(t.number, 1, Integer::sum) == 1) Store.put(t, Kinds.READER_IN, m.number, part, site);
     }
 
     static void readerOut(Turns.T t, Things.Thing m, int site) {

@@ -31,6 +31,9 @@ final class Rows {
 
     // ---- locks
 
+    /** Whether a call that took a lock was a try. */
+    private static int partOf(Bridge.Call c) { return c.begins("try") ? Kinds.TRY : Kinds.LOCK; }
+
     private static class Lock extends Row {
         @Override
         boolean before(Bridge.Call c) {
@@ -55,7 +58,7 @@ final class Rows {
                 return;
             }
             if (m.owner != c.t) m.owner = null;
-            Locking.acquire(c.t, m, Kinds.ACQUIRE, c.site);
+            Locking.acquire(c.t, m, Kinds.ACQUIRE, partOf(c), c.site);
         }
     }
 
@@ -86,7 +89,7 @@ final class Rows {
         @Override
         void after(Bridge.Call c, Object result, boolean isTrue) {
             if (!c.begins("lock") && !c.begins("tryLock")) return;
-            if (isTrue) Locking.readerIn(c.t, c.thing(), c.site);
+            if (isTrue) Locking.readerIn(c.t, c.thing(), partOf(c), c.site);
             else c.put(Kinds.TRIED, 1);
         }
     }
@@ -114,7 +117,7 @@ final class Rows {
                 return;
             }
             if (c.thing().owner != c.t) c.thing().owner = null;
-            Locking.acquire(c.t, c.thing(), Kinds.WRITER_IN, c.site);
+            Locking.acquire(c.t, c.thing(), Kinds.WRITER_IN, partOf(c), c.site);
         }
     }
 
@@ -150,10 +153,10 @@ final class Rows {
 
         private static void comes(Bridge.Call c, boolean hasIt, int kind) {
             if (!hasIt) c.put(Kinds.TRIED, kind == Kinds.READER_IN ? 1 : 0);
-            else if (kind == Kinds.READER_IN) Locking.readerIn(c.t, c.thing(), c.site);
+            else if (kind == Kinds.READER_IN) Locking.readerIn(c.t, c.thing(), partOf(c), c.site);
             else {
                 c.thing().owner = null;
-                Locking.acquire(c.t, c.thing(), kind, c.site);
+                Locking.acquire(c.t, c.thing(), kind, partOf(c), c.site);
             }
         }
     }

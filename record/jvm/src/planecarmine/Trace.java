@@ -137,7 +137,9 @@ final class Trace {
 
     private void line(Raw.Record r, String word, String name) throws IOException {
         events++;
-        String text = "T" + r.thread + "|" + word + "(" + name + ")|" + naming.location(r.site, r.node) + "\n";
+        String location = naming.location(r.site, r.node);
+        if (r.part == Kinds.TRY && Variables.isLock(r.kind)) location = byTry(location);
+        String text = "T" + r.thread + "|" + word + "(" + name + ")|" + location + "\n";
         if (begun) {
             if (written >= most || isThreadTooMany(r, word)) leftOut++;
             else {
@@ -150,6 +152,11 @@ final class Trace {
         String key = r.thread + " " + name;
         if (word.equals("acq")) held.put(key, text);
         else if (word.equals("rel")) held.remove(key);
+    }
+
+    /** A location with the mark of a try, or of a call that waits for a time. */
+    private static String byTry(String location) {
+        return location.contains(" < ") ? location.replaceFirst(" < ", " < try in ") : location + " < try";
     }
 
     private void write(String text) throws IOException {

@@ -38,6 +38,7 @@ final class Variables {
     }
 
     static boolean isAccess(int kind) { return kind >= Kinds.READ && kind <= Kinds.ATOMIC_UPDATE; }
+    static boolean isLock(int kind) { return kind >= Kinds.ACQUIRE && kind <= Kinds.WRITER_OUT; }
     static boolean isThread(int kind) { return kind == Kinds.FORK || kind == Kinds.JOIN; }
     private static boolean isNew(int kind) { return kind == Kinds.ALLOCATED || kind == Kinds.MET; }
 
