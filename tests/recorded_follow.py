@@ -460,10 +460,10 @@ def judge_busy(racebench: str) -> None:
     pair, witness = witness_of(racebench, "program")
     follow = [FOLLOW[0], "--patience", "60000", "--timeout", LONGEST, "program.clock", *pair, "./program"]
     with busy_processor():
-        for arguments, end in (([], "the program ended with status 7"), (["waits"], "the program hangs")):
-            _, errors = ran([*follow, *arguments], text=witness)
+        for argument, end in (("", "the program ended with status 7"), ("waits", "the program hangs")):
+            _, errors = ran([*follow, *argument.split()], text=witness)
             if errors.splitlines()[-1] != f"record/follow: {end}":
-                raise Wrong(f"{arguments} on a busy processor: {errors}")
+                raise Wrong(f"{argument} on a busy processor: {errors}")
 
 
 def judge_recorded_order(racebench: str) -> None:
