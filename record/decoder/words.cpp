@@ -7,7 +7,7 @@ namespace trace {
 
 // How many bytes the part at a place has; 1 if no part begins there, as that of a lock.
 u64 Trace::size_at(objects::Thing thing, u64 place) {
-    const parts::Cuts &ends = cuts[cuts_of[thing]];
+    const parts::Cuts &ends = cuts[cuts_of.of(thing)];
     size_t part = ends.between(place, place).first;
     return part + 1 < ends.size() && ends.at(part) == place ? ends.at(part + 1) - place : 1;
 }
