@@ -31,4 +31,5 @@
 #include "finding.cpp"
 #include "words.cpp"
 #include "writing.cpp"
+#include "stretches.cpp"
 #include "main.cpp"

@@ -116,9 +116,8 @@ void Trace::see_user(u64 number, const record &one) {
 
 // What begins, and what is done to locks and their like.
 void Trace::see_border(u64 number, const record &one) {
-    bool begins = one.kind == ALLOCATED || one.kind == STACK || one.kind == FRAME || one.kind == RESIZED;
     bool is_made = one.kind == WRITE && one.order == MADE;
-    if (begins) resolve(things, one);
+    if (is_beginning(one)) resolve(things, one);
     if (!is_made && !is_synchronization(one.kind)) return;
     objects::Where of = one.of ? objects::Where{things.named(one.of, one.at), 0} : things.at(one.at);
     lock_of({of.thing, of.place}).see(one);

@@ -25,6 +25,12 @@ public:
     // The name of `size` bytes at a place. It is that of the first call for this place.
     const std::string &of(objects::Thing thing, u64 place, u64 size);
 
+    // The name of a place; nothing if it has none yet.
+    const std::string *given(const Key &key) const {
+        auto found = known.find(key);
+        return found == known.end() ? nullptr : &found->second;
+    }
+
 private:
     std::string apart(const std::string &name, const Key &key);
     objects::Objects &things;

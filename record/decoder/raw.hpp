@@ -1,5 +1,6 @@
 // The raw file of a run, mapped: what runtime/format.h says.
 #pragma once
+#include <algorithm>
 #include <cstddef>
 #include <memory>
 #include <stdexcept>
@@ -46,6 +47,9 @@ struct Start {
     std::vector<std::pair<u32, record>> forms;
 };
 
+// Whether it is a read or write of memory that is no atomic one, as nearly all records are.
+inline bool is_plain(const record &one) { return !one.of && (one.kind == READ || one.kind == WRITE); }
+
 // Goes over the records that happened, in their order: all, or those of a piece.
 class Records {
 public:
@@ -57,6 +61,12 @@ public:
     Start start() const;
     // Whether there is one more record; `one` and `number` are of it then.
     bool next() { return has_form() || next_other(); }
+    // The same without plain accesses, which are passed by.
+    bool next_other_than_plain() {
+        for (pass_plain(); next(); pass_plain())
+            if (!is_plain(*now)) return true;
+        return false;
+    }
     const record &one() const { return *now; }
     // Its number rises from record to record: it is the one of its first word.
     u64 number() const { return reader->place; }
@@ -80,6 +90,18 @@ private:
         return true;
     }
     bool next_other();
+    // Passes plain accesses of slots' forms.
+    void pass_plain() {
+        struct reader &all = *reader;
+        u64 end = std::min(stop, passed + AT_ONCE), from = all.next;
+        while (all.next < end) {
+            const record &form = all.form[all.words[all.next] % SLOTS];
+            if (!form.done || !is_plain(form)) break;
+            all.next++;
+        }
+        all.tick += all.next - from;
+        if (all.next > from) all.place = all.next - 1;
+    }
     const File &file;
     std::unique_ptr<struct reader, void (*)(void *)> reader;
     const record *now = nullptr;

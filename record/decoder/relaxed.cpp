@@ -65,25 +65,26 @@ void Relaxed::see_atomic(u64 number, const record &one, size_t part) {
 }
 
 // What can meet the atomic accesses of a part: no plain access of a pure one.
-const Relaxed::Part &Relaxed::judged(const forks::Forks &forks, size_t part) {
-    Part &seen = parts[part];
-    if (seen.known) return seen;
+void Relaxed::judge_part(const forks::Forks &forks, Part &seen) {
     auto meets = [&](const forks::Step &step) {
         auto is_ordered = [&](auto &thread) { return forks.order(step, thread.first, thread.second); };
         return !std::all_of(seen.atomic.begin(), seen.atomic.end(), is_ordered);
     };
-    seen.known = true;
     seen.pure = seen.plain.size() <= MOST_PLAIN && std::none_of(seen.plain.begin(), seen.plain.end(), meets);
     seen.meets_free = std::any_of(seen.freed.begin(), seen.freed.end(), meets);
-    return seen;
 }
 
-Form Relaxed::form_of(const forks::Forks &forks, u64 number, const record &one, const std::vector<size_t> &of) {
+void Relaxed::judge(const forks::Forks &forks) {
+    for (auto &part : parts)
+        if (!part.second.atomic.empty()) judge_part(forks, part.second);
+}
+
+Form Relaxed::form_of(u64 number, const record &one, const std::vector<size_t> &of, Stronger &stronger) const {
     bool is_relaxed = one.order == RELAXED || orders.sees_relaxed(number), writes_alone = orders.is_write_alone(number);
     bool is_ordered = number < ordered.size() && ordered[number], pure = true, meets_free = false;
     if ((is_relaxed && !is_ordered) || writes_alone) {
         for (size_t part : of) {
-            const Part &seen = judged(forks, part);
+            const Part &seen = parts.at(part);
             pure = pure && seen.pure, meets_free = meets_free || seen.meets_free;
         }
         if (pure && writes_alone) return WRITES;
@@ -91,8 +92,8 @@ Form Relaxed::form_of(const forks::Forks &forks, u64 number, const record &one, 
     }
     bool one_way = one.kind == ATOMIC_UPDATE && one.order >= CONSUME && one.order <= RELEASES;
     if ((one.order == RELAXED && !is_ordered) || one_way) {
-        stronger++;
-        stronger_at.emplace(one.pc, one.stack);
+        stronger.count++;
+        stronger.places.emplace(one.pc, one.stack);
     }
     return WHOLE;
 }

@@ -25,6 +25,18 @@ enum Form { NOTHING, READS, WRITES, WHOLE };
 // A variable of more plain accesses than this is written with order.
 constexpr size_t MOST_PLAIN = 64;
 
+// The accesses that are written with more order than they have: how many, and of each place of code the calls of the
+// first one.
+struct Stronger {
+    u64 count = 0;
+    std::map<u64, u32> places;
+    // Adds those of later records.
+    void join(const Stronger &later) {
+        count += later.count;
+        places.insert(later.places.begin(), later.places.end());
+    }
+};
+
 class Relaxed {
 public:
     // Each record that happened, in their order.
@@ -35,11 +47,11 @@ public:
     // Each lock that is taken or let go, and each atomic access of a part, in their order.
     void see_lock(u16 thread, const Held &lock, bool takes);
     void see_atomic(u64 number, const record &one, size_t part);
-    // How an atomic access of these parts is written. If it is written with more order than it has, it is counted, and
-    // its place is kept: the code, and the calls of one such access.
-    Form form_of(const forks::Forks &forks, u64 number, const record &one, const std::vector<size_t> &of);
-    u64 stronger = 0;
-    std::map<u64, u32> stronger_at;
+    // Judges what was seen of each part.
+    void judge(const forks::Forks &forks);
+    // How an atomic access of these parts is written, once the parts are judged. If it is written with more order than it
+    // has, it is counted.
+    Form form_of(u64 number, const record &one, const std::vector<size_t> &of, Stronger &stronger) const;
     releases::Releases orders;
 
 private:
@@ -54,13 +66,13 @@ private:
     struct Part {
         std::vector<forks::Step> plain, freed;
         std::map<u16, forks::Ends> atomic;
-        bool known = false, pure = false, meets_free = false, any_write = false;
+        bool pure = false, meets_free = false, any_write = false;
         u16 writer = 0;
         Locked write;
         std::map<u16, Locked> reads;
     };
     void order(const Locked &first, const Locked &second);
-    const Part &judged(const forks::Forks &forks, size_t part);
+    static void judge_part(const forks::Forks &forks, Part &seen);
     bool there = false;
     std::unordered_map<size_t, Part> parts;
     std::unordered_map<u16, Locks> held;

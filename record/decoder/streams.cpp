@@ -28,11 +28,11 @@ void Stream::see(const record &one) {
     }
 }
 
-u64 Stream::next_send() { return needed[sends++] ? sends : 0; }
+u64 Stream::next_send(Place &place) const { return needed[place.sends++] ? place.sends : 0; }
 
-u64 Stream::next_receive(const record &one) {
-    u64 send = send_before(one, taken, sends);
-    if (one.kind == PASS) taken += one.answer;
+u64 Stream::next_receive(const record &one, Place &place) const {
+    u64 send = send_before(one, place.taken, place.sends);
+    if (one.kind == PASS) place.taken += one.answer;
     return send;
 }
 

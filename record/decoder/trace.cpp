@@ -13,6 +13,10 @@ bool is_write(const record &one) { return one.kind != READ && one.kind != ATOMIC
 
 bool is_end(const record &one) { return one.kind == FREED && one.order == OF_FRAME; }
 
+bool is_beginning(const record &one) {
+    return one.kind == ALLOCATED || one.kind == STACK || one.kind == FRAME || one.kind == RESIZED;
+}
+
 bool is_synchronization(int kind) {
     return kind == ACQUIRE || kind == RELEASE || kind == PASS || kind == WRITER || kind == TRIED || kind == READER_IN ||
         kind == READER_OUT || kind == ARRIVED || kind == WENT_ON;
@@ -39,6 +43,8 @@ Trace::Trace(const raw::File &file, const Options &options)
         if (kept[part].shared() || (kept[part].ordered && are_named)) written_pages.add(page_of[part]);
     page_of = {};
     if (relaxed.wants_parts()) find_relaxed();
+    relaxed.judge(forks);
+    part_names = std::vector<std::atomic<const std::string *>>(kept.size());
     for (auto &lock : locks) {
         counts.no_sections += lock.second.uneven && !lock.second.passes;
         counts.by_library += lock.second.by_library;
@@ -167,13 +173,10 @@ void Trace::choose() {
 }
 
 const std::string &Trace::location(const record &one) {
-    bool ends = is_end(one), frees = one.kind == FREED, tries = is_try(one);
-    auto &known = ends ? end_locations : frees ? free_locations : tries ? try_locations : locations;
-    auto found = known.find({one.pc, one.stack});
-    if (found != known.end()) return found->second;
-    const char *inside = ends ? "return" : frees ? "free" : tries ? "try" : "";
-    std::string whole = modules.location(one.pc, one.stack, options.frames, inside);
-    return known[{one.pc, one.stack}] = whole;
+    std::string &known = locations.of(one);
+    if (!known.empty()) return known;
+    const char *inside = is_end(one) ? "return" : one.kind == FREED ? "free" : is_try(one) ? "try" : "";
+    return known = modules.location(one.pc, one.stack, options.frames, inside);
 }
 
 }

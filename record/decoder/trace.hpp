@@ -1,6 +1,7 @@
 // The records of one run, and what is printed. They go by several times, so memory grows with the variables
 // and not with the records.
 #pragma once
+#include <atomic>
 #include <cstdio>
 #include <map>
 #include <optional>
@@ -89,7 +90,7 @@ struct Counted {
 struct LockSeen {
     u16 holder = 0;
     int64_t times = 0;
-    bool uneven = false, tried = false, passes = false, is_lock = false, is_written = false;
+    bool uneven = false, tried = false, passes = false, is_lock = false;
     // Whether a library without hooks takes it: what its sections access is not known.
     bool by_library = false;
     std::set<u16> readers;
@@ -128,8 +129,7 @@ struct Line {
     u16 thread;
 };
 
-// Whether it is a read or write of memory that is no atomic one, as nearly all records are.
-inline bool is_plain(const record &one) { return !one.of && (one.kind == READ || one.kind == WRITE); }
+using raw::is_plain;
 bool is_access(const record &one);
 bool is_atomic(int kind);
 bool is_synchronization(int kind);
@@ -138,6 +138,21 @@ bool is_write(const record &one);
 bool is_end(const record &one);
 // Whether a record uses a lock, semaphore or barrier that may be destroyed.
 bool is_use(const record &one);
+
+// Whether a thing begins, or has another size from now on.
+bool is_beginning(const record &one);
+
+// What is kept for each location: those of frees, of ends of frames, of locks by a try, and of all other records.
+template <class T> class Locations {
+public:
+    T &of(const record &one) {
+        places::Key key{one.pc, one.stack};
+        return is_end(one) ? ends[key] : one.kind == FREED ? frees[key] : is_try(one) ? tries[key] : others[key];
+    }
+
+private:
+    std::unordered_map<places::Key, T, places::KeyHash> frees, ends, tries, others;
+};
 
 // The number of what is no memory, with its kind.
 inline u64 key_of(const record &one) { return static_cast<u64>(one.of) << 56 ^ one.at; }
@@ -161,6 +176,10 @@ private:
     class Comers;
     class Cutter;
     class Parted;
+    class Words;
+    class Maker;
+    struct Stretch;
+    struct Stretches;
     template <class Do> void each(Do what);
     // A record, its number and what it is of. If that is cut, `cuts` is the number of its cuts, and the parts are those
     // from `from` on and before `end`.
@@ -213,7 +232,6 @@ private:
     void find_relaxed();
     void leave_out();
     void find_polls();
-    void restart_locks();
     void see_lock(const record &one, const Resolved &of);
     parts::Span span_of(const Resolved &of) { return span_in(spans, of, cuts[cuts_of.of(of.thing)]); }
     // The parts of an access, of a thing with these cuts. A call would take longer than what it does.
@@ -224,40 +242,34 @@ private:
     }
     const parts::Span &searched_span(parts::Spans &spans, const Resolved &of, const parts::Cuts &ends) const;
     bool is_chosen(const record &one);
-    void find_operations(const Found &found);
-    void find_accesses(const Found &found);
-    void add_atomic(const record &one, const parts::Cuts &ends, relaxed::Form form, const Resolved &of);
-    void add_acquired(size_t number);
-    void add_released(size_t number);
-    void add_use(const Resolved &of);
-    void add_counted(const record &one, const Resolved &of, LockSeen &known);
-    void add_message(const record &one, const Resolved &of, streams::Stream &stream);
-    void find_synchronization(const record &one, const Resolved &of);
-    void add_states(const Resolved &of, const std::vector<int> &threads, const char *word);
-    void add_section(const Resolved &of, bool takes, bool tried, const std::vector<int> &threads);
-    void add_meeting(const Resolved &of, u64 meeting, bool comes);
     std::string name_of(const Operation &operation);
     u64 size_at(objects::Thing thing, u64 place);
     const std::string &location(const record &one);
     void add_name(std::string &to, const Operation &operation);
+    static std::string whole_name(const Operation &operation, const std::string &name);
+    static void add_head(std::string &to, const record &one, const Operation &operation);
+    static void add_end(std::string &to, const std::string &location);
     void add_text(std::string &to, const record &one, const Operation &operation);
-    std::string text_of(const record &one, const Operation &operation);
-    Line line_of(const record &one, size_t number, const Operation &operation);
+    Line held_line(const record &one, size_t number, const Operation &operation);
     // An operation of a record, and the number of that.
     struct Event {
         u64 number;
         record one;
         Operation operation;
     };
+    const std::string &line_of(const Event &event);
     void write_event(const Event &event);
-    template <class Write> void find_events(const record &one, u64 number, Write write);
+    template <class Write> void find_events(const Found &found, const Operations &operations, Write write);
     template <class Write> void each_event(Write write);
+    bool is_all_written() const;
     void write_events();
+    void write_stretch(Stretch &one, std::mutex &naming);
+    void write_stretches();
     void pass_by(const record &one, size_t number, const Operation &operation);
     void open();
     void write_text(const std::string &text, u64 number);
     bool fits(u16 thread, u64 other);
-    void put(const std::string &text);
+    void put(const char *text, size_t size);
     void flush();
     void see_deadlock(const record &one, const Resolved &of);
 
@@ -283,22 +295,19 @@ private:
     pieces::Pieces pieces;
     // Where each thread was at its last record before each piece.
     std::vector<std::vector<places::Key>> last_places;
-    // Locations of frees, of ends of frames, of locks by a try, and of all other records.
-    std::unordered_map<places::Key, std::string, places::KeyHash> free_locations, end_locations, try_locations,
-        locations;
+    Locations<std::string> locations;
     std::unordered_map<places::Key, bool, places::KeyHash> chosen_places;
     // The threads of the events that are written, and whether there is a second thread in the recording.
     std::unordered_set<u64> threads;
     u64 last_fitting = NO_LIMIT;
     lines::Lines known_lines;
-    std::vector<const std::string *> part_names;
+    // The names that parts have so far. One thread gives them, and others read them.
+    std::vector<std::atomic<const std::string *>> part_names;
     bool has_threads = false, has_uses = false;
-    Operations operations;
-    std::vector<size_t> written_parts;
-    std::vector<int> section_threads;
     forks::Forks forks;
     lives::Lives lives;
     relaxed::Relaxed relaxed;
+    relaxed::Stronger stronger;
     deadlocks::Holders holders;
     // The last records of a run that ended in a deadlock, each with what it waits for.
     std::vector<std::pair<record, Resolved>> requests;
@@ -317,7 +326,7 @@ private:
     FILE *out = nullptr, *numbers = nullptr;
     // Text that is not yet written, and how much is written at once.
     static constexpr size_t AT_ONCE = 1 << 18;
-    std::string written;
+    std::string written, line;
 };
 
 // All that happened goes by once more, each record with what it is of.

@@ -1,5 +1,5 @@
 // Which events of the trace are written, and how.
-#include "trace.hpp"
+#include "words.hpp"
 #include "text.hpp"
 #include <algorithm>
 #include <charconv>
@@ -24,13 +24,16 @@ void Trace::add_name(std::string &to, const Operation &operation) {
         to += text::fitting(name_of(operation));
         return;
     }
-    if (part_names.empty()) part_names.resize(kept.size());
-    const std::string *&known = part_names[operation.part];
-    if (!known) known = &names.of(operation.thing, operation.place, size_at(operation.thing, operation.place));
+    const std::string *known = part_names[operation.part].load(std::memory_order_relaxed);
+    if (!known) {
+        known = &names.of(operation.thing, operation.place, size_at(operation.thing, operation.place));
+        part_names[operation.part].store(known, std::memory_order_release);
+    }
     to += *known;
 }
 
-void Trace::add_text(std::string &to, const record &one, const Operation &operation) {
+// What comes before the name in a line, and what comes after it.
+void Trace::add_head(std::string &to, const record &one, const Operation &operation) {
     char thread[16];
     auto end = std::to_chars(thread, thread + sizeof thread, one.thread).ptr;
     to += 'T';
@@ -38,42 +41,46 @@ void Trace::add_text(std::string &to, const record &one, const Operation &operat
     to += '|';
     to += operation.word;
     to += '(';
-    add_name(to, operation);
+}
+
+void Trace::add_end(std::string &to, const std::string &location) {
     to += ")|";
-    to += location(one);
+    to += location;
     to += '\n';
 }
 
-std::string Trace::text_of(const record &one, const Operation &operation) {
-    std::string text;
-    add_text(text, one, operation);
-    return text;
+void Trace::add_text(std::string &to, const record &one, const Operation &operation) {
+    add_head(to, one, operation);
+    add_name(to, operation);
+    add_end(to, location(one));
 }
 
-Line Trace::line_of(const record &one, size_t number, const Operation &operation) {
+Line Trace::held_line(const record &one, size_t number, const Operation &operation) {
     u64 other = one.kind == FORK || one.kind == JOIN ? one.at : one.thread;
-    return {text_of(one, operation), counts.before, number, other, one.thread};
+    std::string text;
+    add_text(text, one, operation);
+    return {text, counts.before, number, other, one.thread};
 }
 
 void Trace::write_text(const std::string &text, u64 number) {
-    put(text);
+    put(text.data(), text.size());
     if (numbers) fwrite_unlocked(&number, sizeof number, 1, numbers);
 }
 
-void Trace::write_event(const Event &event) {
-    const record &one = event.one;
-    const Operation &operation = event.operation;
-    u64 number = event.number;
-    if (operation.meeting || is_try(one)) return write_text(text_of(one, operation), number);
-    std::string &text = known_lines.text_of(one, operation);
-    if (text.empty()) add_text(text, one, operation);
-    write_text(text, number);
+const std::string &Trace::line_of(const Event &event) {
+    bool comes_again = !event.operation.meeting && !is_try(event.one);
+    line.clear();
+    std::string &text = comes_again ? known_lines.text_of(event.one, event.operation) : line;
+    if (text.empty()) add_text(text, event.one, event.operation);
+    return text;
 }
+
+void Trace::write_event(const Event &event) { write_text(line_of(event), event.number); }
 
 // An event that is not written, since it comes before the first one that is.
 void Trace::pass_by(const record &one, size_t number, const Operation &operation) {
     if (!strcmp(operation.word, "acq")) {
-        held[{one.thread, name_of(operation)}].push_back(line_of(one, number, operation));
+        held[{one.thread, name_of(operation)}].push_back(held_line(one, number, operation));
     } else if (!strcmp(operation.word, "rel")) {
         auto lock = held.find({one.thread, name_of(operation)});
         if (lock != held.end() && !lock->second.empty()) lock->second.pop_back();
@@ -95,7 +102,9 @@ void Trace::open() {
 }
 
 // `write` gets the events that are written.
-template <class Write> void Trace::find_events(const record &one, u64 number, Write write) {
+template <class Write> void Trace::find_events(const Found &found, const Operations &operations, Write write) {
+    const record &one = found.one;
+    u64 number = found.number;
     u64 other = one.kind == FORK || one.kind == JOIN ? one.at : one.thread;
     if (!is_open && !operations.empty() && counts.before >= options.first) open();
     for (const Operation &operation : operations) {
@@ -105,37 +114,33 @@ template <class Write> void Trace::find_events(const record &one, u64 number, Wr
     }
 }
 
-void Trace::restart_locks() {
-    for (auto &lock : locks) {
-        lock.second.counted.posts = lock.second.counted.waits = 0;
-        lock.second.is_written = false;
-        lock.second.stream.restart();
-    }
-}
-
 // Finds the looks of loops that poll before anything is written.
 void Trace::find_polls() {
     if (!polls.is_wanted()) return;
-    restart_locks();
-    each_written([this](const Found &found) {
-        find_operations(found);
-        polls.see_event(found.number, found.one, operations);
-    });
-    relaxed.stronger = 0;
+    Words words(*this);
+    each_written([this, &words](const Found &found) { polls.see_event(found.number, found.one, words.of(found)); });
 }
 
 template <class Write> void Trace::each_event(Write write) {
-    each_written([this, &write](const Found &found) {
-        find_operations(found);
+    Words words(*this, ordered ? &*ordered : nullptr);
+    each_written([this, &write, &words](const Found &found) {
+        const Operations &operations = words.of(found);
         if (polls.is_left_out(found.number)) counts.polls++;
-        else find_events(found.one, found.number, write);
+        else find_events(found, operations, write);
         if (file.top().deadlock) see_deadlock(found.one, found.of);
     });
+    stronger = std::move(words.stronger);
 }
 
-// If there are several workers, one finds the events while the text of earlier ones is made. With --from both would
-// need names.
+// Whether each event is written, whatever came before it, and nothing else is asked for.
+bool Trace::is_all_written() const {
+    return !options.first && options.most == NO_LIMIT && !ordered && !file.top().deadlock;
+}
+
+// If there are several workers, all make the text. If only some events are written, one finds them while the text of
+// earlier ones is made. With --from both would need names.
 void Trace::write_events() {
+    if (pieces.size() > 1 && is_all_written()) return write_stretches();
     ahead::Ahead<Event> events;
     auto find = [this](auto &to) { this->each_event([&to](const Event &event) { to.put(event); }); };
     auto write = [this](const Event &event) { write_event(event); };
@@ -147,14 +152,14 @@ Counts Trace::write(FILE *to, FILE *to_numbers) {
     out = to;
     numbers = to_numbers;
     written.reserve(AT_ONCE + AT_ONCE / 4);
-    put(losses::BEGIN);
+    put(losses::BEGIN, strlen(losses::BEGIN));
     find_polls();
-    restart_locks();
     if (!options.ordered.empty()) ordered.emplace(kept.size());
     write_events();
-    counts.stronger = relaxed.stronger;
+    counts.stronger = stronger.count;
     counts.threads = threads.size();
-    put(losses().end());
+    std::string last = losses().end();
+    put(last.data(), last.size());
     flush();
     return counts;
 }
@@ -185,7 +190,7 @@ static std::set<std::string> places_of(places::Modules &modules, const std::map<
     return found;
 }
 
-std::set<std::string> Trace::stronger_places() { return places_of(modules, relaxed.stronger_at); }
+std::set<std::string> Trace::stronger_places() { return places_of(modules, stronger.places); }
 
 void Trace::write_ordered() {
     FILE *to = fopen(options.ordered.c_str(), "w");
@@ -195,10 +200,15 @@ void Trace::write_ordered() {
 }
 
 // The text is written when there is much of it.
-void Trace::put(const std::string &text) {
-    counts.bytes += text.size();
-    written += text;
-    if (written.size() >= AT_ONCE) flush();
+void Trace::put(const char *text, size_t size) {
+    counts.bytes += size;
+    if (size < AT_ONCE / 4) {
+        written.append(text, size);
+        if (written.size() >= AT_ONCE) flush();
+        return;
+    }
+    flush();
+    fwrite_unlocked(text, 1, size, out);
 }
 
 void Trace::flush() {
