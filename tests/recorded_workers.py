@@ -5,7 +5,8 @@ numbers of records and the same facts. The records are drawn by chance.
     recorded_workers.py [COUNT [FIRST]]      draws this many recordings (3000), from this seed on (1)
 
 What no other judge sees: a line that a worker makes with the count of a semaphore, the place in a stream, the state of
-a lock or the name of a variable that another worker knows; a stretch of text that is written in parts.
+a lock or the name of a variable that another worker knows; a stretch of text that is written in parts; damaged records
+of locks or channels that several workers take for others than one does.
 """
 
 import os
@@ -14,15 +15,22 @@ import subprocess
 import sys
 import tempfile
 from collections import Counter
+from typing import NamedTuple
 
 if __name__ == "__main__":
     sys.dont_write_bytecode = True
 import names_of_runs
 from judging import Case, Wrong
-from recorded_leaving import ATOMIC, LOCKS, PLAIN, Drawn, raw_file
-from recorded_places import PATIENCE
+from recorded_leaving import ATOMIC, Drawn
+from recorded_places import PATIENCE, RECORD
+
+if sys.path[0] != RECORD:
+    sys.path.insert(0, RECORD)
+import raw as raw_file
 
 FEW, MOST_WORKERS = 40, 9
+# How many bytes of a damaged recording are other ones, at most.
+MOST_DAMAGE = 12
 # What is drawn beside what Drawn has: semaphores, reader-writer locks, channels.
 SEMAPHORES, SHARED, CHANNELS = [0x10003000, 0x10003040], [0x10004000, 0x10004040], [1, 2]
 ORDERS, BY_TRY, MODULE_AT = range(6), 2, 0x400000
@@ -115,26 +123,33 @@ class Busy(Drawn):
             self.put(self.chance.randint(1, 2), "READ", block, size)
 
 
-def decoded(decoder: str, workers: int, *options: str) -> tuple[bytes, bytes, bytes]:
-    """The trace of drawn.raw by so many workers, the numbers of its records, and the facts."""
+class Decoded(NamedTuple):
+    """What the decoder writes of drawn.raw: the trace, the numbers of its records, and the facts."""
+
+    status: int
+    trace: bytes
+    numbers: bytes
+    facts: bytes
+
+
+def decoded(decoder: str, workers: int, *options: str) -> Decoded:
     command = [decoder, *options, "--workers", str(workers), "--numbers", "numbers", "drawn.raw"]
     done = subprocess.run(command, capture_output=True, timeout=PATIENCE, check=False)
-    if done.returncode:
+    if done.returncode not in (0, 1):
         raise Wrong(f"the decoder ended with status {done.returncode}: {done.stderr.decode(errors='replace')[:600]}")
     with open("numbers", "rb") as file:
-        return done.stdout, file.read(), done.stderr
+        return Decoded(done.returncode, done.stdout, file.read(), done.stderr)
 
 
-def judge_same(decoder: str, what: str, workers: int, *options: str) -> bytes:
-    """Several workers write what one does; the trace."""
-    names = "trace", "numbers", "facts"
+def judge_same(decoder: str, what: str, workers: int, *options: str) -> Decoded:
+    """Several workers write what one does."""
     one, several = decoded(decoder, 1, *options), decoded(decoder, workers, *options)
-    for name, mine, other in zip(names, one, several):
+    for name, mine, other in zip(one._fields, one, several):
         if mine != other:
-            raise Wrong(f"{what}: {workers} workers with {options} do not write the {name} of one")
-    if len(one[1]) != 8 * (one[0].count(b"\n") - 2):
+            raise Wrong(f"{what}: the {name} of {workers} workers with {options} is not that of one")
+    if not one.status and len(one.numbers) != 8 * (one.trace.count(b"\n") - 2):
         raise Wrong(f"{what}: there are not as many numbers as events")
-    return one[0]
+    return one
 
 
 def judge_drawn(decoder: str, count: int = FEW, first: int = 1) -> Counter[str]:
@@ -144,11 +159,41 @@ def judge_drawn(decoder: str, count: int = FEW, first: int = 1) -> Counter[str]:
         drawn = Busy(seed)
         drawn.write("drawn.raw", drawn.chance.choice([60, 200, 600]))
         options = [word for word in ("--all", "--raw-names", "--no-free") if drawn.chance.random() < 0.3]
-        trace = judge_same(decoder, f"seed {seed}", drawn.chance.randint(2, MOST_WORKERS), *options)
-        met.update(name for name, form in WANTED.items() if form in trace)
+        found = judge_same(decoder, f"seed {seed}", drawn.chance.randint(2, MOST_WORKERS), *options)
+        if found.status:
+            raise Wrong(f"seed {seed} is refused: {found.facts.decode(errors='replace')[:600]}")
+        met.update(name for name, form in WANTED.items() if form in found.trace)
     if set(met) != set(WANTED):
         raise Wrong(f"of {count} traces none has {set(WANTED) - set(met)}")
     return met
+
+
+def damage(chance: random.Random) -> None:
+    """Changes some bytes of the records of drawn.raw."""
+    with open("drawn.raw", "r+b") as file:
+        size = file.seek(0, os.SEEK_END)
+        for _ in range(chance.randint(1, MOST_DAMAGE)):
+            file.seek(chance.randrange(raw_file.HEAD_SIZE + raw_file.NODE.size, size))
+            file.write(bytes([chance.choice([0, 1, 2, chance.randrange(256)])]))
+
+
+def judge_damaged(decoder: str, count: int = FEW, first: int = 1) -> None:
+    """Damaged recordings: several workers write what one does, or say what it says. Some are decoded, some refused."""
+    refused = 0
+    for seed in range(first, first + count):
+        drawn = Busy(seed)
+        drawn.write("drawn.raw", drawn.chance.choice([60, 200]))
+        damage(drawn.chance)
+        found = judge_same(decoder, f"damaged, seed {seed}", drawn.chance.randint(2, MOST_WORKERS))
+        if found.status and b"of the records is damaged" not in found.facts:
+            raise Wrong(f"damaged, seed {seed}: {found.facts.decode(errors='replace')[:600]}")
+        refused += found.status
+    if not 0 < refused < count:
+        raise Wrong(f"of {count} damaged recordings {refused} are refused")
+
+
+def judge_damages() -> None:
+    judge_damaged(names_of_runs.decoder())
 
 
 def judge_draws() -> None:
@@ -160,13 +205,14 @@ def judge_wide() -> None:
     drawn = Busy(1)
     drawn.wide(WIDE, TIMES)
     drawn.write("drawn.raw", 0)
-    trace = judge_same(names_of_runs.decoder(), "wide accesses", 2)
-    if len(trace) < LEAST_TEXT:
-        raise Wrong(f"the trace has only {len(trace)} bytes")
+    found = judge_same(names_of_runs.decoder(), "wide accesses", 2)
+    if found.status or len(found.trace) < LEAST_TEXT:
+        raise Wrong(f"the trace has only {len(found.trace)} bytes")
 
 
 def cases() -> list[Case]:
-    return [("text by several workers, drawn", judge_draws, ()), ("text by several workers, wide", judge_wide, ())]
+    judges = ("drawn", judge_draws), ("damaged", judge_damages), ("wide", judge_wide)
+    return [(f"text by several workers, {name}", judge, ()) for name, judge in judges]
 
 
 def main() -> None:
@@ -175,6 +221,7 @@ def main() -> None:
     with tempfile.TemporaryDirectory() as folder:
         os.chdir(folder)
         met = judge_drawn(made, count, first)
+        judge_damaged(made, count, first)
         judge_wide()
         os.chdir("/")
     print(", ".join(f"{kind} {number}" for kind, number in sorted(met.items())))

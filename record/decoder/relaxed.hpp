@@ -49,8 +49,8 @@ public:
     void see_atomic(u64 number, const record &one, size_t part);
     // Judges what was seen of each part.
     void judge(const forks::Forks &forks);
-    // How an atomic access of these parts is written, once the parts are judged. If it is written with more order than it
-    // has, it is counted.
+    // How an atomic access of some parts is written, once all parts are judged. If it gets more order than it has, it is
+    // counted.
     Form form_of(u64 number, const record &one, const std::vector<size_t> &of, Stronger &stronger) const;
     releases::Releases orders;
 

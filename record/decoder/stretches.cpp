@@ -4,7 +4,7 @@
 
 namespace trace {
 
-// A stretch has at most so many words, and each worker makes several of them if the recording is short.
+// The most words of a stretch, and how many stretches each worker makes of a short recording.
 constexpr u64 MOST_WORDS = 1 << 13, EACH = 8;
 // How many stretches wait for their turn, for each worker.
 constexpr size_t WAITING = 3;
@@ -76,31 +76,31 @@ void Trace::Maker::see(const Found &found) {
         left_out++;
         return;
     }
-    for (const Operation &operation : operations) add({found.number, found.one, operation});
+    for (const Operation &operation : operations) add(found, operation);
 }
 
-void Trace::Maker::add(const Event &event) {
-    const record &one = event.one;
+void Trace::Maker::add(const Found &found, const Operation &operation) {
+    const record &one = found.one;
     events++;
     bool has_other = one.kind == FORK || one.kind == JOIN;
     if (has_other) threads.insert(one.at);
     if (one.thread != last_thread) threads.insert(one.thread), last_thread = one.thread;
-    if (trace.numbers) stretch.numbers.push_back(event.number);
+    if (trace.numbers) stretch.numbers.push_back(found.number);
     scratch.clear();
-    bool comes_again = !event.operation.meeting && !is_try(one);
-    std::string &line = comes_again ? known_lines.text_of(one, event.operation) : scratch;
-    if (line.empty() && !add_line(line, event)) {
+    bool comes_again = !operation.meeting && !is_try(one);
+    std::string &line = comes_again ? known_lines.text_of(one, operation) : scratch;
+    if (line.empty() && !add_line(line, one, operation)) {
         line.clear();
-        stretch.gaps.push_back({stretch.text.size(), event});
+        stretch.gaps.push_back({stretch.text.size(), {found.number, one, operation}});
     }
     stretch.text += line;
 }
 
 // False if the name is not known.
-bool Trace::Maker::add_line(std::string &to, const Event &event) {
-    add_head(to, event.one, event.operation);
-    if (!add_name(to, event.operation)) return false;
-    add_end(to, location_of(event.one));
+bool Trace::Maker::add_line(std::string &to, const record &one, const Operation &operation) {
+    add_head(to, one, operation);
+    if (!add_name(to, operation)) return false;
+    add_end(to, location_of(one));
     return true;
 }
 

@@ -44,11 +44,11 @@ private:
     Trace &names_of;
 };
 
-// A worker. It goes over all records, since each stretch begins with what is known of those before.
+// A worker. It goes over all records, since each stretch begins with what is known of the records before.
 class Trace::Maker {
 public:
     explicit Maker(Stretches &all);
-    // Makes stretches until there is none any more.
+    // Makes stretches until the last one has a worker.
     void run();
     // How many events there are, how many looks of loops were left out, and the threads of the events.
     u64 events = 0, left_out = 0;
@@ -58,8 +58,8 @@ private:
     void go_to(u64 word);
     bool make(size_t number);
     void see(const Found &found);
-    void add(const Event &event);
-    bool add_line(std::string &to, const Event &event);
+    void add(const Found &found, const Operation &operation);
+    bool add_line(std::string &to, const record &one, const Operation &operation);
     bool add_name(std::string &to, const Operation &operation);
     const std::string *name_of(const Operation &operation);
     const std::string &location_of(const record &one);

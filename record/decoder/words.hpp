@@ -8,7 +8,7 @@ class Trace::Words {
 public:
     // Accesses that forks and joins order are kept in `ordered`, if it is given.
     explicit Words(const Trace &trace, ordered::Ordered *ordered = nullptr) : trace(trace), ordered(ordered) {}
-    // What a record becomes. It is known until the next one is asked for.
+    // What a record becomes. The next call changes it.
     const Operations &of(const Found &found);
     // A record of a lock goes by, and what it becomes is not wanted.
     void pass_by(const record &one, const Resolved &of);
@@ -16,8 +16,8 @@ public:
     relaxed::Stronger stronger;
 
 private:
-    // What changes of a lock as records go by: the posts and waits of a semaphore, where a stream is, and whether the
-    // last section was a writer's.
+    // What changes of a lock as records go by: the posts and waits of a semaphore, the place in a stream, and whether
+    // the last section was a writer's.
     struct State {
         u64 posts = 0, waits = 0;
         streams::Place place;

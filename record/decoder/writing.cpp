@@ -132,7 +132,7 @@ template <class Write> void Trace::each_event(Write write) {
     stronger = std::move(words.stronger);
 }
 
-// Whether each event is written, whatever came before it, and nothing else is asked for.
+// Whether the trace has all events, and no option needs another result of the walk.
 bool Trace::is_all_written() const {
     return !options.first && options.most == NO_LIMIT && !ordered && !file.top().deadlock;
 }
