@@ -1,7 +1,7 @@
 //! Looks for a contradiction of requests. What is found is judged, so the search is trusted for nothing.
 ghost use Rattle.std.specs.Prelude.{◌<◌, All, IfOk, IfSome, length};
 ghost use Rattle.rapid_text.specs.Appended.{IfFound};
-ghost use Rattle.closed_order.specs.Closed.{AreContradicted};
+ghost use Rattle.closed_order.specs.Steps.{IsContradiction};
 
 use crate::closing::{Ground, close};
 use crate::proving::contradicts;
@@ -23,7 +23,7 @@ pub fn contradiction_of<'a>(
     work: &mut u64,
 ) -> Result<Option<Vec<Step>>, OutOfMemory>
     requires requests { All (λ e. e < length analysis.now.events) requests.now }
-    ensures contradicted { IfFound result (λ steps. AreContradicted analysis.now.events requests.now) }
+    ensures contradiction { IfFound result (λ steps. IsContradiction analysis.now.events requests.now steps.items) }
 {
     let steps = found_steps(alloc, analysis, tables, requests, work)?;
     match steps {
@@ -39,7 +39,7 @@ fn if_contradicting(
     steps: Vec<Step>,
 ) -> Option<Vec<Step>>
     requires requests { All (λ e. e < length analysis.now.events) requests.now }
-    ensures { IfSome result (λ steps. AreContradicted analysis.now.events requests.now) }
+    ensures { IfSome result (λ found. IsContradiction analysis.now.events requests.now found.items) }
 {
     if contradicts(analysis, requests, steps.as_slice()) {
         Some(steps)

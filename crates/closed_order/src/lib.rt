@@ -11,6 +11,7 @@ mod locking;
 mod proving;
 mod reading;
 mod rows;
+mod sharing;
 mod steps;
 mod tables;
 mod telling;
@@ -21,5 +22,6 @@ pub use laws::{
     precedes_is_kept,
 };
 pub use proving::contradicts;
+pub use sharing::{Closing, USUAL_WORK};
 pub use steps::{Rule, Step};
 pub use tables::Tables;

@@ -1,8 +1,7 @@
 //! Whether a derivation shows that requests are contradicted.
 ghost use Rattle.std.specs.Prelude.{◌≡◌, ◌<◌, ◌↔◌, ℕ, All, IsTrue, Option, None, Some, length};
-ghost use Rattle.closed_order.specs.Closed.{AreContradicted};
 ghost use Rattle.closed_order.specs.Known.{IsKnown, IsTrueAfter};
-ghost use Rattle.closed_order.specs.Steps.{AreTrueSteps, IsTrueStep};
+ghost use Rattle.closed_order.specs.Steps.{AreTrueSteps, IsContradiction, IsTrueStep};
 
 use crate::following::{is_base, is_by_must, is_chain};
 use crate::known::Known;
@@ -15,9 +14,13 @@ use must_order::Analysis;
 /// request has to be there, or that an event precedes itself; the step before it then says that this event is there.
 pub fn contradicts<'a>(analysis: &'a Analysis<'a>, requests: &'a [u32], steps: &'a [Step]) -> bool
     requires requests { All (λ e. e < length analysis.now.events) requests.now }
-    ensures contradicted { IsTrue result → AreContradicted analysis.now.events requests.now }
+    // Then each step is true, the last one is a contradiction, and so the requests are contradicted.
+    ensures contradiction { IsTrue result → IsContradiction analysis.now.events requests.now steps.now }
 {
-    all_follow(analysis, requests, steps) && is_conflicting(analysis, requests, steps)
+    if !all_follow(analysis, requests, steps) {
+        return false;
+    }
+    is_conflicting(analysis, requests, steps)
 }
 
 // Whether each step follows from those before it.
@@ -41,7 +44,7 @@ fn all_follow<'a>(analysis: &'a Analysis<'a>, requests: &'a [u32], steps: &'a [S
 // Whether the last steps contradict the requests.
 fn is_conflicting(_analysis: &Analysis, requests: &[u32], steps: &[Step]) -> bool
     requires steps { AreTrueSteps _analysis.now.events requests.now steps.now }
-    ensures { IsTrue result → AreContradicted _analysis.now.events requests.now }
+    ensures { IsTrue result → IsContradiction _analysis.now.events requests.now steps.now }
 {
     let Some((last, earlier)) = steps.split_last() else {
         return false;

@@ -5,9 +5,10 @@ ghost use Rattle.deadlock_triage.specs.Requests.{IsPair};
 ghost use Rattle.lock_waits.specs.Required.{AreRefuted};
 ghost use Rattle.lock_waits.specs.Waits.{ShowsDeadlock};
 
-use crate::closing::Closing;
+use crate::closing::are_contradicted;
 use crate::requests::is_request;
 use crate::searching::schedule_of;
+use closed_order::{Closing, USUAL_WORK};
 use lock_waits::{are_refuted, is_cycle, refuted_is_never_shown};
 use must_order::Analysis;
 use rapid_text::OutOfMemory;
@@ -74,7 +75,8 @@ fn closed(
     requires open { AreOpen analysis.now.events first second }
     ensures { IfOk result (IsFinding analysis.now first second) }
 {
-    if Closing::new().are_contradicted(alloc, analysis, first, second)? {
+    let mut closing = Closing::new(USUAL_WORK);
+    if are_contradicted(&mut closing, alloc, analysis, first, second)? {
         return Ok(Finding::Apart);
     }
     Ok(Finding::Undecided)

@@ -3,13 +3,14 @@ ghost use Rattle.std.specs.Prelude.{◌≡◌, ◌+◌, ◌<◌, IfOk, OnOk, Som
 ghost use Rattle.deadlock_triage.specs.Rows.{AreRowsOf, IsJudge, IsNext, IsRowAt, first_outcome};
 ghost use Rattle.deadlock_triage.specs.Verdicts.{IsJudged, IsVerdict};
 
-use crate::closing::Closing;
+use crate::closing::are_contradicted;
 use crate::judging::{Judgement, judged};
 use crate::outcomes::Verdict;
 use crate::patterns::pattern_of;
 use crate::refusal::Refusal;
 use crate::rows::{Rows, add, index_of};
 use crate::stepping::{after, fresh, given_up, is_settled};
+use closed_order::Closing;
 use must_order::Analysis;
 use rapid_text::OutOfMemory;
 use std::alloc::Global;
@@ -185,10 +186,7 @@ impl Judge<'_> {
                 if self.tries == 0 {
                     return Ok(Judgement::Missed);
                 }
-                if left
-                    .closing
-                    .are_contradicted(self.alloc, analysis, first, second)?
-                {
+                if are_contradicted(&mut left.closing, self.alloc, analysis, first, second)? {
                     return Ok(Judgement::Never);
                 }
                 Ok(Judgement::Missed)

@@ -5,12 +5,12 @@ ghost use Rattle.deadlock_triage.specs.Rows.{IsJudge};
 ghost use Rattle.deadlock_triage.specs.Requests.{AreNested, IsNestedCount};
 ghost use Rattle.deadlock_triage.specs.Verdicts.{AreApart, AreComplete, ArePatternsOnce, AreVerdicts};
 
-use crate::closing::Closing;
 use crate::judge::{Judge, Left};
 use crate::outcomes::Verdict;
 use crate::refusal::Refusal;
 use crate::requests::nested_requests;
 use crate::rows::Rows;
+use closed_order::{Closing, USUAL_WORK};
 use indexmap::IndexSet;
 use must_order::Analysis;
 use std::alloc::Global;
@@ -119,7 +119,7 @@ fn verdicts_of(judge: &Judge<'_>, count: usize) -> Result<Vec<Verdict>, Refusal>
     };
     let mut left = Left {
         work: MOST_WORK,
-        closing: Closing::new(),
+        closing: Closing::new(USUAL_WORK),
     };
     for later in 0..count {
         judge.visit_all(&mut rows, &mut left, later)?;

@@ -1,0 +1,85 @@
+//! Looks for contradictions of many pairs of requests, with one budget.
+ghost use Rattle.std.specs.Prelude.{◌<◌, [], ◌∷◌, All, length};
+ghost use Rattle.rapid_text.specs.Appended.{IfFound};
+ghost use Rattle.closed_order.specs.Steps.{IsContradiction};
+
+use crate::contradicting::contradiction_of;
+use crate::steps::Step;
+use crate::tables::Tables;
+use must_order::Analysis;
+use rapid_text::OutOfMemory;
+use std::alloc::Global;
+
+/// How many counts are looked at for the pairs of one command, if nobody gives a number.
+pub const USUAL_WORK: u64 = 134_217_728;
+
+/// What the searches for many pairs share: the lists of the trace, made when they are first needed, and how many
+/// counts may still be looked at.
+#[derive(Drop)]
+pub struct Closing {
+    tables: Option<Tables>,
+    left: u64,
+}
+
+impl Closing {
+    /// May look at about as many counts as `work`.
+    pub fn new(work: u64) -> Closing {
+        Closing {
+            tables: None,
+            left: work,
+        }
+    }
+
+    /// Whether about this number of counts may still be looked at.
+    pub fn may(&self, counts: u64) -> bool {
+        counts <= self.left
+    }
+
+    /// Takes this number of counts for other work. False if there were fewer.
+    pub fn spend(&mut self, counts: u64) -> bool {
+        let is_enough = self.may(counts);
+        self.left = self.left.saturating_sub(counts);
+        is_enough
+    }
+
+    /// Steps that contradict the two requests, if the search finds them before the counts are used up. A `Closing` is
+    /// for one trace.
+    pub fn contradiction(
+        &mut self,
+        alloc: Global,
+        analysis: &Analysis<'_>,
+        first: u32,
+        second: u32,
+    ) -> Result<Option<Vec<Step>>, OutOfMemory>
+        requires first { first < length analysis.now.events }
+        requires second { second < length analysis.now.events }
+        ensures { IfFound result (λ steps. IsContradiction analysis.now.events (first ∷ second ∷ []) steps.items) }
+    {
+        if self.left == 0 {
+            return Ok(None);
+        }
+        if self.tables.is_none() {
+            self.tables = Some(Tables::of(alloc, analysis.indexed())?);
+        }
+        let cost = u64::from(analysis.indexed().len() / 8);
+        self.left = self.left.saturating_sub(cost);
+        match &self.tables {
+            None => Ok(None),
+            Some(tables) => found(alloc, analysis, tables, &[first, second], &mut self.left),
+        }
+    }
+}
+
+// The same with the lists of the trace.
+fn found(
+    alloc: Global,
+    analysis: &Analysis<'_>,
+    tables: &Tables,
+    requests: &[u32],
+    left: &mut u64,
+) -> Result<Option<Vec<Step>>, OutOfMemory>
+    requires requests { All (λ e. e < length analysis.now.events) requests.now }
+    ensures { IfFound result (λ steps. IsContradiction analysis.now.events requests.now steps.items) }
+{
+    contradiction_of(alloc, &*analysis, &*tables, &*requests, left)
+}
