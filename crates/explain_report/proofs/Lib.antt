@@ -1,5 +1,6 @@
 pub mod AccessLemmas
 pub mod CauseLemmas
+mod ContradictedLemmas
 pub mod HeldLemmas
 pub mod IndentLemmas
 pub mod LineLemmas

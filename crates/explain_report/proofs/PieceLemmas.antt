@@ -17,6 +17,13 @@ module _ (old first second : List ℕ) (x y z : List ℕ) (e1 : first ≡ old ++
       let whole : new ≡ (old ++ x ++ y ++ z ++ v ++ w) = cc in
       whole ∙ simp append_assoc
 
+pub eight_pieces :
+    (old a b c d e f g new s t u v w x y z : List ℕ) → a ≡ old ++ s → b ≡ a ++ t → c ≡ b ++ u → d ≡ c ++ v → e ≡ d ++ w → f ≡ e ++ x → g ≡ f ++ y → new ≡ g ++ z
+    → new ≡ old ++ (s ++ t ++ u ++ v ++ w ++ x ++ y ++ z)
+eight_pieces old a b c d e f g new s t u v w x y z e1 e2 e3 e4 e5 e6 e7 e8 =
+    let whole : new ≡ (old ++ s ++ t ++ u ++ v ++ w ++ x ++ y ++ z) = cc in
+    whole ∙ simp append_assoc
+
 -- what stands behind a head is appended with it
 pub headed :
     (old empty text seen whole shown new head rest : List ℕ) → empty ≡ [] → text ≡ empty ++ head → seen ≡ rest → whole ≡ text ++ seen → shown ≡ whole

@@ -4,6 +4,7 @@ pub mod Verdicts
 pub mod Accesses
 pub mod Chains
 pub mod Causes
+pub mod Contradicted
 pub mod Sections
 pub mod Runs
 pub mod Waiting

@@ -5,7 +5,7 @@ use Rattle.rapid_text.specs.Recording.{Recording}
 use Rattle.explain_report.specs.declared.verdict.How.{How}
 use Rattle.explain_report.specs.declared.verdict.How.TheVariants.{Candidate, Beyond, Turned}
 use Rattle.explain_report.specs.declared.verdict.Verdict.{Verdict}
-use Rattle.explain_report.specs.declared.verdict.Verdict.TheVariants.{Race, Forced, Guarded, Undecided}
+use Rattle.explain_report.specs.declared.verdict.Verdict.TheVariants.{Race, Forced, Guarded, Contradicted, Undecided}
 
 -- the ending of a noun for n things
 abbrev pub plural : ℕ → List ℕ
@@ -32,6 +32,10 @@ forced_head a b = codes "apart: " ++ decimal a ++ codes " comes before " ++ deci
 abbrev pub guarded_head : Recording → ℕ → List ℕ
 guarded_head r l = codes "apart: both threads hold " ++ slice_index_or r.locks l [] ++ codes "\n"
 
+-- reads and critical sections contradict each schedule
+abbrev pub contradicted_head : List ℕ
+contradicted_head = codes "apart: no order of the critical sections and reads shows the two side by side\n"
+
 -- undecided: none of the above
 abbrev pub undecided_head : List ℕ
 undecided_head = codes "undecided: no schedule was found, and neither order nor lock forbids one\n"
@@ -41,4 +45,5 @@ abbrev pub verdict_head : Recording → Verdict → ℕ → ℕ → List ℕ
 verdict_head r (Race how events all) a b = race_head how (length events.now)
 verdict_head r (Forced chains) a b = forced_head a b
 verdict_head r (Guarded lock) a b = guarded_head r lock
+verdict_head r (Contradicted steps) a b = contradicted_head
 verdict_head r (Undecided events) a b = undecided_head

@@ -6,6 +6,7 @@ mod accesses;
 mod apart;
 mod causes;
 mod chains;
+mod contradicted;
 mod event_lines;
 pub mod findings;
 mod folded;

@@ -10,9 +10,11 @@ use crate::apart::{
     append_forced, append_forced_head, append_guarded, append_guarded_head, append_undecided,
     append_undecided_head,
 };
+use crate::contradicted::{append_contradicted, append_contradicted_head};
 use crate::pieces::{append_count, append_words};
 use crate::run_lines::append_runs;
 use crate::runs::run_count;
+use closed_order::Step;
 use event_index::Indexed;
 use must_order::{Analysis, Chain};
 use rapid_text::OutOfMemory;
@@ -51,7 +53,12 @@ pub enum Verdict<'a> {
         /// The lock.
         lock: u32,
     },
-    /// No schedule was found, and nothing forbids one. SHB keeps the first event before the second by these events,
+    /// These steps derive that each schedule contradicts itself.
+    Contradicted {
+        /// The steps.
+        steps: &'a [Step],
+    },
+    /// No schedule was found, and nothing that forbids one. SHB keeps the first event before the second by these events,
     /// each with an edge to the next.
     Undecided {
         /// The events, from the first to the second.
@@ -93,6 +100,7 @@ fn append_told(
         }
         Verdict::Forced { chains } => append_forced(out, analysis, chains, pair),
         Verdict::Guarded { lock } => append_guarded(out, analysis, lock, pair),
+        Verdict::Contradicted { steps } => append_contradicted(out, analysis, steps, pair),
         Verdict::Undecided { events } => append_undecided(out, analysis, events, pair),
     }
 }
@@ -116,6 +124,7 @@ pub fn append_head(
         } => append_race_head(out, how, events.len() as u64),
         Verdict::Forced { chains: _ } => append_forced_head(out, first, second),
         Verdict::Guarded { lock } => append_guarded_head(out, indexed, lock),
+        Verdict::Contradicted { steps: _ } => append_contradicted_head(out),
         Verdict::Undecided { events: _ } => append_undecided_head(out),
     }
 }

@@ -6,7 +6,7 @@ use Rattle.explain_report.specs.declared.verdict.How.{How}
 use Rattle.explain_report.specs.declared.verdict.How.TheVariants.{Candidate, Beyond, Turned}
 use Rattle.explain_report.specs.findings.Findings.{IsFinding, IsNeverShown}
 use Rattle.explain_report.specs.declared.findings.finding.Finding.{Finding}
-use Rattle.explain_report.specs.declared.findings.finding.Finding.TheVariants.{Race, Forced, Guarded, Undecided}
+use Rattle.explain_report.specs.declared.findings.finding.Finding.TheVariants.{Race, Forced, Guarded, Contradicted, Undecided}
 use Rattle.report.specs.Pieces.{spaced}
 
 -- the text for how a race was found
@@ -20,6 +20,7 @@ abbrev pub found_line : Finding → List ℕ
 found_line (Race how events) = how_words how ++ spaced events ++ codes "\n"
 found_line (Forced chains) = codes "refused 99 not shown: forced\n"
 found_line (Guarded lock) = codes "refused 99 not shown: guarded\n"
+found_line (Contradicted steps) = codes "refused 99 not shown: open\n"
 found_line (Undecided events) = codes "refused 99 not shown: open\n"
 
 -- The answer about two events: that they are not two conflicting events, or what was found for them, the earlier one

@@ -23,6 +23,10 @@ untried_words = codes "undecided: no pair was tried, and neither order nor lock 
 abbrev pub tried_words : List ℕ
 tried_words = codes "undecided: no schedule was found, and neither order nor lock forbids one"
 
+-- neither order nor lock keeps the two apart, but the critical sections and reads do
+abbrev pub contradicted_words : List ℕ
+contradicted_words = codes "apart: no order of the critical sections and reads shows the two side by side"
+
 abbrev pub undecided_line : ℕ → List ℕ
 undecided_line tried = cond (tried == 0) untried_words tried_words
 
@@ -51,7 +55,7 @@ pub data IsApartLine (r : Recording) (a b : ℕ) (text : List ℕ) : Type 0 wher
   guarded :
       ¬ IsForced r.events a b → (lock : ℕ) → IsGuard r a b lock → ((k : ℕ) → k < lock → ¬ IsSharedBefore r.events a b k) → text ≡ guarded_line r lock
       → IsApartLine r a b text
-  neither : ¬ IsForced r.events a b → HasNoGuard r a b → text ≡ concat (escaped tried_words ∷ []) → IsApartLine r a b text
+  neither : ¬ IsForced r.events a b → HasNoGuard r a b → text ≡ concat (escaped contradicted_words ∷ []) → IsApartLine r a b text
 
 -- the write and the read of a step race
 abbrev pub step_text : ℕ → ℕ → List ℕ

@@ -21,6 +21,10 @@ const UNTRIED: &[u8] =
 const UNDECIDED: &[u8] =
     b"undecided: no schedule was found, and neither order nor lock forbids one";
 
+/// The line for a pair that is apart, and that neither order nor lock keeps so.
+const CONTRADICTED: &[u8] =
+    b"apart: no order of the critical sections and reads shows the two side by side";
+
 /// Writes the first line of what `explain` prints of a row that is no race. If no pair was tried, writes that.
 ///
 /// If the two are apart because of a read that itself races with the write that it reads, writes that too. Of a race,
@@ -102,7 +106,8 @@ fn write_why(
     Ok(())
 }
 
-/// Writes that the order keeps the two apart, or else the lock that both threads hold.
+/// Writes that the order keeps the two apart, or else the lock that both threads hold, or else that critical sections and
+/// reads do.
 fn write_line(
     piece: &mut Piece,
     analysis: &Analysis<'_>,
@@ -123,7 +128,7 @@ fn write_line(
             Ok(())
         }
         None => {
-            piece.write(&[Item::Text(UNDECIDED)])?;
+            piece.write(&[Item::Text(CONTRADICTED)])?;
             Ok(())
         }
     }

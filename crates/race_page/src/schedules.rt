@@ -106,6 +106,7 @@ fn write_finding(
         }
         Finding::Forced { chains: _ } => write_plain(page, told, rest, word, shown),
         Finding::Guarded { lock: _ } => write_plain(page, told, rest, word, shown),
+        Finding::Contradicted { steps: _ } => write_plain(page, told, rest, word, shown),
         Finding::Undecided { events: _ } => write_plain(page, told, rest, word, shown),
     }
 }

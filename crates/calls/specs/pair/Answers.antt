@@ -9,11 +9,11 @@ use Rattle.must_order.specs.declared.kind.Kind.{Kind}
 use Rattle.must_order.specs.declared.kind.Kind.TheVariants.{Candidate as CandidateKind, Forced as ForcedKind, Guarded as GuardedKind, Open as OpenKind}
 use Rattle.witness_search.specs.trace_order.Orders.{IsTurned}
 use Rattle.witness_search.specs.trace_order.Refusals.{IsNeverShownInOrder}
-use Rattle.explain_report.specs.Told.{IsForcedTold, IsGuardedTold, IsRaceTold, IsUndecidedTold}
+use Rattle.explain_report.specs.Told.{contradicted_text, IsForcedTold, IsGuardedTold, IsRaceTold, IsUndecidedTold}
 use Rattle.explain_report.specs.declared.verdict.How.{How}
 use Rattle.explain_report.specs.findings.Findings.{search_limit, IsFinding, IsNeverShown, IsShownByNone}
 use Rattle.explain_report.specs.declared.findings.finding.Finding.{Finding}
-use Rattle.explain_report.specs.declared.findings.finding.Finding.TheVariants.{Race, Forced, Guarded, Undecided}
+use Rattle.explain_report.specs.declared.findings.finding.Finding.TheVariants.{Race, Forced, Guarded, Contradicted, Undecided}
 use Rattle.client_scripts.specs.Loading.{IsTraceOf}
 use Rattle.client_scripts.specs.Replay.{AppendsPart, IsFault, of_trace}
 use Rattle.client_scripts.specs.declared.fault.ReplayFault.TheVariants.{Write, OutOfMemory}
@@ -31,6 +31,7 @@ abbrev pub IsFindingTold : Recording → Finding → Bool → ℕ → ℕ → Li
 IsFindingTold r (Race how events) all a b text = IsRaceTold r how events all a b text
 IsFindingTold r (Forced chains) all a b text = IsForcedTold r chains.items a b text
 IsFindingTold r (Guarded lock) all a b text = IsGuardedTold r lock a b text
+IsFindingTold r (Contradicted steps) all a b text = text ≡ contradicted_text r steps.items a b
 IsFindingTold r (Undecided events) all a b text = IsUndecidedTold r a b text
 
 -- the text explains a right finding on a and b

@@ -48,6 +48,10 @@ fn append_finding(
             let verdict = Verdict::Guarded { lock: *lock };
             explain_text(analysis, &verdict, pair, text)?;
         }
+        Finding::Contradicted { steps } => {
+            let verdict = Verdict::Contradicted { steps };
+            explain_text(analysis, &verdict, pair, text)?;
+        }
         Finding::Undecided { events } => {
             let verdict = Verdict::Undecided { events };
             explain_text(analysis, &verdict, pair, text)?;

@@ -37,6 +37,7 @@ fn schedule_of(
         Finding::Race { how: _, events } => Ok(events),
         Finding::Forced { chains: _ } => Err(PairFault::NotShown(Kind::Forced)),
         Finding::Guarded { lock: _ } => Err(PairFault::NotShown(Kind::Guarded)),
+        Finding::Contradicted { steps: _ } => Err(PairFault::NotShown(Kind::Open)),
         Finding::Undecided { events: _ } => Err(PairFault::NotShown(Kind::Open)),
     }
 }

@@ -1,19 +1,20 @@
 -- What a refusal of the list in order, and a finding, say of the pair.
-use Rattle.std.proofs.Common.{◌≡◌, ◌≢◌, ◌<◌, ◌↔◌, ℕ, List, Bool, false, IsTrue, refl, sym, ◌∙◌, inl, inr}
+use Rattle.std.proofs.Common.{◌≡◌, ◌≢◌, ◌↔◌, ℕ, List, Bool, false, IsTrue, refl, sym, ◌∙◌, inl, inr}
 use Rattle.std.proofs.lemmas.Bool.{false≢true}
 use Rattle.std.proofs.lemmas.Option.{slice_get_within}
 use Rattle.rapid_text.specs.declared.event.Event.{Event}
 use Rattle.rapid_text.specs.Recording.{Recording}
 use Rattle.trace_rules.specs.Rules.{IsDisciplined}
 use Rattle.must_order.specs.Laws.{ApartIsNeverShown}
-use Rattle.must_order.specs.MustBefore.{Link, by_base, IsMustBefore, link, IsForced}
+use Rattle.closed_order.specs.Laws.{ContradictedIsNeverShown}
+use Rattle.must_order.specs.MustBefore.{by_base, IsMustBefore, link, IsForced}
 use Rattle.witness_search.specs.trace_order.Laws.{HasListInOrder}
 use Rattle.witness_search.specs.trace_order.Refusals.{IsRefusalOf}
 use Rattle.witness_search.specs.declared.trace_order.refusal.InOrderRefusal.{InOrderRefusal}
 use Rattle.witness_search.specs.declared.trace_order.refusal.InOrderRefusal.TheVariants.{NoSuchEvent, NotConflicting, NotInOrder, OutOfMemory}
 use Rattle.explain_report.specs.findings.Findings.{IsFinding, IsNeverShown}
 use Rattle.explain_report.specs.declared.findings.finding.Finding.{Finding}
-use Rattle.explain_report.specs.declared.findings.finding.Finding.TheVariants.{Race, Forced, Guarded, Undecided}
+use Rattle.explain_report.specs.declared.findings.finding.Finding.TheVariants.{Race, Forced, Guarded, Contradicted, Undecided}
 
 -- a pair that is refused has no list in order
 pub has_no_list : (T : List Event) (a b : ℕ) (why : InOrderRefusal) → IsRefusalOf T a b why → why ≢ OutOfMemory → ¬ HasListInOrder T a b
@@ -25,11 +26,12 @@ has_no_list T a b NotInOrder is other has = elim is.1 [ inl first ↦ has.first 
 has_no_list T a b OutOfMemory is other has = other refl
 
 -- a pair that was found to be apart is never shown
-pub never_shown : (r : Recording) (a b : ℕ) (f : Finding) → ApartIsNeverShown → IsDisciplined r.events → IsFinding r a b f → IsNeverShown r.events a b f
-never_shown r a b (Race how events) law rules is = tt
-never_shown r a b (Forced chains) law rules is = λ P correct. law r.events P a b rules correct (inl is.0.1)
-never_shown r a b (Guarded lock) law rules is = λ P correct. law r.events P a b rules correct (inr is.0.2)
-never_shown r a b (Undecided events) law rules is = tt
+pub never_shown : (r : Recording) (a b : ℕ) (f : Finding) → ApartIsNeverShown → ContradictedIsNeverShown → IsDisciplined r.events → IsFinding r a b f → IsNeverShown r.events a b f
+never_shown r a b (Race how events) law other rules is = tt
+never_shown r a b (Forced chains) law other rules is = λ P correct. law r.events P a b rules correct (inl is.0.1)
+never_shown r a b (Guarded lock) law other rules is = λ P correct. law r.events P a b rules correct (inr is.0.2)
+never_shown r a b (Contradicted steps) law other rules is = λ P correct. other r.events P a b rules correct is.1.contradicted
+never_shown r a b (Undecided events) law other rules is = tt
 
 -- what is forced is must-before
 pub forced_before : (T : List Event) (a b : ℕ) → IsForced T a b → IsMustBefore T a b

@@ -1,5 +1,6 @@
 //! The findings on a pair.
 use crate::How;
+use closed_order::Step;
 use event_index::EventList;
 use must_order::Chain;
 
@@ -23,7 +24,12 @@ pub enum Finding {
         /// The least such lock.
         lock: u32,
     },
-    /// Nothing forbids a schedule, and none was found.
+    /// Reads and critical sections contradict each schedule: these steps derive it.
+    Contradicted {
+        /// The steps.
+        steps: Vec<Step>,
+    },
+    /// No schedule was found, and no contradiction either.
     Undecided {
         /// Events from the earlier one to the later one, by which SHB orders them.
         events: Vec<u32>,

@@ -8,10 +8,11 @@ ghost use Rattle.witness_search.specs.trace_order.InOrder.{IsInOrder};
 ghost use Rattle.witness_search.specs.trace_order.Laws.{HasListInOrder};
 ghost use Rattle.witness_search.specs.trace_order.Refusals.{IsNeverShownInOrder};
 ghost use Rattle.witness_search.specs.declared.trace_order.refusal.InOrderRefusal.TheVariants.{OutOfMemory as NoMemory};
-ghost use Rattle.explain_report.specs.findings.Findings.{IsFinding, IsFoundAs, IsListInOrder, IsShownAs, IsNeverShown};
+ghost use Rattle.explain_report.specs.findings.Findings.{IsFinding, IsFoundAs, IsListInOrder, IsMissed, IsShownAs, IsNeverShown};
 
 use crate::findings::finding::Finding;
 use crate::{How, shb_chain};
+use closed_order::{Closing, USUAL_WORK, contradicted_is_never_shown};
 use event_index::EventList;
 use must_order::{Analysis, apart_is_never_shown};
 use rapid_text::OutOfMemory;
@@ -24,8 +25,8 @@ use witness_search::trace_order::{
 pub const BUDGET: u32 = 1_048_576;
 
 /// The finding on a conflicting pair, whose earlier event is `first`. A candidate has a schedule. For an open pair,
-/// the call tries the least list in the order of the trace, and then a search of at most `BUDGET` steps. Fails if
-/// memory runs out.
+/// the call tries the least list in the order of the trace, and then a search of at most `BUDGET` steps. If no list was
+/// found, it looks for a contradiction. Fails if memory runs out.
 pub fn find(
     alloc: Global,
     analysis: &Analysis<'_>,
@@ -35,10 +36,11 @@ pub fn find(
     requires first { first < length analysis.now.events }
     requires second { second < length analysis.now.events }
     ensures finding { IfOk result (IsFinding analysis.now first second) }
-    // No correct reordering shows a pair that is found to be forced or guarded.
+    // No correct reordering shows a pair that is found to be forced, guarded or contradicted.
     ensures apart { IfOk result (IsNeverShown analysis.now.events first second) }
 {
     apart_is_never_shown();
+    contradicted_is_never_shown();
     let _len = analysis.indexed().len();
     let finding = find_by_kind(alloc, analysis, first, second)?;
     Ok(finding)
@@ -184,12 +186,33 @@ fn beyond_order(
     first: u32,
     second: u32,
 ) -> Result<Finding, OutOfMemory>
+    requires first { first < length analysis.now.events }
+    requires second { second < length analysis.now.events }
     requires kind { IsKind analysis.now first second Open }
     requires never { IsNeverShownInOrder analysis.now.events first second }
     ensures { IfOk result (IsFinding analysis.now first second) }
 {
     match turned(alloc, analysis.indexed(), first, second, BUDGET)? {
         Some(list) => race(alloc, analysis, How::Turned, list.items(), first, second),
+        None => missed(alloc, analysis, first, second),
+    }
+}
+
+// The finding on a pair for which no list was found.
+fn missed(
+    alloc: Global,
+    analysis: &Analysis<'_>,
+    first: u32,
+    second: u32,
+) -> Result<Finding, OutOfMemory>
+    requires first { first < length analysis.now.events }
+    requires second { second < length analysis.now.events }
+    requires missed { IsMissed analysis.now first second }
+    ensures { IfOk result (IsFinding analysis.now first second) }
+{
+    let mut closing = Closing::new(USUAL_WORK);
+    match closing.contradiction(alloc, analysis, first, second)? {
+        Some(steps) => Ok(Finding::Contradicted { steps }),
         None => {
             let events = shb_chain(alloc, analysis, first, second)?;
             Ok(Finding::Undecided { events })

@@ -41,6 +41,9 @@ fn append_found(out: &mut Vec<u8>, finding: &Finding) -> Result<(), OutOfMemory>
         Finding::Guarded { lock: _ } => {
             append_pieces(out, &[Piece::Words(b"refused 99 not shown: guarded\n")])
         }
+        Finding::Contradicted { steps: _ } => {
+            append_pieces(out, &[Piece::Words(b"refused 99 not shown: open\n")])
+        }
         Finding::Undecided { events: _ } => {
             append_pieces(out, &[Piece::Words(b"refused 99 not shown: open\n")])
         }

@@ -17,7 +17,7 @@ use Rattle.schedule.specs.Shows.{Shows}
 use Rattle.explain_report.specs.findings.Findings.{AreFound, IsFinding, IsShownAs}
 use Rattle.explain_report.specs.declared.verdict.How.{How}
 use Rattle.explain_report.specs.declared.findings.finding.Finding.{Finding}
-use Rattle.explain_report.specs.declared.findings.finding.Finding.TheVariants.{Race as FoundRace, Forced, Guarded, Undecided as FoundUndecided}
+use Rattle.explain_report.specs.declared.findings.finding.Finding.TheVariants.{Race as FoundRace, Forced, Guarded, Contradicted, Undecided as FoundUndecided}
 use Rattle.triage_report.specs.sarif.Locations.{message}
 use Rattle.triage_report.specs.sarif.Stacks.{access_location}
 use Rattle.triage_report.specs.declared.folder.Folder.{Folder}
@@ -119,6 +119,7 @@ abbrev pub IsNoRace : Finding → Type 0
 IsNoRace (FoundRace how events) = ⊥
 IsNoRace (Forced chains) = Unit {0}
 IsNoRace (Guarded lock) = Unit {0}
+IsNoRace (Contradicted steps) = Unit {0}
 IsNoRace (FoundUndecided events) = Unit {0}
 
 -- there is no such pair of events, or what is found of it is no race

@@ -76,6 +76,7 @@ fn steps_in(
         }
         Finding::Forced { chains: _ } => Ok(None),
         Finding::Guarded { lock: _ } => Ok(None),
+        Finding::Contradicted { steps: _ } => Ok(None),
         Finding::Undecided { events: _ } => Ok(None),
     }
 }

@@ -3,7 +3,7 @@ use Rattle.std.specs.Prelude.{slice_index_or}
 use Rattle.rapid_text.specs.Recording.{Recording}
 use Rattle.std.specs.List.{concat}
 use Rattle.markup.specs.Escaped.{escaped}
-use Rattle.race_page.specs.Reasons.{IsApartLine, forced_line, guarded_line, guarded_words, tried_words}
+use Rattle.race_page.specs.Reasons.{IsApartLine, forced_line, guarded_line, guarded_words, contradicted_words}
 use Rattle.race_page.proofs.PieceLemmas.{refuted}
 use Rattle.race_page.proofs.reasons.write_line.Goals as goal
 
@@ -25,7 +25,7 @@ returns-in_ok-write_guarded-in-Some c = (
 
 pub returns-in_ok-write-in-None : goal.returns-in_ok-write-in-None
 returns-in_ok-write-in-None c = (
-  concat (escaped tried_words ∷ []),
+  concat (escaped contradicted_words ∷ []),
   c.in_ok-write-in-None.ensures,
   IsApartLine.neither (refuted _ _ c.is_forced.ensures.forced c.if-is_forced.false) (c.guard.ensures.none c.in-None.is) refl,
 )

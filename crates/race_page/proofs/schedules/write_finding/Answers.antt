@@ -14,6 +14,11 @@ write_plain-requires-in-Guarded-clause-plain c =
     let T = c.args.page.now.trace.events in
     inr (HasNoSchedule.never (subst (λ (f : Finding). IsNeverShown T c.args.shown.first c.args.shown.second f) c.in-Guarded.is c.requires.never))
 
+pub write_plain-requires-in-Contradicted-clause-plain : goal.write_plain-requires-in-Contradicted-clause-plain
+write_plain-requires-in-Contradicted-clause-plain c =
+    let T = c.args.page.now.trace.events in
+    inr (HasNoSchedule.never (subst (λ (f : Finding). IsNeverShown T c.args.shown.first c.args.shown.second f) c.in-Contradicted.is c.requires.never))
+
 pub write_plain-requires-in-Undecided-clause-plain : goal.write_plain-requires-in-Undecided-clause-plain
 write_plain-requires-in-Undecided-clause-plain c =
     let r = c.args.page.now.trace in
