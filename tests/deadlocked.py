@@ -91,15 +91,18 @@ class Trace:
 
     def request_lines(self, request: int, other: int) -> list[str]:
         """A request, and the locks that its thread holds. The lock that the other request acquires comes first."""
-        held, wanted = self.held_at(request), self.events[other][2]
-        since = held[wanted]
-        numbers = list(dict.fromkeys(name for _, op, name in self.events if op == "acq"))
-        others = sorted(held.keys() - {wanted}, key=numbers.index)
+        wanted = self.events[other][2]
+        since = self.held_at(request)[wanted]
         return [
             f"  {self.line(request)}",
             f"    holds {wanted} since {since}  {self.line(since)}",
-            *(f"    holds {lock}" for lock in others),
+            *(f"    holds {lock}" for lock in self.other_locks(request, wanted)),
         ]
+
+    def other_locks(self, request: int, wanted: str) -> list[str]:
+        """The other locks that the request's thread holds, in the order in which the trace first names them."""
+        numbers = list(dict.fromkeys(name for _, op, name in self.events if op == "acq"))
+        return sorted(self.held_at(request).keys() - {wanted}, key=numbers.index)
 
     def pattern(self, one: int, other: int) -> Pattern:
         """The locations of two requests that wait for each other, and of their holds."""

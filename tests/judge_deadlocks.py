@@ -4,12 +4,13 @@
 Each two requests that wait for each other have a block on their pattern. A reordering of the printed size shows each
 deadlock, and none shows what is apart. The rest of the text follows from the trace and is compared with it. `witness`
 prints a correct reordering of the printed size that shows the deadlock, and `explain` says the same. `--known`,
-`--only` and `--hide` leave out the blocks that they should. Takes the program's path, how many traces are drawn, and
-the first seed.
+`--only` and `--hide` leave out the blocks that they should. `--json` has the same counts and blocks, member by member,
+and `--lines` the same blocks. Takes the program's path, how many traces are drawn, and the first seed.
 """
 
 from __future__ import annotations
 
+import json
 import random
 import sys
 from collections import Counter
@@ -18,6 +19,7 @@ from typing import NamedTuple
 
 if __name__ == "__main__":
     sys.dont_write_bytecode = True
+import compiled
 import deadlocked
 import judging
 import pictured
@@ -30,9 +32,11 @@ TRACES = 1_000
 MOST_STATES = 20_000
 REACHED = [
     *["deadlock", "apart", "ordered", "turned", "real", "held by both", "forced", "no requests"],
-    *["pictures", "arrows", "kept", "hidden", "known"],
+    *["pictures", "arrows", "kept", "hidden", "known", "objects", "other locks", "lines", "calls"],
 ]
 KINDS = ["deadlock", "undecided", "apart"]
+HEADS = {"deadlock": "warning: deadlock", "undecided": "warning: undecided deadlock", "apart": "note: apart"}
+RULES = {"deadlock": "deadlock", "undecided": "undecided-deadlock", "apart": "apart-deadlock"}
 
 Shown = dict[deadlocked.Pair, set[deadlocked.Size]]
 
@@ -91,22 +95,115 @@ class Choice(NamedTuple):
         return (mention(self.only) or not self.only) and not mention(self.hide)
 
 
-def expected(trace: deadlocked.Trace, blocks: list[Block], is_apart_wanted: bool, choice: Choice = Choice()) -> str:
-    """The text with the chosen blocks, the counts before them, and after them how many are left out."""
+class Chosen(NamedTuple):
+    """The counts of all blocks, the chosen blocks, and how many are left out, by why."""
+
+    counts: dict[str, int]
+    kept: list[Block]
+    left_out: dict[str, int]
+
+
+def chosen(trace: deadlocked.Trace, blocks: list[Block], is_apart_wanted: bool, choice: Choice) -> Chosen:
+    """What is printed with this choice."""
     tally = Counter(block.verdict for block in blocks)
-    lines = [f"events {len(trace.events)}", f"threads {len(trace.names())}", f"nested {trace.nested()}"]
-    lines += [f"patterns {len(blocks)}", f"deadlocks {tally['deadlock']}", f"undecided {tally['undecided']}"]
-    lines += [f"apart {tally['apart']}", "whole 2"]
+    counts = {"events": len(trace.events), "threads": len(trace.names()), "nested": trace.nested()}
+    counts |= {"patterns": len(blocks), "deadlocks": tally["deadlock"], "undecided": tally["undecided"]}
+    counts |= {"apart": tally["apart"], "whole": 2}
     wanted = [block for block in sorted(blocks, key=Block.place) if is_apart_wanted or block.verdict != "apart"]
     known = [block for block in wanted if block.verdict == "deadlock" and block in (choice.known or [])]
     kept = [block for block in wanted if block not in known and choice.keeps(lines_of(trace, block))]
+    left_out = {"known": len(known)} if choice.known is not None else {}
+    if choice.only or choice.hide:
+        left_out["hidden"] = len(wanted) - len(known) - len(kept)
+    return Chosen(counts, kept, left_out)
+
+
+def expected(trace: deadlocked.Trace, blocks: list[Block], is_apart_wanted: bool, choice: Choice = Choice()) -> str:
+    """The text with the chosen blocks, the counts before them, and after them how many are left out."""
+    counts, kept, left_out = chosen(trace, blocks, is_apart_wanted, choice)
+    lines = [f"{word} {count}" for word, count in counts.items()]
     for block in kept:
         lines += [block.line, *lines_of(trace, block)]
-    if choice.known is not None:
-        lines.append(f"known {len(known)}")
-    if choice.only or choice.hide:
-        lines.append(f"hidden {len(wanted) - len(known) - len(kept)}")
+    lines += [f"{word} {count}" for word, count in left_out.items()]
     return "".join(f"{line}\n" for line in lines)
+
+
+def request_object(trace: deadlocked.Trace, request: int, other: int) -> dict[str, object]:
+    """A request, and the locks that its thread holds, as the JSON has them."""
+    thread, _, lock = trace.events[request]
+    wanted = trace.events[other][2]
+    since = trace.held_at(request)[wanted]
+    return {
+        "event": request,
+        "hold": {"event": since, "location": trace.locations[since], "lock": wanted},
+        "holds": trace.other_locks(request, wanted),
+        "location": trace.locations[request],
+        "lock": lock,
+        "thread": f"T{thread}",
+    }
+
+
+def block_object(trace: deadlocked.Trace, block: Block) -> dict[str, object]:
+    """A block, as the JSON has it. What was found is a number after its word, and the order of a schedule."""
+    how, numbers = (block.found[:1], block.found[1:]) if block.verdict == "deadlock" else ([], block.found)
+    found = {word: int(number) for word, number in zip(numbers[::2], numbers[1::2], strict=True)}
+    requests = [request_object(trace, *block.pair), request_object(trace, *reversed(block.pair))]
+    return {"kind": block.verdict, "requests": requests, **found, **{"how": word for word in how}}
+
+
+def expected_json(trace: deadlocked.Trace, blocks: list[Block], choice: Choice) -> str:
+    """The text with `--apart` as JSON: an object a line, its members in the order of their names."""
+    counts, kept, left_out = chosen(trace, blocks, True, choice)
+    first: dict[str, object] = {"kind": "counts", **counts}
+    objects = [first, *(block_object(trace, block) for block in kept)]
+    objects += [{"kind": word, "count": count} for word, count in left_out.items()]
+    return "".join(json.dumps(value, sort_keys=True, separators=(",", ":")) + "\n" for value in objects)
+
+
+def place_of(trace: deadlocked.Trace, event: int) -> str:
+    """The place of an event."""
+    return trace.locations[event].split(" < ")[0]
+
+
+def call_lines(trace: deadlocked.Trace, event: int) -> list[str]:
+    """The lines of the calls that led to an event."""
+    return [compiled.call_line(place_of(trace, event), call) for call in trace.locations[event].split(" < ")[1:]]
+
+
+def request_notes(trace: deadlocked.Trace, request: int, other: int) -> list[str]:
+    """The lines of a request: for what it waits, what its thread holds, and the calls that led to both."""
+    thread, _, lock = trace.events[request]
+    wanted = trace.events[other][2]
+    since = trace.held_at(request)[wanted]
+    return [
+        f"{place_of(trace, request)}: note: event {request}: T{thread} waits for {lock}",
+        *(f"{place_of(trace, request)}: note: holds {held}" for held in trace.other_locks(request, wanted)),
+        *call_lines(trace, request),
+        f"{place_of(trace, since)}: note: event {since}: T{thread} acquires {wanted}",
+        *call_lines(trace, since),
+    ]
+
+
+def block_notes(trace: deadlocked.Trace, block: Block) -> list[str]:
+    """The lines of a block, those of its later request first."""
+    first, second = block.pair
+    (one, _, lock), (other, _, later) = trace.events[first], trace.events[second]
+    waits = f"T{other} holds {lock} and waits for {later}, T{one} holds {later} and waits for {lock}"
+    row = block_object(trace, block)
+    row["kind"] = block.verdict.replace("deadlock", "race")
+    place = place_of(trace, second)
+    return [
+        f"{place}: {HEADS[block.verdict]}: {waits} [{RULES[block.verdict]}]",
+        *request_notes(trace, second, first),
+        *request_notes(trace, first, second),
+        f"{place}: note: {compiled.why(row)}: racebench explain TRACE {first} {second}",
+    ]
+
+
+def expected_lines(trace: deadlocked.Trace, blocks: list[Block], choice: Choice) -> str:
+    """The chosen blocks with `--apart` as lines for editors."""
+    kept = chosen(trace, blocks, True, choice).kept
+    return "".join(f"{line}\n" for block in kept for line in block_notes(trace, block))
 
 
 def check_choice(run: Run, trace: deadlocked.Trace, blocks: list[Block], choice: Choice, note: bytes = b"") -> None:
@@ -122,6 +219,34 @@ def check_choice(run: Run, trace: deadlocked.Trace, blocks: list[Block], choice:
             raise Wrong(f"with {options}, --fail ends with status {status}")
         run.tally["kept"] += len(blocks_of(text))
         run.tally["hidden"] += bool(choice.only or choice.hide) and not text.endswith("hidden 0\n")
+    check_json(run, trace, blocks, choice, note)
+    check_lines(run, trace, blocks, choice, note)
+
+
+def check_json(run: Run, trace: deadlocked.Trace, blocks: list[Block], choice: Choice, note: bytes) -> None:
+    """Whether the JSON has the same counts and blocks as the text, and `--fail` ends in the same way."""
+    options = ["--apart", *choice.options()]
+    status, out, err = running.ended(run.program, ["deadlocks", "trace", "--json", "--fail", *options])
+    text = out.decode("ascii")
+    if err != note or text != expected_json(trace, blocks, choice):
+        raise Wrong(f"with {options}, it prints other JSON:\n{text}")
+    if status != (3 if '"kind":"deadlock"' in text else 0):
+        raise Wrong(f"with --json and {options}, --fail ends with status {status}")
+    run.tally["objects"] += text.count('"kind":"deadlock"')
+    run.tally["other locks"] += text.count('"holds":["')
+
+
+def check_lines(run: Run, trace: deadlocked.Trace, blocks: list[Block], choice: Choice, note: bytes) -> None:
+    """Whether the lines for editors have the same blocks as the text, and `--fail` ends in the same way."""
+    options = ["--apart", *choice.options()]
+    status, out, err = running.ended(run.program, ["deadlocks", "trace", "--lines", "--fail", *options])
+    text = out.decode("ascii")
+    if err != note or text != expected_lines(trace, blocks, choice):
+        raise Wrong(f"with {options}, it prints other lines:\n{text}")
+    if status != (3 if "[deadlock]" in text else 0):
+        raise Wrong(f"with --lines and {options}, --fail ends with status {status}")
+    run.tally["lines"] += text.count("[deadlock]")
+    run.tally["calls"] += text.count(": note: in ")
 
 
 def check_filters(run: Run, trace: deadlocked.Trace, blocks: list[Block]) -> None:
@@ -323,11 +448,7 @@ def judge_trace(run: Run, trace: deadlocked.Trace, shown: Shown) -> None:
     check_verdicts(run, trace, blocks, shown)
     if text != expected(trace, blocks, is_apart_wanted=True):
         raise Wrong(f"with --apart, it prints another text:\n{text}")
-    status, out, err = running.ended(run.program, ["deadlocks", "trace", "--fail"])
-    if out.decode("ascii") != expected(trace, blocks, is_apart_wanted=False) or err:
-        raise Wrong("without --apart, it prints another text")
-    if status != (3 if any(block.verdict == "deadlock" for block in blocks) else 0):
-        raise Wrong(f"--fail ends with status {status}")
+    check_choice(run, trace, blocks, Choice())
     for block in blocks:
         if block.verdict == "deadlock":
             check_schedule(run, trace, block)

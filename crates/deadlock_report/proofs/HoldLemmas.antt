@@ -1,5 +1,5 @@
 -- Since when a thread holds a lock, as a number.
-use Rattle.std.proofs.Common.{◌≡◌, ℕ, zero, suc, ◌<◌, nat_lt, Bool, true, false, [], take, Some, Option, None, le_refl, refl, ap, ◌∙◌, arith, inl, inr}
+use Rattle.std.proofs.Common.{◌≡◌, ℕ, zero, suc, ◌<◌, nat_lt, Bool, true, false, take, Some, Option, None, IfSome, le_refl, refl, sym, ap, ◌∙◌, arith, inl, inr}
 use Rattle.std.proofs.lemmas.Bool.{cases_Bool, cond-true, cond-false, eq-eqb, lt-ltb, ltb-true, ne_eqb}
 use Rattle.std.proofs.lemmas.Bool.Decides.{eqb_tells}
 use Rattle.rapid_text.specs.Recording.{Recording}
@@ -7,7 +7,7 @@ use Rattle.trace_rules.specs.Rules.{hold_count}
 use Rattle.event_index.specs.Events.{thread_at}
 use Rattle.must_order.specs.Held.{IsHeldFrom}
 use Rattle.must_order.specs.MustBefore.{IsHeldBefore}
-use Rattle.deadlock_report.specs.Texts.{held_since, hold_by, hold_text, is_free, last_below, since_line}
+use Rattle.deadlock_report.specs.Holds.{held_since, is_free, last_below, since_at, since_by}
 
 -- the last number that passes the test
 last_is : (test : ℕ → Bool) (n p : ℕ) → p < n → test p ≡ true → ((k : ℕ) → p < k → k < n → test k ≡ false) → last_below test n ≡ p
@@ -29,22 +29,23 @@ module _ (r : Recording) (e l : ℕ) where
       (λ k low high. ne_eqb (hold_count (take k r.events) h.thread l) 0 (λ is. absurd (omega (arith, is, h.held k low (omega (arith, high))))))
 
   -- the lock is held since that acquire
-  pub hold_text-held : (p : ℕ) → IsHeldFrom r.events e l p → hold_text r e (Some l) ≡ since_line r l p
-  hold_text-held p h =
+  since_at-held : (p : ℕ) → IsHeldFrom r.events e l p → since_at r e l ≡ Some p
+  since_at-held p h =
       let count = hold_count (take e r.events) h.thread l in
-      ap (hold_by r e l) h.of
-      ∙ cond-true _ (since_line r l (held_since r h.thread l e)) [] (lt-ltb 0 count (h.held e h.earlier (le_refl e)))
-      ∙ ap (since_line r l) (since_is p h)
+      ap (since_by r e l) h.of
+      ∙ cond-true _ (Some (held_since r h.thread l e)) None (lt-ltb 0 count (h.held e h.earlier (le_refl e)))
+      ∙ ap Some (since_is p h)
 
-  hold_by-free : ¬ IsHeldBefore r.events e l → (o : Option ℕ) → thread_at r.events e ≡ o → hold_by r e l o ≡ []
-  hold_by-free not_held None of = refl
-  hold_by-free not_held (Some t) of =
+  since_by-free : ¬ IsHeldBefore r.events e l → (o : Option ℕ) → thread_at r.events e ≡ o → since_by r e l o ≡ None
+  since_by-free not_held None of = refl
+  since_by-free not_held (Some t) of =
       let count = hold_count (take e r.events) t l in
       elim (cases_Bool (nat_lt 0 count)) [
         | inl some ↦ absurd (not_held (t, of, ltb-true 0 count some))
-        | inr no_hold ↦ cond-false (nat_lt 0 count) (since_line r l (held_since r t l e)) [] no_hold
+        | inr no_hold ↦ cond-false (nat_lt 0 count) (Some (held_since r t l e)) None no_hold
       ]
 
-  -- the lock is not held
-  pub hold_text-free : ¬ IsHeldBefore r.events e l → hold_text r e (Some l) ≡ []
-  hold_text-free not_held = hold_by-free not_held (thread_at r.events e) refl
+  -- what is held since an acquire, or not at all
+  pub since_at-is : (o : Option ℕ) → IfSome o (IsHeldFrom r.events e l) → (o ≡ None → ¬ IsHeldBefore r.events e l) → o ≡ since_at r e l
+  since_at-is None since none = sym (since_by-free (none refl) (thread_at r.events e) refl)
+  since_at-is (Some p) since none = sym (since_at-held p since)

@@ -7,7 +7,8 @@ use Rattle.std.proofs.lemmas.Option.{slice_get-get_or}
 use Rattle.explain_report.specs.Causes.{lock_taken}
 use Rattle.deadlock_report.specs.Texts.{held_text, request_by, request_line, request_text}
 
-there : (es : List Event) (e : ℕ) → e < length es → (v : Event) × (slice_get es e ≡ Some v)
+-- the event with that number
+pub there : (es : List Event) (e : ℕ) → e < length es → (v : Event) × (slice_get es e ≡ Some v)
 there [] e lt = absurd (omega (arith, lt))
 there (x ∷ xs) e lt = (get_or (x ∷ xs) e x, slice_get-get_or (x ∷ xs) e x lt)
 
@@ -24,3 +25,10 @@ pub three_pieces : (old one two three middle later new : List ℕ)
     → middle ≡ old ++ one → later ≡ middle ++ two → new ≡ later ++ three → new ≡ old ++ ((one ++ two) ++ three)
 three_pieces old one two three middle later new first second third =
     two_pieces old (one ++ two) three later new (two_pieces old one two middle later first second) third
+
+-- and four
+pub four_pieces : (old first second third new x y z v : List ℕ)
+    → first ≡ old ++ x → second ≡ first ++ y → third ≡ second ++ z → new ≡ third ++ v → new ≡ old ++ (x ++ y ++ z ++ v)
+four_pieces old first second third new x y z v e1 e2 e3 e4 =
+    let whole : new ≡ (old ++ x ++ y ++ z ++ v) = cc in
+    whole ∙ simp append_assoc

@@ -1,6 +1,9 @@
 pub mod Chosen
 pub mod Counts
 pub mod Explained
+pub mod Holds
 pub mod Known
 pub mod Schedules
 pub mod Texts
+pub mod json
+pub mod lines

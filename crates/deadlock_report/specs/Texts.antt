@@ -1,11 +1,9 @@
 -- The text that `deadlocks` prints for a trace. `r` is the trace's recording. All notions here are this project's own.
-use Rattle.std.specs.Prelude.{◌≡◌, ℕ, zero, suc, nat_eq, nat_lt, Bool, cond, List, [], ◌++◌, Vec, take, flat_map, slice_get, Option, Some, None, codes}
+use Rattle.std.specs.Prelude.{◌≡◌, ℕ, nat_eq, cond, List, [], ◌++◌, Vec, flat_map, slice_get, Option, Some, None, codes}
 use Rattle.std.specs.declared.alloc.Global.{Global}
 use Rattle.rapid_text.specs.Canonical.{name_at}
 use Rattle.rapid_text.specs.Recording.{Recording}
 use Rattle.rapid_text.specs.declared.event.Event.{Event}
-use Rattle.trace_rules.specs.Rules.{hold_count}
-use Rattle.event_index.specs.Events.{thread_at}
 use Rattle.explain_report.specs.Causes.{lock_taken}
 use Rattle.race_triage.specs.Pieces.{count_line, event_words_at, number_text}
 use Rattle.race_triage.specs.Texts.{held_locks, left_out_text, lock_line}
@@ -16,6 +14,7 @@ use Rattle.deadlock_triage.specs.declared.outcomes.Outcome.TheVariants.{Deadlock
 use Rattle.deadlock_triage.specs.declared.outcomes.Verdict.{Verdict}
 use Rattle.deadlock_triage.specs.declared.verdicts.Deadlocks.{Deadlocks}
 use Rattle.deadlock_report.specs.Counts.{is_of, AreCountsIn}
+use Rattle.deadlock_report.specs.Holds.{since_at}
 use Rattle.deadlock_report.specs.declared.chosen.Chosen.{Chosen}
 use Rattle.deadlock_report.specs.declared.counts.Counts.{Counts}
 use Rattle.deadlock_report.specs.declared.kinds.Kind.{Kind}
@@ -56,19 +55,6 @@ head_by Apart v = word_text (codes "apart") v
 abbrev pub head_line : Verdict → List ℕ
 head_line v = head_by v.outcome v ++ codes "\n"
 
--- the last number below n that passes the test; 0 if none does
-unfoldable pub last_below : (ℕ → Bool) → ℕ → ℕ
-last_below test zero = 0
-last_below test (suc n) = cond (test n) n (last_below test n)
-
--- before its first k events, the thread does not hold the lock
-abbrev pub is_free : Recording → ℕ → ℕ → ℕ → Bool
-is_free r t l k = nat_eq (hold_count (take k r.events) t l) 0
-
--- the acquire since which thread t holds lock l before event e: the last event before which the thread does not hold it
-abbrev pub held_since : Recording → ℕ → ℕ → ℕ → ℕ
-held_since r t l e = last_below (is_free r t l) e
-
 -- the line of event e alone
 abbrev pub request_line : Recording → ℕ → List ℕ
 request_line r e = codes "  " ++ event_words_at r e ++ codes "\n"
@@ -77,14 +63,14 @@ request_line r e = codes "  " ++ event_words_at r e ++ codes "\n"
 abbrev pub since_line : Recording → ℕ → ℕ → List ℕ
 since_line r l p = codes "    holds " ++ name_at r.locks l ++ codes " since" ++ number_text p ++ request_line r p
 
-abbrev pub hold_by : Recording → ℕ → ℕ → Option ℕ → List ℕ
-hold_by r e l None = []
-hold_by r e l (Some t) = cond (nat_lt 0 (hold_count (take e r.events) t l)) (since_line r l (held_since r t l e)) []
+abbrev pub since_text : Recording → ℕ → Option ℕ → List ℕ
+since_text r l None = []
+since_text r l (Some p) = since_line r l p
 
 -- since when event e's thread holds the lock; empty if it does not hold it before e
 abbrev pub hold_text : Recording → ℕ → Option ℕ → List ℕ
 hold_text r e None = []
-hold_text r e (Some l) = hold_by r e l (thread_at r.events e)
+hold_text r e (Some l) = since_text r l (since_at r e l)
 
 -- a line for the lock l, if it is another one
 abbrev pub other_line : Recording → Option ℕ → ℕ → List ℕ

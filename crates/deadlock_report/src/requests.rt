@@ -1,10 +1,12 @@
 //! Prints a request, and the locks that its thread holds.
-ghost use Rattle.std.specs.Prelude.{◌≡◌, ◌<◌, ◌++◌, [], IfSome, Some, codes, length, slice_index_or};
+ghost use Rattle.std.specs.Prelude.{◌≡◌, ◌<◌, ◌++◌, IfSome, Some, codes, length};
 ghost use Rattle.rapid_text.specs.Appended.{Appended};
+ghost use Rattle.rapid_text.specs.Canonical.{name_at};
 ghost use Rattle.explain_report.specs.Causes.{lock_taken};
 ghost use Rattle.race_triage.specs.Texts.{held_locks, lock_line};
 ghost use Rattle.deadlock_report.specs.Texts.{held_text, hold_text, other_line, other_lines, request_line, request_text, since_line};
 
+use crate::holds::since_of;
 use crate::pieces::{append_small, append_words};
 use event_index::Indexed;
 use must_order::Analysis;
@@ -100,7 +102,7 @@ fn append_hold(
     requires lock { lock < length analysis.now.locks }
     ensures { Appended result out.old out.new (hold_text analysis.now request (Some lock)) }
 {
-    match analysis.held_since(request, lock) {
+    match since_of(analysis, request, lock) {
         Some(since) => append_since(out, analysis.indexed(), lock, since),
         None => Ok(()),
     }
@@ -183,20 +185,21 @@ fn append_one(out: &mut Vec<u8>, indexed: &Indexed, lock: u32) -> Result<(), Out
 
 // Appends the beginning of the line of a lock. Leaves out the name if the trace has no such lock.
 fn append_lock(out: &mut Vec<u8>, indexed: &Indexed, lock: u32) -> Result<(), OutOfMemory>
-    ensures { Appended result out.old out.new (codes "    holds " ++ slice_index_or indexed.now.locks lock []) }
+    ensures { Appended result out.old out.new (codes "    holds " ++ name_at indexed.now.locks lock) }
 {
     append_words(out, b"    holds ")?;
-    append_name(out, indexed, lock)?;
+    append_words(out, lock_name(indexed, lock))?;
     Ok(())
 }
 
-// Appends the name of the lock. Appends nothing if the trace has no such lock.
-fn append_name(out: &mut Vec<u8>, indexed: &Indexed, lock: u32) -> Result<(), OutOfMemory>
-    ensures { Appended result out.old out.new (slice_index_or indexed.now.locks lock []) }
+/// The name of a lock; empty if the trace has no such lock.
+pub(crate) fn lock_name(indexed: &Indexed, lock: u32) -> &[u8]
+    ensures { result.now ≡ name_at indexed.now.locks lock }
 {
     let raw = indexed.trace().raw();
     if lock < raw.locks() {
-        append_words(out, raw.lock_name(lock))?;
+        raw.lock_name(lock)
+    } else {
+        b""
     }
-    Ok(())
 }

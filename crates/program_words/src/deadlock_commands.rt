@@ -47,6 +47,16 @@ run, the same locations may deadlock.",
             help: Some("Pairs of requests to try for each pattern, 0 to 4096"),
         },
         Word {
+            name: "json",
+            kind: Kind::Flag(&[]),
+            help: Some("Print JSON, one object a line"),
+        },
+        Word {
+            name: "lines",
+            kind: Kind::Flag(&["json"]),
+            help: Some("Print lines as compilers do, for editors and build logs"),
+        },
+        Word {
             name: "fail",
             kind: Kind::Flag(&[]),
             help: Some(

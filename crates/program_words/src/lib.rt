@@ -18,7 +18,7 @@ mod workspace_reading;
 pub use program::{LISTED_BEHIND, overview};
 pub use reading::task_of;
 pub use task::{
-    CutTask, DeadlocksTask, Limits, MergeTask, Named, PairTask, RacesForm, ScheduleForm,
-    SessionTask, Task, ThreadsTask, TriageTask,
+    CutTask, DeadlocksForm, DeadlocksTask, Limits, MergeTask, Named, PairTask, RacesForm,
+    ScheduleForm, SessionTask, Task, ThreadsTask, TriageTask,
 };
 pub use told::{Told, no_text};

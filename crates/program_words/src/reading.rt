@@ -6,7 +6,8 @@ use crate::building::words_taken;
 use crate::commands::{CommandName, command_of};
 use crate::merge_reading::merge;
 use crate::task::{
-    CutTask, DeadlocksTask, Limits, PairTask, RacesForm, ScheduleForm, Task, TriageTask,
+    CutTask, DeadlocksForm, DeadlocksTask, Limits, PairTask, RacesForm, ScheduleForm, Task,
+    TriageTask,
 };
 use crate::told::{Told, refused, told_of};
 use crate::values::{Unread, check_inputs, day, is_number, named, number};
@@ -186,6 +187,17 @@ fn triage<'a>(alloc: Global, given: &ArgMatches<'a>, limits: Limits) -> Result<T
     }))
 }
 
+/// The form in which `deadlocks` prints the deadlocks.
+fn deadlocks_form(given: &ArgMatches<'_>) -> DeadlocksForm {
+    if given.get_flag("json") {
+        DeadlocksForm::Json
+    } else if given.get_flag("lines") {
+        DeadlocksForm::Lines
+    } else {
+        DeadlocksForm::Text
+    }
+}
+
 /// Why the number of tries of `deadlocks` is refused.
 const TRIES: &str = "`--tries` takes a number in decimal digits";
 
@@ -204,6 +216,7 @@ fn deadlocks<'a>(alloc: Global, given: &ArgMatches<'a>, limits: Limits) -> Resul
         hide,
         apart: given.get_flag("apart"),
         tries,
+        form: deadlocks_form(given),
         fail: given.get_flag("fail"),
     }))
 }

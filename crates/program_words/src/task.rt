@@ -58,6 +58,17 @@ pub enum RacesForm {
     Sarif,
 }
 
+/// The form in which the deadlocks are printed.
+#[derive(Clone, Copy)]
+pub enum DeadlocksForm {
+    /// Lines of text.
+    Text,
+    /// JSON lines: an object for each line.
+    Json,
+    /// Lines in the form of a compiler's warnings.
+    Lines,
+}
+
 /// What an argument names in a trace.
 #[derive(Clone, Copy)]
 pub enum Named<'a> {
@@ -150,6 +161,8 @@ pub struct DeadlocksTask<'a> {
     pub apart: bool,
     /// How many pairs of requests are tried for a pattern.
     pub tries: u32,
+    /// The form in which they are printed.
+    pub form: DeadlocksForm,
     /// Whether the exit status is 3 if a deadlock is printed, and 4 if the trace has no events.
     pub fail: bool,
 }

@@ -1,5 +1,6 @@
 //! Lists the deadlocks of the trace in a file.
 
+use crate::coding::Code;
 use crate::failing::{NO_TRACE_EVENTS, Unjudged, status_of};
 use crate::input::input_at;
 use crate::marked::tell_mark;
@@ -9,11 +10,13 @@ use crate::telling_triage::tell_deadlockless;
 use calls::BenchFault;
 use calls::triage::{Filters, Judged, Wholeness, read_recording};
 use client_scripts::{FromWrite, ReplayFault, read_input, write_all};
-use deadlock_report::{Known, chosen_of, deadlocks_text, has_pattern, known_of};
+use deadlock_report::{
+    Known, chosen_of, deadlocks_json, deadlocks_lines, deadlocks_text, has_pattern, known_of,
+};
 use deadlock_triage::{Refusal, deadlocks_of};
 use event_index::Indexed;
 use must_order::Analysis;
-use program_words::{DeadlocksTask, RacesForm};
+use program_words::{DeadlocksForm, DeadlocksTask, RacesForm};
 use race_triage::Places;
 use rapid_text::OutOfMemory;
 use std::alloc::Global;
@@ -60,7 +63,7 @@ fn known_at(rt: &HostRuntime, path: Option<&str>) -> Result<Option<Known>, Repla
     Ok(Some(known))
 }
 
-/// The text of the deadlocks of a trace, and how many it lists.
+/// The report on the deadlocks of a trace, and how many it lists.
 fn text_of(
     alloc: Global,
     indexed: &Indexed,
@@ -76,12 +79,33 @@ fn text_of(
     };
     let chosen = chosen_of(alloc, &analysis, &found, known, filters, task.apart)?;
     let mut text = Vec::new(alloc);
-    deadlocks_text(&analysis, &found, &chosen, &mut text)?;
+    match task.form {
+        DeadlocksForm::Text => deadlocks_text(&analysis, &found, &chosen, &mut text)?,
+        DeadlocksForm::Json => deadlocks_json(&analysis, &found, &chosen, &mut text)?,
+        DeadlocksForm::Lines => {
+            let code = Code::none(alloc);
+            deadlocks_lines(&analysis, &chosen, &code.found.folder, &mut text)?;
+        }
+    }
     Ok((text, chosen.deadlocks))
 }
 
-/// Writes the text. If something is missing in the recording, the text says what.
-fn write_listed(rt: &HostRuntime, wholeness: &Wholeness, text: &[u8]) -> Result<(), ReplayFault> {
+/// The form of a report on races that says in the same place what is missing.
+fn like(form: DeadlocksForm) -> RacesForm {
+    match form {
+        DeadlocksForm::Text => RacesForm::Text,
+        DeadlocksForm::Json => RacesForm::Json,
+        DeadlocksForm::Lines => RacesForm::Lines,
+    }
+}
+
+/// Writes the report in this form. If something is missing in the recording, the report says what.
+fn write_listed(
+    rt: &HostRuntime,
+    form: DeadlocksForm,
+    wholeness: &Wholeness,
+    text: &[u8],
+) -> Result<(), ReplayFault> {
     let mut writer = FromWrite::new(io::writer(rt));
     let written = if wholeness.is_whole() {
         match write_all(&mut writer, text) {
@@ -90,7 +114,7 @@ fn write_listed(rt: &HostRuntime, wholeness: &Wholeness, text: &[u8]) -> Result<
         }
     } else {
         let words = wholeness.words().unwrap_or(b"");
-        write_missing(rt.alloc(), RacesForm::Text, words, text, &mut writer)
+        write_missing(rt.alloc(), like(form), words, text, &mut writer)
     };
     written?;
     match writer.flush() {
@@ -108,7 +132,7 @@ fn list_deadlocks(
     known: &Option<Known>,
 ) -> ExitCode {
     match text_of(rt.alloc(), indexed, task, known) {
-        Ok((text, deadlocks)) => match write_listed(rt, wholeness, text.as_slice()) {
+        Ok((text, deadlocks)) => match write_listed(rt, task.form, wholeness, text.as_slice()) {
             Ok(()) => {
                 let judged = Judged {
                     races: deadlocks,

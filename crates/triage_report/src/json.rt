@@ -5,5 +5,6 @@ mod lines;
 mod members;
 mod objects;
 
-pub use lines::triage_json;
-pub use members::{put_number, put_text, put_word};
+pub use accesses::names_of;
+pub use lines::{append_left_out, append_line, triage_json};
+pub use members::{object_with, put_number, put_text, put_word};

@@ -110,8 +110,8 @@ fn locks_of(alloc: Global, analysis: &Analysis<'_>, event: u32) -> Result<Value,
     names_of(alloc, analysis.indexed(), locks.as_slice())
 }
 
-/// The list of the names of the locks.
-fn names_of(alloc: Global, indexed: &Indexed, locks: &[u32]) -> Result<Value, OutOfMemory>
+/// The list of the names of the locks. A lock that the trace lacks has an empty name.
+pub fn names_of(alloc: Global, indexed: &Indexed, locks: &[u32]) -> Result<Value, OutOfMemory>
     ensures { MadeAs result (lock_names indexed.now locks.now) }
 {
     let mut names = Vec::new(alloc);

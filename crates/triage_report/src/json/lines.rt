@@ -87,8 +87,9 @@ fn append_verdict(
     append_line(out, &object)
 }
 
-/// Appends a line with how many verdicts were left out, if there is a number.
-fn append_left_out(out: &mut Vec<u8>, kind: &str, count: Option<u64>) -> Result<(), OutOfMemory>
+/// Appends a line with how many verdicts were left out, if there is a number. If memory runs out, part of the line may be
+/// there. `kind` is `known` or `hidden`.
+pub fn append_left_out(out: &mut Vec<u8>, kind: &str, count: Option<u64>) -> Result<(), OutOfMemory>
     ensures { Appended result out.old out.new (left_out_line kind.now count) }
 {
     match count {
@@ -100,8 +101,9 @@ fn append_left_out(out: &mut Vec<u8>, kind: &str, count: Option<u64>) -> Result<
     }
 }
 
-/// Appends the text of an object, and a line end. The object must have no fraction in it.
-fn append_line(out: &mut Vec<u8>, object: &Value) -> Result<(), OutOfMemory>
+/// Appends the text of an object, and a line end. The object must have no fraction in it. If memory runs out, part of the
+/// text may be there.
+pub fn append_line(out: &mut Vec<u8>, object: &Value) -> Result<(), OutOfMemory>
     requires { has_float (view object.now) ≡ false }
     ensures { Appended result out.old out.new (json_line (view object.now)) }
 {

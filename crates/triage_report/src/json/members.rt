@@ -44,7 +44,7 @@ pub fn put_text(
 }
 
 /// The object with these members and one more.
-pub(crate) fn object_with(
+pub fn object_with(
     alloc: Global,
     mut members: Map<String, Value>,
     name: &str,

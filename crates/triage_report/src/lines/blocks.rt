@@ -37,7 +37,7 @@ pub(crate) fn append_verdict(
 }
 
 /// The place of an event, with the path of its file in the folder.
-fn place_at(
+pub fn place_at(
     out: &Vec<u8>,
     indexed: &Indexed,
     folder: &Folder,
@@ -185,8 +185,8 @@ fn append_access(
     Ok(())
 }
 
-/// Appends the line `event` of an access at this place.
-fn append_about<'a>(
+/// Appends the line `event` of an access at this place. If memory runs out, part of the line may be there.
+pub fn append_about<'a>(
     out: &mut Vec<u8>,
     indexed: &'a Indexed,
     place: &'a [u8],
@@ -226,8 +226,8 @@ fn append_held(
     Ok(())
 }
 
-/// Appends a line for each of the locks.
-fn append_locks(
+/// Appends a line for each of the locks, at this place. If memory runs out, part of the lines may be there.
+pub fn append_locks(
     out: &mut Vec<u8>,
     indexed: &Indexed,
     place: &[u8],

@@ -8,8 +8,9 @@ use explain_report::places::{MAX_CALLS, call_of, cut_at_arrow};
 use rapid_text::OutOfMemory;
 use report::{Piece, append_pieces};
 
-/// Appends a line for each call of the location, 64 at most. `place` is that of the access.
-pub(crate) fn append_calls(
+/// Appends a line for each call of the location, 64 at most. `place` is that of the access. If memory runs out, part of
+/// the lines may be there.
+pub fn append_calls(
     out: &mut Vec<u8>,
     folder: &Folder,
     place: &[u8],
