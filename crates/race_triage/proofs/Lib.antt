@@ -16,6 +16,7 @@ mod PieceLemmas
 mod PlaceLemmas
 mod RowLemmas
 pub mod SameLemmas
+mod SettledLemmas
 pub mod VerdictLemmas
 mod WorkerLemmas
 mod TotalLemmas

@@ -20,17 +20,18 @@ use Rattle.explain_report.specs.declared.verdict.How.{How}
 use Rattle.explain_report.specs.declared.verdict.How.TheVariants.{Candidate, Beyond, Turned}
 use Rattle.explain_report.specs.findings.Findings.{search_limit, IsFoundAs, IsShownAs}
 use Rattle.race_groups.specs.Groups.{IsCountOf}
-use Rattle.race_groups.specs.Kinds.{IsRowAt}
+use Rattle.race_groups.specs.Kinds.{IsNeverShownBetween, IsRowAt}
 use Rattle.race_groups.specs.declared.kinds.Counts.{Counts}
 use Rattle.race_groups.specs.declared.kinds.Row.{Row}
 use Rattle.race_groups.proofs.BuildLemmas.{length-cons}
 use Rattle.race_groups.specs.least_pairs.Order.{IsAhead, IsUpTo}
 use Rattle.race_groups.specs.declared.least_pairs.tries.Between.{Between}
 use Rattle.race_groups.specs.declared.least_pairs.tries.Try.{Try}
-use Rattle.race_groups.specs.least_pairs.Pairs.{AreFirstTries, HasPair, IsLeastPair, IsOf, IsOpenOf}
+use Rattle.race_groups.specs.least_pairs.Pairs.{AreAt, AreFirstTries, HasPair, IsLeastPair, IsOf, IsOpenOf}
 use Rattle.race_groups.specs.declared.least_pairs.wanted.Wanted.{Wanted}
 use Rattle.race_groups.specs.declared.least_pairs.wanted.Wanted.TheVariants.{Candidate as CandidatePair, Open as OpenPair, Any as AnyPair}
-use Rattle.race_triage.specs.Verdicts.{AreMissed, AreTriedInVain, HasOpen, IsFirstFound, IsFirstOfTried, IsFoundBy, IsMissed, IsOutcome, IsOutcomeFor, IsPairApart, IsPairFor, IsShownBy, IsVerdict}
+use Rattle.race_triage.specs.Verdicts.{AreMissed, AreTriedInVain, HasOpen, IsFirstFound, IsFirstOfTried, IsFoundBy, IsMissed, IsOutcome, IsOutcomeFor, IsPairApart, IsPairFor, IsShownBy, IsTold, IsVerdict, named_apart}
+use Rattle.race_triage.specs.Same.{IsSettledAs}
 use Rattle.race_triage.specs.declared.verdicts.Outcome.{Outcome}
 use Rattle.race_triage.specs.declared.verdicts.Outcome.TheVariants.{Race, Undecided, Apart}
 use Rattle.race_triage.specs.declared.verdicts.Verdict.{Verdict}
@@ -276,8 +277,8 @@ module _ (r : Recording) (place : ℕ → ℕ) (tries : ℕ) (apart : Bool) (pla
   least_same : (wanted : Wanted) (p q : ℕ × ℕ) → IsLeastPair r place places wanted (Some p) → IsLeastPair r place places wanted (Some q) → p ≡ q
   least_same wanted p q one other = IsUpTo-antisym p q (one.1 q.1 q.0 other.0) (other.1 p.1 p.0 one.0)
 
-  apart_same : (told : Bool) (p q : ℕ × ℕ) → IsPairApart r place told places p → IsPairApart r place told places q → p ≡ q
-  apart_same true p q one other = least_same AnyPair p q one other
+  apart_same : (told : Bool) (p q : ℕ × ℕ) → IsPairApart r place told places c p → IsPairApart r place told places c q → p ≡ q
+  apart_same true p q one other = least_same (named_apart c) p q one other
   apart_same false p q one other = one ∙ sym other
 
   first_same : (p q : ℕ × ℕ) → IsFirstOfTried r place tries places p → IsFirstOfTried r place tries places q → p ≡ q
@@ -321,51 +322,61 @@ module _ (r : Recording) (place : ℕ → ℕ) (tries : ℕ) (apart : Bool) (pla
   some_or_none : 0 < c.candidates → HasOpen c → ⊥
   some_or_none some has = omega (arith, some, has.0)
 
-  open_or_none : HasOpen c → (c.candidates ≡ 0) × (c.open_pairs ≡ 0) → ⊥
-  open_or_none has none = omega (arith, has.1, none.1)
+  -- a pair that a schedule shows is not never shown
+  shown_or_never : (how : How) (n k : ℕ) (p : ℕ × ℕ) → IsShownBy T p.1 p.0 how n k → AreAt place places p.1 p.0 → IsNeverShownBetween T place places.0 places.1 → ⊥
+  shown_or_never how n k p shown at never = never p.1 p.0 shown.schedule at shown.reordering shown.shows
 
   abbrev Same : ℕ × ℕ → ℕ × ℕ → Outcome → Outcome → Type 0
   Same p q o u = (p ≡ q) × (o ≡ u)
 
+  -- what a verdict says of its outcome
   abbrev Right : ℕ × ℕ → Outcome → Type 0
-  Right p o = IsOutcome r p.1 p.0 o × IsOutcomeFor c o × IsPairFor r place tries apart places p o
+  Right p o = IsOutcome r p.1 p.0 o × IsOutcomeFor c o × IsPairFor r place tries apart places c p o
 
-  outcome_same : (p q : ℕ × ℕ) (o u : Outcome) → Right p o → Right q u → Same p q o u
-  outcome_same p q (Race Candidate n k) (Race Candidate m l) one other =
+  -- a pair that is told is at the two places, and if the places are apart, no pair there is shown
+  abbrev Known : ℕ × ℕ → Outcome → Type 0
+  Known p o = (IsTold apart o → AreAt place places p.1 p.0) × (o ≡ Apart → IsNeverShownBetween T place places.0 places.1)
+
+  -- the one is not apart if the other is undecided
+  abbrev Settled : Outcome → Outcome → Type 0
+  Settled o u = o ≡ Apart → (tried : ℕ) → u ≢ Undecided tried
+
+  outcome_same : (p q : ℕ × ℕ) (o u : Outcome) → Settled o u → Settled u o → Known p o → Known q u → Right p o → Right q u → Same p q o u
+  outcome_same p q (Race Candidate n k) (Race Candidate m l) settled also mine its one other =
       let same = least_same CandidatePair p q one.2 other.2 in
       (same, race_same Candidate n k m l p q same one.0.0 other.0.0)
-  outcome_same p q (Race Candidate n k) (Race Beyond m l) one other = absurd (some_or_none one.1 other.1)
-  outcome_same p q (Race Candidate n k) (Race Turned m l) one other = absurd (some_or_none one.1 other.1)
-  outcome_same p q (Race Candidate n k) (Undecided m) one other = absurd (some_or_none one.1 other.1)
-  outcome_same p q (Race Candidate n k) Apart one other = absurd (omega (arith, one.1, other.1.0))
-  outcome_same p q (Race Beyond n k) (Race Candidate m l) one other = absurd (some_or_none other.1 one.1)
-  outcome_same p q (Race Beyond n k) (Race Beyond m l) one other =
+  outcome_same p q (Race Candidate n k) (Race Beyond m l) settled also mine its one other = absurd (some_or_none one.1 other.1)
+  outcome_same p q (Race Candidate n k) (Race Turned m l) settled also mine its one other = absurd (some_or_none one.1 other.1)
+  outcome_same p q (Race Candidate n k) (Undecided m) settled also mine its one other = absurd (some_or_none one.1 other.1)
+  outcome_same p q (Race Candidate n k) Apart settled also mine its one other = absurd (omega (arith, one.1, other.1))
+  outcome_same p q (Race Beyond n k) (Race Candidate m l) settled also mine its one other = absurd (some_or_none other.1 one.1)
+  outcome_same p q (Race Beyond n k) (Race Beyond m l) settled also mine its one other =
       let same = first_same p q one.2 other.2 in
       (same, race_same Beyond n k m l p q same one.0.0 other.0.0)
-  outcome_same p q (Race Beyond n k) (Race Turned m l) one other =
+  outcome_same p q (Race Beyond n k) (Race Turned m l) settled also mine its one other =
       let same = first_same p q one.2 other.2 in
       absurd (beyond_or_turned p q same one.0.1 other.0.1)
-  outcome_same p q (Race Beyond n k) (Undecided m) one other = absurd (not_vain p m one.2 other.2.1)
-  outcome_same p q (Race Beyond n k) Apart one other = absurd (open_or_none one.1 other.1)
-  outcome_same p q (Race Turned n k) (Race Candidate m l) one other = absurd (some_or_none other.1 one.1)
-  outcome_same p q (Race Turned n k) (Race Beyond m l) one other =
+  outcome_same p q (Race Beyond n k) (Undecided m) settled also mine its one other = absurd (not_vain p m one.2 other.2.1)
+  outcome_same p q (Race Beyond n k) Apart settled also mine its one other = absurd (shown_or_never Beyond n k p one.0.0 (mine.0 tt) (its.1 refl))
+  outcome_same p q (Race Turned n k) (Race Candidate m l) settled also mine its one other = absurd (some_or_none other.1 one.1)
+  outcome_same p q (Race Turned n k) (Race Beyond m l) settled also mine its one other =
       let same = first_same p q one.2 other.2 in
       absurd (beyond_or_turned q p (sym same) other.0.1 one.0.1)
-  outcome_same p q (Race Turned n k) (Race Turned m l) one other =
+  outcome_same p q (Race Turned n k) (Race Turned m l) settled also mine its one other =
       let same = first_same p q one.2 other.2 in
       (same, race_same Turned n k m l p q same one.0.0 other.0.0)
-  outcome_same p q (Race Turned n k) (Undecided m) one other = absurd (not_vain p m one.2 other.2.1)
-  outcome_same p q (Race Turned n k) Apart one other = absurd (open_or_none one.1 other.1)
-  outcome_same p q (Undecided n) (Race Candidate m l) one other = absurd (some_or_none other.1 one.1)
-  outcome_same p q (Undecided n) (Race Beyond m l) one other = absurd (not_vain q n other.2 one.2.1)
-  outcome_same p q (Undecided n) (Race Turned m l) one other = absurd (not_vain q n other.2 one.2.1)
-  outcome_same p q (Undecided n) (Undecided m) one other = (least_same OpenPair p q one.2.0 other.2.0, ap (λ x. Undecided x) (vain_same n m one.2.1 other.2.1))
-  outcome_same p q (Undecided n) Apart one other = absurd (open_or_none one.1 other.1)
-  outcome_same p q Apart (Race Candidate m l) one other = absurd (omega (arith, other.1, one.1.0))
-  outcome_same p q Apart (Race Beyond m l) one other = absurd (open_or_none other.1 one.1)
-  outcome_same p q Apart (Race Turned m l) one other = absurd (open_or_none other.1 one.1)
-  outcome_same p q Apart (Undecided m) one other = absurd (open_or_none other.1 one.1)
-  outcome_same p q Apart Apart one other = (apart_same apart p q one.2 other.2, refl)
+  outcome_same p q (Race Turned n k) (Undecided m) settled also mine its one other = absurd (not_vain p m one.2 other.2.1)
+  outcome_same p q (Race Turned n k) Apart settled also mine its one other = absurd (shown_or_never Turned n k p one.0.0 (mine.0 tt) (its.1 refl))
+  outcome_same p q (Undecided n) (Race Candidate m l) settled also mine its one other = absurd (some_or_none other.1 one.1)
+  outcome_same p q (Undecided n) (Race Beyond m l) settled also mine its one other = absurd (not_vain q n other.2 one.2.1)
+  outcome_same p q (Undecided n) (Race Turned m l) settled also mine its one other = absurd (not_vain q n other.2 one.2.1)
+  outcome_same p q (Undecided n) (Undecided m) settled also mine its one other = (least_same OpenPair p q one.2.0 other.2.0, ap (λ x. Undecided x) (vain_same n m one.2.1 other.2.1))
+  outcome_same p q (Undecided n) Apart settled also mine its one other = absurd (also refl n refl)
+  outcome_same p q Apart (Race Candidate m l) settled also mine its one other = absurd (omega (arith, other.1, one.1))
+  outcome_same p q Apart (Race Beyond m l) settled also mine its one other = absurd (shown_or_never Beyond m l q other.0.0 (its.0 tt) (mine.1 refl))
+  outcome_same p q Apart (Race Turned m l) settled also mine its one other = absurd (shown_or_never Turned m l q other.0.0 (its.0 tt) (mine.1 refl))
+  outcome_same p q Apart (Undecided m) settled also mine its one other = absurd (settled refl m refl)
+  outcome_same p q Apart Apart settled also mine its one other = (apart_same apart p q one.2 other.2, refl)
 
 -- a verdict of these parts
 abbrev made : ℕ → ℕ → Row → ℕ → Outcome → Verdict
@@ -373,8 +384,8 @@ made a b row n o = record { first = a; second = b; row = row; variables = n; out
 
 module _ (r : Recording) (place : ℕ → ℕ) (tries : ℕ) (apart : Bool) (v w : Verdict) (is : IsVerdict r place tries apart v) (also : IsVerdict r place tries apart w) where
   -- right verdicts on the same places are one
-  pub IsVerdict-unique : v.row.places ≡ w.row.places → v ≡ w
-  IsVerdict-unique same =
+  pub IsVerdict-unique : IsSettledAs v w → IsSettledAs w v → v.row.places ≡ w.row.places → v ≡ w
+  IsVerdict-unique settled back same =
       let counts : v.row.counts ≡ w.row.counts =
       counts_same r place w.row.places v.row.counts w.row.counts (subst (λ (p : ℕ × ℕ). IsRowAt r place p v.row.counts) same is.row) also.row
       in
@@ -386,10 +397,14 @@ module _ (r : Recording) (place : ℕ → ℕ) (tries : ℕ) (apart : Bool) (v w
       (subst (λ (p : ℕ × ℕ). IsCountOf (HasPair r place p) (before (length r.variables)) v.variables) same is.variables) also.variables
       in
       let both =
-      outcome_same r place tries apart w.row.places w.row.counts (v.second, v.first) (w.second, w.first) v.outcome w.outcome (
+      outcome_same r place tries apart w.row.places w.row.counts (v.second, v.first) (w.second, w.first) v.outcome w.outcome settled back (
+        λ told. subst (λ (p : ℕ × ℕ). AreAt place p v.first v.second) same (is.pair told).1,
+        λ never. subst (λ (p : ℕ × ℕ). IsNeverShownBetween r.events place p.0 p.1) same (is.never never),
+      ) (λ told. (also.pair told).1, also.never) (
         is.outcome,
         subst (λ (c : Counts). IsOutcomeFor c v.outcome) counts is.counts,
-        subst (λ (p : ℕ × ℕ). IsPairFor r place tries apart p (v.second, v.first) v.outcome) same is.least,
+        subst (λ (c : Counts). IsPairFor r place tries apart w.row.places c (v.second, v.first) v.outcome) counts
+            (subst (λ (p : ℕ × ℕ). IsPairFor r place tries apart p v.row.counts (v.second, v.first) v.outcome) same is.least),
       )
       (also.outcome, also.counts, also.least)
       in

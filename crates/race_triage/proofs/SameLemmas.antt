@@ -17,7 +17,7 @@ use Rattle.race_groups.proofs.RowLemmas.{between_one}
 use Rattle.race_groups.specs.least_pairs.Pairs.{AreAt}
 use Rattle.race_triage.specs.Chosen.{AreChosen, in_order, is_hidden, is_known_race, is_of, is_same, is_told, part_of, told_count}
 use Rattle.race_triage.specs.Pieces.{capped}
-use Rattle.race_triage.specs.Same.{AreRight, TextsAreOne, VerdictsAreOne}
+use Rattle.race_triage.specs.Same.{AreRight, AreSettledAlike, TextsAreOne, VerdictsAreOne}
 use Rattle.race_triage.specs.Texts.{block_texts, left_out_text, totals_text}
 use Rattle.race_triage.specs.Totals.{ArePlacesOf}
 use Rattle.race_triage.specs.Verdicts.{IsTold, IsVerdict}
@@ -60,6 +60,10 @@ told_never apart asked (Race how n k) = tt
 told_never apart asked (Undecided n) = tt
 told_never apart asked Apart = asked
 
+-- the other way round
+turned_alike : (vs ws : List Verdict) → AreSettledAlike vs ws → AreSettledAlike ws vs
+turned_alike vs ws alike w v there in_vs same = let both = alike v w in_vs there (sym same) in (both.1, both.0)
+
 module _ (r : Recording) (place : ℕ → ℕ) (tries : ℕ) (apart : Bool) where
   abbrev T : List Event
   T = r.events
@@ -71,8 +75,8 @@ module _ (r : Recording) (place : ℕ → ℕ) (tries : ℕ) (apart : Bool) wher
       ap (λ x. (x, v.row.places.1)) both.0 ∙ ap (λ y. (w.row.places.0, y)) both.1
 
   -- each verdict of the one list stands in the other
-  pub told_in : (vs ws : List Verdict) → AreRight r place tries apart vs → AreRight r place tries apart ws → (v : Verdict) → Contains vs v → Contains ws v
-  told_in vs ws one other v there =
+  pub told_in : (vs ws : List Verdict) → AreRight r place tries apart vs → AreRight r place tries apart ws → AreSettledAlike vs ws → (v : Verdict) → Contains vs v → Contains ws v
+  told_in vs ws one other alike v there =
       let is = All-contains (IsVerdict r place tries apart) vs v one.verdicts there in
       let c = is.there in
       let found =
@@ -82,7 +86,8 @@ module _ (r : Recording) (place : ℕ → ℕ) (tries : ℕ) (apart : Bool) wher
       let w : Verdict = found.0 in
       let also = All-contains (IsVerdict r place tries apart) ws w other.verdicts found.1 in
       let same = same_places_of v w c.first c.second is also c.between found.2 in
-      subst (Contains ws) (sym (IsVerdict-unique r place tries apart v w is also same)) found.1
+      let settled = alike v w there found.1 same in
+      subst (Contains ws) (sym (IsVerdict-unique r place tries apart v w is also settled.0 settled.1 same)) found.1
 
   module _ (vs : List Verdict) (right : AreRight r place tries apart vs) where
     abbrev Strict : Verdict → Verdict → Type 0
@@ -115,16 +120,17 @@ module _ (r : Recording) (place : ℕ → ℕ) (tries : ℕ) (apart : Bool) wher
         (told (get_or kept i d) (All-get_or (λ (v : Verdict). is_of p v ≡ true) kept i d (omega (arith, lt, le)) passes))
         (told (get_or kept j d) (All-get_or (λ (v : Verdict). is_of p v ≡ true) kept j d le passes))
 
-  module _ (vs ws : List Verdict) (one : AreRight r place tries apart vs) (other : AreRight r place tries apart ws) where
-    kept_in : (us xs : List Verdict) → AreRight r place tries apart us → AreRight r place tries apart xs → (p : Part) (v : Verdict) → Contains (filter (is_of p) us) v → Contains (filter (is_of p) xs) v
-    kept_in us xs a b p v there =
-        into_filter (is_of p) xs v (told_in us xs a b v (from_filter (is_of p) us v there))
+  module _ (vs ws : List Verdict) (one : AreRight r place tries apart vs) (other : AreRight r place tries apart ws) (alike : AreSettledAlike vs ws) where
+    kept_in : (us xs : List Verdict) → AreRight r place tries apart us → AreRight r place tries apart xs → AreSettledAlike us xs → (p : Part) (v : Verdict) → Contains (filter (is_of p) us) v
+        → Contains (filter (is_of p) xs) v
+    kept_in us xs a b both p v there =
+        into_filter (is_of p) xs v (told_in us xs a b both v (from_filter (is_of p) us v there))
         (All-contains (λ (w : Verdict). is_of p w ≡ true) (filter (is_of p) us) v (filter_passes (is_of p) us) there)
 
     -- each part is one list
     part_same : (p : Part) → ((v : Verdict) → is_of p v ≡ true → IsTold apart v.outcome) → filter (is_of p) vs ≡ filter (is_of p) ws
     part_same p told =
-        one_rising IsBefore before_apart (filter (is_of p) vs) (filter (is_of p) ws) (part_rises vs one p told) (part_rises ws other p told) (kept_in vs ws one other p) (kept_in ws vs other one p)
+        one_rising IsBefore before_apart (filter (is_of p) vs) (filter (is_of p) ws) (part_rises vs one p told) (part_rises ws other p told) (kept_in vs ws one other alike p) (kept_in ws vs other one (turned_alike vs ws alike) p)
 
     races_same : filter (is_of Races) vs ≡ filter (is_of Races) ws
     races_same = part_same Races (λ v. told_race apart v.outcome)
@@ -194,8 +200,8 @@ totals_same t u e0 e1 e2 e3 e4 e5 e6 e7 e8 e9 e10 =
     ∙ ap (λ n. made u.events u.threads u.pairs u.candidates u.open_pairs u.guarded u.forced u.places u.races u.undecided n) e10
 
 pub one_law : VerdictsAreOne
-one_law r place tries apart vs ws legal one other = (
-  in_order_same r place tries apart vs ws one other,
+one_law r place tries apart vs ws legal one other alike = (
+  in_order_same r place tries apart vs ws one other alike,
   λ t u are these.
       let mine = totals_law r place tries apart vs t legal.0 legal.1 one.verdicts one.complete one.once one.few are in
       let its = totals_law r place tries apart ws u legal.0 legal.1 other.verdicts other.complete other.once other.few these in
@@ -205,9 +211,9 @@ one_law r place tries apart vs ws legal one other = (
       let up = places_le r.events place mine.places its.places mine.are_places its.are_places in
       let down = places_le r.events place its.places mine.places its.are_places mine.are_places in
       let places : t.places ≡ u.places = omega (arith, up, down, mine.count, its.count) in
-      let races : t.races ≡ u.races = are.races ∙ ap capped (counted_same r place tries apart vs ws one other Races (races_same r place tries apart vs ws one other)) ∙ sym these.races in
+      let races : t.races ≡ u.races = are.races ∙ ap capped (counted_same r place tries apart vs ws one other alike Races (races_same r place tries apart vs ws one other alike)) ∙ sym these.races in
       let opens : t.undecided ≡ u.undecided =
-      are.undecided ∙ ap capped (counted_same r place tries apart vs ws one other Open (open_same r place tries apart vs ws one other)) ∙ sym these.undecided
+      are.undecided ∙ ap capped (counted_same r place tries apart vs ws one other alike Open (open_same r place tries apart vs ws one other alike)) ∙ sym these.undecided
       in
       totals_same t u (mine.events ∙ sym its.events) (mine.threads ∙ sym its.threads) (mine.pairs ∙ sym its.pairs) (kind Candidate t.candidates u.candidates mine.candidates its.candidates)
       (kind OpenKind t.open_pairs u.open_pairs mine.open_pairs its.open_pairs)
@@ -242,8 +248,8 @@ printed r t vs known hidden =
     totals_text t ++ block_texts r vs ++ left_out_text (codes "known") known ++ left_out_text (codes "hidden") hidden
 
 pub texts_law : TextsAreOne
-texts_law r place tries apart known only hide vs ws c d text other legal one two chosen also told another =
-    let law = one_law r place tries apart vs ws legal one two in
+texts_law r place tries apart known only hide vs ws c d text other legal one two alike chosen also told another =
+    let law = one_law r place tries apart vs ws legal one two alike in
     let totals = law.1 told.totals another.totals told.counted another.counted in
     let same = chosen_same r known only hide apart vs ws c d law.0 chosen also in
     told.printed

@@ -28,7 +28,7 @@ module _
   pub IsVerdict-made :
       a < length r.events → b < length r.events → IsRow r place row → HaveConflict r.events place row.places → (IsTold apart o → IsPair r.events a b × AreAt place row.places a b)
       → IsOutcome r a b o → IsOutcomeFor row.counts o → (o ≡ Apart → IsNeverShownBetween r.events place row.places.0 row.places.1)
-      → IsCountOf (HasPair r place row.places) (before (length r.variables)) n → IsPairFor r place tries apart row.places (b, a) o
+      → IsCountOf (HasPair r place row.places) (before (length r.variables)) n → IsPairFor r place tries apart row.places row.counts (b, a) o
       → IsVerdictOn r place tries apart row v
   IsVerdict-made first second counted there pair shown counts never variables least = (
     record {
@@ -48,10 +48,10 @@ module _
       never = λ is. subst (λ (w : Row). IsNeverShownBetween r.events place w.places.0 w.places.1) (sym at_row) (never (sym at_outcome ∙ is));
       variables = subst (IsCountOf (HasPair r place v.row.places) (before (length r.variables))) (sym at_variables)
           (subst (λ (w : Row). IsCountOf (HasPair r place w.places) (before (length r.variables)) n) (sym at_row) variables);
-      least = subst (IsPairFor r place tries apart v.row.places (v.second, v.first)) (sym at_outcome)
-          (subst (λ (w : Row). IsPairFor r place tries apart w.places (v.second, v.first) o) (sym at_row)
-          (subst (λ (k : ℕ). IsPairFor r place tries apart row.places (v.second, k) o) (sym at_first)
-          (subst (λ (k : ℕ). IsPairFor r place tries apart row.places (k, a) o) (sym at_second) least)));
+      least = subst (IsPairFor r place tries apart v.row.places v.row.counts (v.second, v.first)) (sym at_outcome)
+          (subst (λ (w : Row). IsPairFor r place tries apart w.places w.counts (v.second, v.first) o) (sym at_row)
+          (subst (λ (k : ℕ). IsPairFor r place tries apart row.places row.counts (v.second, k) o) (sym at_first)
+          (subst (λ (k : ℕ). IsPairFor r place tries apart row.places row.counts (k, a) o) (sym at_second) least)));
     },
     at_row,
   )
@@ -100,13 +100,13 @@ module _ (r : Recording) (a b : ℕ) (c : Counts) where
 
   -- the pair that is told of it
   module _ (place : ℕ → ℕ) (tries : ℕ) (apart : Bool) (places : ℕ × ℕ) where
-    pub candidate_pair : (o : Outcome) → IsRaceOf r a b Candidate o → IsLeastPair r place places CandidatePair (Some (b, a)) → IsPairFor r place tries apart places (b, a) o
-    candidate_pair o is least = subst (IsPairFor r place tries apart places (b, a)) (sym is.2) least
+    pub candidate_pair : (o : Outcome) → IsRaceOf r a b Candidate o → IsLeastPair r place places CandidatePair (Some (b, a)) → IsPairFor r place tries apart places c (b, a) o
+    candidate_pair o is least = subst (IsPairFor r place tries apart places c (b, a)) (sym is.2) least
 
-    pub open_pair : (o : Outcome) → IsOpenRace r a b o → IsFirstOfTried r place tries places (b, a) → IsPairFor r place tries apart places (b, a) o
+    pub open_pair : (o : Outcome) → IsOpenRace r a b o → IsFirstOfTried r place tries places (b, a) → IsPairFor r place tries apart places c (b, a) o
     open_pair o is first = elim is [
-      | inl beyond ↦ subst (IsPairFor r place tries apart places (b, a)) (sym beyond.2) first
-      | inr turned ↦ subst (IsPairFor r place tries apart places (b, a)) (sym turned.2) first
+      | inl beyond ↦ subst (IsPairFor r place tries apart places c (b, a)) (sym beyond.2) first
+      | inr turned ↦ subst (IsPairFor r place tries apart places c (b, a)) (sym turned.2) first
     ]
 
   pub open_is_not_apart : (o : Outcome) → IsOpenRace r a b o → o ≢ Apart

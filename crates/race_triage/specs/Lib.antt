@@ -6,6 +6,7 @@ pub mod Located
 pub mod Pieces
 pub mod Places
 pub mod Same
+pub mod Settled
 pub mod Tables
 pub mod Texts
 pub mod Totals

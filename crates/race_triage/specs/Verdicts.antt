@@ -1,7 +1,7 @@
 -- What a verdict says about a pair of locations, and about the pair of events that it names. `T` is the events of a
 -- trace, and `r` is its recording. `place` gives the number of each event's location. All notions here are this
 -- project's own.
-use Rattle.std.specs.Prelude.{◌≡◌, ◌≢◌, ◌⊎◌, ℕ, ◌<◌, ◌≤◌, ◌%◌, ◌/◌, ◌==◌, ◌&&◌, nat_lt, max, min, count_by, Bool, true, false, List, [], ◌∷◌, ◌++◌, All, AllPairs, Contains, length, take, slice_get, slice_index, slice_index_or, Option, Some, None, Result, IfOk, ⊤}
+use Rattle.std.specs.Prelude.{◌≡◌, ◌≢◌, ◌⊎◌, ℕ, ◌<◌, ◌≤◌, ◌%◌, ◌/◌, ◌==◌, ◌&&◌, nat_lt, cond, max, min, count_by, Bool, true, false, List, [], ◌∷◌, ◌++◌, All, AllPairs, Contains, length, take, slice_get, slice_index, slice_index_or, Option, Some, None, Result, IfOk, ⊤}
 use Rattle.rapid_text.specs.Recording.{Recording}
 use Rattle.rapid_text.specs.declared.event.Event.{Event}
 use Rattle.event_index.specs.Lookups.{before}
@@ -24,6 +24,7 @@ use Rattle.race_groups.specs.declared.kinds.Row.{Row}
 use Rattle.race_groups.specs.least_pairs.Pairs.{AreAt, AreFirstTries, AreLeasts, HasPair, IsLeastPair, IsPair}
 use Rattle.race_groups.specs.declared.least_pairs.least.Least.{Least}
 use Rattle.race_groups.specs.declared.least_pairs.tries.Try.{Try}
+use Rattle.race_groups.specs.declared.least_pairs.wanted.Wanted.{Wanted}
 use Rattle.race_groups.specs.declared.least_pairs.wanted.Wanted.TheVariants.{Candidate as CandidatePair, Open as OpenPair, Any as AnyPair}
 use Rattle.race_triage.specs.Tables.{AreTables}
 use Rattle.race_triage.specs.declared.found.Found.{Found}
@@ -61,13 +62,13 @@ IsOutcome r a b Apart = ⊤
 abbrev pub HasOpen : Counts → Type 0
 HasOpen c = (c.candidates ≡ 0) × (0 < c.open_pairs)
 
--- Which outcome fits which counts. If there is a candidate, it is a race. If there are only open pairs, it is a race
--- or undecided. Otherwise the two locations are apart.
+-- Which outcome fits which counts. If there is a candidate, it is a race. If there are only open pairs, it is a race,
+-- undecided, or apart. Otherwise the two locations are apart.
 abbrev pub IsOutcomeFor : Counts → Outcome → Type 0
 IsOutcomeFor c (Race Candidate events threads) = 0 < c.candidates
 IsOutcomeFor c (Race how events threads) = HasOpen c
 IsOutcomeFor c (Undecided tried) = HasOpen c
-IsOutcomeFor c Apart = (c.candidates ≡ 0) × (c.open_pairs ≡ 0)
+IsOutcomeFor c Apart = c.candidates ≡ 0
 
 -- the verdict names two events; an apart verdict does so only on request
 abbrev pub IsTold : Bool → Outcome → Type 0
@@ -144,19 +145,23 @@ pub record AreTriedInVain (r : Recording) (place : ℕ → ℕ) (tries : ℕ) (p
   pub left : ℕ
   pub none : AreMissed r.events budget tried left
 
--- an apart verdict names the least conflicting pair, or 0 and 0 if it was not requested
-abbrev pub IsPairApart : Recording → (ℕ → ℕ) → Bool → ℕ × ℕ → ℕ × ℕ → Type 0
-IsPairApart r place true places pair = IsLeastPair r place places AnyPair (Some pair)
-IsPairApart r place false places pair = pair ≡ (0, 0)
+-- of which pairs an apart verdict names the least: of the open pairs if there are any, else of all
+abbrev pub named_apart : Counts → Wanted
+named_apart c = cond (nat_lt 0 c.open_pairs) OpenPair AnyPair
+
+-- an apart verdict names the least such pair, or 0 and 0 if it was not requested
+abbrev pub IsPairApart : Recording → (ℕ → ℕ) → Bool → ℕ × ℕ → Counts → ℕ × ℕ → Type 0
+IsPairApart r place true places c pair = IsLeastPair r place places (named_apart c) (Some pair)
+IsPairApart r place false places c pair = pair ≡ (0, 0)
 
 -- Which pair a verdict names, the later event first. With a candidate it is the least candidate. For another race it
 -- is the first tried pair for which a schedule was found. For an undecided verdict it is the least open pair.
-abbrev pub IsPairFor : Recording → (ℕ → ℕ) → ℕ → Bool → ℕ × ℕ → ℕ × ℕ → Outcome → Type 0
-IsPairFor r place tries apart places pair (Race Candidate events threads) = IsLeastPair r place places CandidatePair (Some pair)
-IsPairFor r place tries apart places pair (Race how events threads) = IsFirstOfTried r place tries places pair
-IsPairFor r place tries apart places pair (Undecided tried) =
+abbrev pub IsPairFor : Recording → (ℕ → ℕ) → ℕ → Bool → ℕ × ℕ → Counts → ℕ × ℕ → Outcome → Type 0
+IsPairFor r place tries apart places c pair (Race Candidate events threads) = IsLeastPair r place places CandidatePair (Some pair)
+IsPairFor r place tries apart places c pair (Race how events threads) = IsFirstOfTried r place tries places pair
+IsPairFor r place tries apart places c pair (Undecided tried) =
     IsLeastPair r place places OpenPair (Some pair) × AreTriedInVain r place tries places tried
-IsPairFor r place tries apart places pair Apart = IsPairApart r place apart places pair
+IsPairFor r place tries apart places c pair Apart = IsPairApart r place apart places c pair
 
 -- What holds for each verdict, if the first `tries` open pairs of two locations are tried.
 pub record IsVerdict (r : Recording) (place : ℕ → ℕ) (tries : ℕ) (apart : Bool) (v : Verdict) : Type 0 where
@@ -173,7 +178,7 @@ pub record IsVerdict (r : Recording) (place : ℕ → ℕ) (tries : ℕ) (apart 
   pub never : v.outcome ≡ Apart → IsNeverShownBetween r.events place v.row.places.0 v.row.places.1
   -- This many variables have a candidate or an open pair at the two locations.
   pub variables : IsCountOf (HasPair r place v.row.places) (before (length r.variables)) v.variables
-  pub least : IsPairFor r place tries apart v.row.places (v.second, v.first) v.outcome
+  pub least : IsPairFor r place tries apart v.row.places v.row.counts (v.second, v.first) v.outcome
 
 -- what holds for the verdict on a row
 abbrev pub IsVerdictOn : Recording → (ℕ → ℕ) → ℕ → Bool → Row → Verdict → Type 0

@@ -8,8 +8,10 @@ ghost use Rattle.race_triage.specs.Verdicts.{IsFoundIn, IsUsualVerdict, IsVerdic
 ghost use Rattle.rapid_text.specs.Appended.{IfFound};
 
 use crate::found::{Found, found_of};
+use crate::settling::settled;
 use crate::tables::Tables;
 use crate::verdicts::{Effort, TriageRefusal, Verdict};
+use closed_order::{Closing, USUAL_WORK};
 use must_order::Analysis;
 use race_groups::Classes;
 use rapid_text::OutOfMemory;
@@ -46,12 +48,17 @@ pub fn verdict_between(
         classes: &classes,
         places,
     };
-    verdict_by(tables, between)
+    verdict_by(analysis, tables, between)
 }
 
 // The same, given the tables of the trace.
-fn verdict_by(tables: Tables<'_>, between: (u32, u32)) -> Result<Option<Verdict>, OutOfMemory>
+fn verdict_by(
+    analysis: &Analysis<'_>,
+    tables: Tables<'_>,
+    between: (u32, u32),
+) -> Result<Option<Verdict>, OutOfMemory>
     requires tables { AreTables tables }
+    requires trace { analysis.now ≡ tables.indexed.now }
     requires few { (e : ℕ) → slice_index tables.places.now e < 3 }
     ensures verdict { IfFound result (IsUsualVerdict tables.entry) }
     ensures between { IfFound result (λ v. is_between v.row.places.0 v.row.places.1 between.0 between.1 ≡ true) }
@@ -63,22 +70,30 @@ fn verdict_by(tables: Tables<'_>, between: (u32, u32)) -> Result<Option<Verdict>
         workers: 0,
     };
     match found_of(tables, effort) {
-        Ok(found) => verdict_in(&found, between),
+        Ok(found) => verdict_in(analysis, &found, between),
         Err(TriageRefusal::OutOfMemory) => Err(OutOfMemory),
         Err(TriageRefusal::TooMany) => unreachable!(),
     }
 }
 
 // The same, given what was found for all pairs of locations.
-fn verdict_in(found: &Found<'_>, between: (u32, u32)) -> Result<Option<Verdict>, OutOfMemory>
+fn verdict_in(
+    analysis: &Analysis<'_>,
+    found: &Found<'_>,
+    between: (u32, u32),
+) -> Result<Option<Verdict>, OutOfMemory>
     requires found { IsFoundIn found.now }
+    requires trace { analysis.now ≡ found.now.tables.indexed.now }
     requires complete { AreCompleteIn found.now.tables found.now.groups.rows.items }
     ensures verdict { IfFound result (IsVerdictOf found.now) }
     ensures between { IfFound result (λ v. is_between v.row.places.0 v.row.places.1 between.0 between.1 ≡ true) }
     ensures none { result ≡ Ok None → ¬ HasConflictIn found.now.tables between }
 {
     match found.groups.row_of(between.0, between.1) {
-        Some(at) => Ok(Some(found.verdict(at)?)),
+        Some(at) => {
+            let mut closing = Closing::new(USUAL_WORK);
+            Ok(Some(settled(found, analysis, &mut closing, found.verdict(at)?)?))
+        }
         None => Ok(None),
     }
 }

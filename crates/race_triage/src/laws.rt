@@ -7,13 +7,14 @@ pub fn totals_are_of_the_trace()
     ensures { TotalsAreOfTheTrace }
 {}
 
-/// Two correct lists of verdicts on a trace have the same verdicts in the same order, and the same counts.
+/// Two correct lists of verdicts on a trace that settled the same rows have the same verdicts in the same order, and the
+/// same counts.
 pub fn verdicts_are_one()
     ensures { VerdictsAreOne }
 {}
 
-/// So there is only one text. It depends on the trace, the known races and the options, and not on who found the
-/// verdicts.
+/// So there is only one text. It depends on the trace, the known races, the options and which rows are settled, and not
+/// on who found the verdicts.
 pub fn texts_are_one()
     ensures { TextsAreOne }
 {}

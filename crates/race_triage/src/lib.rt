@@ -14,6 +14,7 @@ mod located;
 mod outcomes;
 mod pieces;
 mod places;
+mod settling;
 mod tables;
 mod text;
 mod totals;

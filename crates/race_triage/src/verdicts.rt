@@ -1,16 +1,18 @@
 //! Gives a verdict on each pair of locations.
-ghost use Rattle.std.specs.Prelude.{◌≡◌, ◌≤◌, All, Err, IfOk, length};
+ghost use Rattle.std.specs.Prelude.{◌≡◌, ◌≤◌, Err, IfOk, length};
 ghost use Rattle.race_triage.specs.Located.{IsLocated};
 ghost use Rattle.race_triage.specs.Places.{AreFirstUsesOf, AreNumbers, AreSpotsOf};
 ghost use Rattle.race_triage.specs.Limits.{place_pair_limit};
+ghost use Rattle.race_triage.specs.Settled.{AreCorrect};
 ghost use Rattle.race_triage.specs.Tables.{AreTables, HaveTooManyPlaces};
 ghost use Rattle.race_triage.specs.Triaged.{AreAllToldAt, AreAllToldOf, AreCountedOf, AreTooManyAt, AreVerdictsAt, AreVerdictsOf, IsCrowded};
-ghost use Rattle.race_triage.specs.Verdicts.{AreAllToldIn, AreOnceTold, AreRising, AreVerdictsIn, IsVerdictOf};
+ghost use Rattle.race_triage.specs.Verdicts.{AreAllToldIn, AreOnceTold, AreRising, AreVerdictsIn, IsFoundIn};
 
 use crate::found::{Found, found_by_workers};
 use crate::laws::totals_are_of_the_trace;
 use crate::located::Located;
 use crate::places::Places;
+use crate::settling::{is_undecided, settle_all};
 use crate::tables::Tables;
 use crate::watch::Watch;
 use crate::workers::all_verdicts;
@@ -81,12 +83,13 @@ pub enum Outcome {
         /// How many threads have events in the schedule.
         threads: u32,
     },
-    /// There are open pairs of events, and no schedule was found for any pair that was tried.
+    /// There are open pairs of events. No schedule was found for any pair that was tried, and not all are known to be
+    /// contradicted.
     Undecided {
         /// How many pairs were tried.
         tried: u32,
     },
-    /// All pairs of events are forced or guarded.
+    /// All pairs of events are forced, guarded or contradicted.
     Apart,
 }
 
@@ -127,7 +130,8 @@ pub struct Effort {
 }
 
 /// Returns a verdict for each pair of locations with conflicting events. If a pair has open pairs of events and no
-/// candidate, tries the `tries` least open ones. `located` has the locations of the trace. The result is the same for
+/// candidate, tries the `tries` least open ones. If that finds nothing, it looks for a contradiction of each open pair,
+/// unless `tries` is 0; all pairs of locations share one budget. `located` has the locations of the trace. The result is the same for
 /// any number of workers. `watch` hears of each verdict.
 pub fn triage<R: Threads + Sync, W: Watch + Sync>(
     rt: &R,
@@ -194,17 +198,19 @@ fn verdicts_at<R: Threads + Sync, W: Watch + Sync>(
         classes: &located.classes,
         places: located.places.numbers.as_slice(),
     };
-    verdicts_by(rt, tables, effort, watch)
+    verdicts_by(rt, analysis, tables, effort, watch)
 }
 
 // The verdicts, given the tables of the trace.
 fn verdicts_by<R: Threads + Sync, W: Watch + Sync>(
     rt: &R,
+    analysis: &Analysis<'_>,
     tables: Tables<'_>,
     effort: Effort,
     watch: &W,
 ) -> Result<Vec<Verdict>, TriageRefusal>
     requires tables { AreTables tables }
+    requires trace { analysis.now ≡ tables.indexed.now }
     ensures verdicts { IfOk result (λ vs. AreVerdictsIn tables.entry effort vs.items) }
     ensures complete { IfOk result (λ vs. AreAllToldIn tables.entry vs.items) }
     ensures once { IfOk result (λ vs. AreOnceTold vs.items) }
@@ -214,24 +220,42 @@ fn verdicts_by<R: Threads + Sync, W: Watch + Sync>(
 {
     let found = found_by_workers(rt, tables, effort)?;
     match all_verdicts(rt, &found, watch) {
-        Ok(mut verdicts) => {
-            sort(&found, &mut verdicts);
-            Ok(verdicts)
-        }
+        Ok(verdicts) => Ok(in_order(&found, analysis, verdicts)?),
         Err(_) => Err(TriageRefusal::OutOfMemory),
     }
 }
 
+// Sorts the verdicts, and settles those that are undecided. Their order does not depend on the number of workers.
+fn in_order(
+    found: &Found<'_>,
+    analysis: &Analysis<'_>,
+    verdicts: Vec<Verdict>,
+) -> Result<Vec<Verdict>, OutOfMemory>
+    requires found { IsFoundIn found.now }
+    requires trace { analysis.now ≡ found.now.tables.indexed.now }
+    requires verdicts { AreCorrect found.now verdicts.items }
+    ensures verdicts { IfOk result (λ vs. AreCorrect found.now vs.items) }
+    ensures rising { IfOk result (λ vs. AreRising vs.items) }
+{
+    let mut verdicts = verdicts;
+    sort(found, &mut verdicts);
+    if are_decided(verdicts.as_slice()) {
+        return Ok(verdicts);
+    }
+    settle_all(found, analysis, &mut verdicts)?;
+    sort(found, &mut verdicts);
+    Ok(verdicts)
+}
+
+// Whether no verdict is undecided.
+fn are_decided(verdicts: &[Verdict]) -> bool {
+    !verdicts.iter().any(|verdict| is_undecided(verdict.outcome))
+}
+
 // Sorts the verdicts by their later event, and then by the earlier one.
 fn sort(_found: &Found<'_>, verdicts: &mut Vec<Verdict>)
-    requires verdicts { All (IsVerdictOf _found.now) verdicts.old.items }
-    requires complete { AreAllToldIn _found.now.tables verdicts.old.items }
-    requires once { AreOnceTold verdicts.old.items }
-    requires few { length verdicts.old.items ≤ place_pair_limit }
-    ensures verdicts { All (IsVerdictOf _found.now) verdicts.new.items }
-    ensures complete { AreAllToldIn _found.now.tables verdicts.new.items }
-    ensures once { AreOnceTold verdicts.new.items }
-    ensures few { length verdicts.new.items ≤ place_pair_limit }
+    requires { AreCorrect _found.now verdicts.old.items }
+    ensures verdicts { AreCorrect _found.now verdicts.new.items }
     ensures rising { AreRising verdicts.new.items }
 {
     let _len = _found.tables.indexed.len();

@@ -12,7 +12,7 @@ use Rattle.triage_report.specs.lines.Lines.{all_lines, IsLinesText}
 use Rattle.triage_report.specs.json.Objects.{counts_object}
 use Rattle.race_triage.specs.Chosen.{is_known, AreChosen}
 use Rattle.race_triage.specs.Places.{texts_of}
-use Rattle.race_triage.specs.Same.{AreRight, IsLegal}
+use Rattle.race_triage.specs.Same.{AreRight, AreSettledAlike, IsLegal}
 use Rattle.race_triage.specs.Texts.{IsTriageText}
 use Rattle.race_triage.specs.declared.chosen.Chosen.{Chosen}
 use Rattle.race_triage.specs.declared.totals.Totals.{Totals}
@@ -30,14 +30,14 @@ abbrev json_printed : Recording → Totals → List Verdict → Option ℕ → O
 json_printed r t vs known hidden =
     json_line (counts_object t) ++ verdict_lines r vs ++ left_out_line (codes "known") known ++ left_out_line (codes "hidden") hidden
 
-module _ (r : Recording) (place : ℕ → ℕ) (tries : ℕ) (apart : Bool) (legal : IsLegal r) (vs ws : List Verdict) (one : AreRight r place tries apart vs) (other : AreRight r place tries apart ws)
+module _ (r : Recording) (place : ℕ → ℕ) (tries : ℕ) (apart : Bool) (legal : IsLegal r) (vs ws : List Verdict) (one : AreRight r place tries apart vs) (other : AreRight r place tries apart ws) (alike : AreSettledAlike vs ws)
     (known : Option (List (ℕ × ℕ))) (only hide : List (List ℕ)) (c d : Chosen) (chosen : AreChosen r known only hide apart vs c) (also : AreChosen r known only hide apart ws d) where
   same_choice : IsSameChoice c d
-  same_choice = chosen_same r known only hide apart vs ws c d (one_law r place tries apart vs ws legal one other).0 chosen also
+  same_choice = chosen_same r known only hide apart vs ws c d (one_law r place tries apart vs ws legal one other alike).0 chosen also
 
   json_same : (text words : List ℕ) → IsTriageJson r vs c text → IsTriageJson r ws d words → text ≡ words
   json_same text words told another =
-      let totals = (one_law r place tries apart vs ws legal one other).1 told.totals another.totals told.counted another.counted in
+      let totals = (one_law r place tries apart vs ws legal one other alike).1 told.totals another.totals told.counted another.counted in
       told.printed
       ∙ ap (λ (t : Totals). json_printed r t c.verdicts.items c.known c.hidden) totals
       ∙ ap (λ (l : List Verdict). json_printed r another.totals l c.known c.hidden) same_choice.verdicts
@@ -52,7 +52,7 @@ module _ (r : Recording) (place : ℕ → ℕ) (tries : ℕ) (apart : Bool) (leg
   entries_same numbers text words told another = told ∙ ap (λ (l : List Verdict). concat (race_entries r numbers l)) same_choice.verdicts ∙ sym another
 
   text_same : (text words : List ℕ) → IsTriageText r vs c text → IsTriageText r ws d words → text ≡ words
-  text_same text words told another = texts_law r place tries apart known only hide vs ws c d text words legal one other chosen also told another
+  text_same text words told another = texts_law r place tries apart known only hide vs ws c d text words legal one other alike chosen also told another
 
 -- what is known is known in both
 given_same :
@@ -77,7 +77,7 @@ known_as_listed r keys ls numbers ns same given None none vs ws known other (min
 known_as_listed r keys ls numbers ns same given (Some es) none vs ws known other one two = absurd (cc none)
 
 module _ (r : Recording) (numbers : List ℕ) (legal : IsLegal r) (asked : Asked) (workers : ℕ) (known other : Option (List (ℕ × ℕ))) (some : is_some known ≡ is_some other)
-    (same : (v : Verdict) → is_known known v ≡ is_known other v) (vs ws : List Verdict) (one : AreRight r (slice_index numbers) asked.tries asked.apart vs) (two : AreRight r (slice_index numbers) asked.tries asked.apart ws)
+    (same : (v : Verdict) → is_known known v ≡ is_known other v) (vs ws : List Verdict) (one : AreRight r (slice_index numbers) asked.tries asked.apart vs) (two : AreRight r (slice_index numbers) asked.tries asked.apart ws) (alike : AreSettledAlike vs ws)
     (races others : ℕ) (text words : List ℕ) where
   -- the second choice, by what is known in the first
   chosen_by : (d : Chosen) → AreChosen r other (only_of asked) (hide_of asked) asked.apart ws d → AreChosen r known (only_of asked) (hide_of asked) asked.apart ws d
@@ -86,15 +86,15 @@ module _ (r : Recording) (numbers : List ℕ) (legal : IsLegal r) (asked : Asked
   races_same : (c d : Chosen) → AreChosen r known (only_of asked) (hide_of asked) asked.apart vs c → AreChosen r other (only_of asked) (hide_of asked) asked.apart ws d
       → races ≡ c.races → others ≡ d.races → races ≡ others
   races_same c d chosen also mine its =
-      mine ∙ (same_choice r (slice_index numbers) asked.tries asked.apart legal vs ws one two known (only_of asked) (hide_of asked) c d chosen (chosen_by d also)).races ∙ sym its
+      mine ∙ (same_choice r (slice_index numbers) asked.tries asked.apart legal vs ws one two alike known (only_of asked) (hide_of asked) c d chosen (chosen_by d also)).races ∙ sym its
 
   text_same_in : (form : Form) → IsLines form
       → (c d : Chosen) → AreChosen r known (only_of asked) (hide_of asked) asked.apart vs c → AreChosen r other (only_of asked) (hide_of asked) asked.apart ws d
       → IsTextOf form r numbers asked.apart vs c text → IsTextOf form r numbers asked.apart ws d words → text ≡ words
-  text_same_in Text lines c d chosen also told another = text_same r (slice_index numbers) asked.tries asked.apart legal vs ws one two known (only_of asked) (hide_of asked) c d chosen (chosen_by d also) text words told another
-  text_same_in Json lines c d chosen also told another = json_same r (slice_index numbers) asked.tries asked.apart legal vs ws one two known (only_of asked) (hide_of asked) c d chosen (chosen_by d also) text words told another
-  text_same_in (Lines folder) lines c d chosen also told another = lines_same r (slice_index numbers) asked.tries asked.apart legal vs ws one two known (only_of asked) (hide_of asked) c d chosen (chosen_by d also) folder.now text words told another
-  text_same_in Entries lines c d chosen also told another = entries_same r (slice_index numbers) asked.tries asked.apart legal vs ws one two known (only_of asked) (hide_of asked) c d chosen (chosen_by d also) numbers text words told another
+  text_same_in Text lines c d chosen also told another = text_same r (slice_index numbers) asked.tries asked.apart legal vs ws one two alike known (only_of asked) (hide_of asked) c d chosen (chosen_by d also) text words told another
+  text_same_in Json lines c d chosen also told another = json_same r (slice_index numbers) asked.tries asked.apart legal vs ws one two alike known (only_of asked) (hide_of asked) c d chosen (chosen_by d also) text words told another
+  text_same_in (Lines folder) lines c d chosen also told another = lines_same r (slice_index numbers) asked.tries asked.apart legal vs ws one two alike known (only_of asked) (hide_of asked) c d chosen (chosen_by d also) folder.now text words told another
+  text_same_in Entries lines c d chosen also told another = entries_same r (slice_index numbers) asked.tries asked.apart legal vs ws one two alike known (only_of asked) (hide_of asked) c d chosen (chosen_by d also) numbers text words told another
   text_same_in (Sarif sources) lines c d chosen also told another = absurd lines
   text_same_in (Page about) lines c d chosen also told another = absurd lines
 
@@ -105,11 +105,11 @@ module _ (r : Recording) (numbers : List ℕ) (legal : IsLegal r) (asked : Asked
   )
 
 pub listings_law : ListingsAreOne
-listings_law r given asked workers races others text words legal lines bare one two =
+listings_law r given asked workers races others text words legal lines bare one two alike =
     let same = one.firsts ∙ sym two.firsts in
     let numbers = numbers_unique r legal.0 one.keys two.keys one.numbers two.numbers same one.numbered two.numbered in
     let mine = right_of r one.numbers asked.tries asked.apart one.verdicts one.found in
     let its = subst (λ (ns : List ℕ). AreRight r (slice_index ns) asked.tries asked.apart two.verdicts) (sym numbers) (right_of r two.numbers asked.tries asked.apart two.verdicts two.found) in
     let known = known_as_listed r one.keys two.keys one.numbers two.numbers same given (entries_of asked) (ap (λ t. option_map (λ es. es.now) t) bare) one.verdicts two.verdicts one.known two.known one.known_is two.known_is in
     let told = subst (λ (ns : List ℕ). IsToldIn r ns two.known (record asked { workers = workers }) two.verdicts others words) (sym numbers) two.told in
-    told_same r one.numbers legal asked workers one.known two.known known.0 known.1 one.verdicts two.verdicts mine its races others text words lines one.told told
+    told_same r one.numbers legal asked workers one.known two.known known.0 known.1 one.verdicts two.verdicts mine its alike races others text words lines one.told told

@@ -8,17 +8,19 @@ use Rattle.race_triage.proofs.verdicts.sort.Goals as goal
 
 pub returns-clause-verdicts : goal.returns-clause-verdicts
 returns-clause-verdicts c =
-    All-permutation (IsVerdict c.args._found.now.tables.indexed.now (slice_index c.args._found.now.tables.places.now) c.args._found.now.effort.tries c.args._found.now.effort.apart)
-    c.args.verdicts.now.items c.sort_unstable_by_key.new.self.items c.sort_unstable_by_key.ensures.permutation c.requires.verdicts
-
-pub returns-clause-complete : goal.returns-clause-complete
-returns-clause-complete c =
-    λ a b pair.
-    let told = c.requires.complete a b pair in (
-      told.0,
-      Contains-permutation c.args.verdicts.now.items c.sort_unstable_by_key.new.self.items told.0 c.sort_unstable_by_key.ensures.permutation told.1,
-      told.2,
-    )
+    let found = c.args._found.now in
+    let P = IsVerdict found.tables.indexed.now (slice_index found.tables.places.now) found.effort.tries found.effort.apart in
+    let old = c.args.verdicts.now.items in
+    let new = c.sort_unstable_by_key.new.self.items in
+    let same = c.sort_unstable_by_key.ensures.permutation in
+    let long = length_permutation old new same in
+    record {
+      verdicts = All-permutation P old new same c.requires.verdicts;
+      complete = λ a b pair.
+          let told = c.requires.complete a b pair in (told.0, Contains-permutation old new told.0 same told.1, told.2);
+      once = once-permutation old new same c.requires.once;
+      few = omega (arith, long, c.requires.few);
+    }
 
 pub returns-clause-rising : goal.returns-clause-rising
 returns-clause-rising c =
@@ -29,12 +31,3 @@ returns-clause-rising c =
     AreRising-from vs
     (verdicts_small r vs c.len-len.ensures.well_formed.events (All-weaker P (λ v. v.first < length r.events) (λ v is. is.first) vs all))
     (IsNonDecreasingBy-from_sort_by_key verdict_key _ c.sort_unstable_by_key.ensures.sorted (λ a r q k. search rules))
-
-pub returns-clause-once : goal.returns-clause-once
-returns-clause-once c =
-    once-permutation c.args.verdicts.now.items c.sort_unstable_by_key.new.self.items c.sort_unstable_by_key.ensures.permutation c.requires.once
-
-pub returns-clause-few : goal.returns-clause-few
-returns-clause-few c =
-    let long = length_permutation c.args.verdicts.now.items c.sort_unstable_by_key.new.self.items c.sort_unstable_by_key.ensures.permutation in
-    omega (arith, long, c.requires.few)

@@ -16,13 +16,16 @@ verdicts_by-requires g c =
       c.type_bounds.sync-R,
       (
         c.type_bounds.sync-W,
-        record {
-          clocks = c.clocks.ensures ∙ sym c.indexed.ensures;
-          must = c.must.ensures ∙ sym c.indexed.ensures;
-          acquires = is.acquires ∙ sym c.indexed.ensures;
-          places = ap (λ (ns : List ℕ). length ns) numbers ∙ is.numbers.len ∙ ap (λ (r : Recording). length r.events) (sym c.indexed.ensures);
-          classes = both_along (λ (r : Recording) (ns : List ℕ). AreClassesOf r ns c.args.located.now.classes) _ _ _ _ (sym c.indexed.ensures) (sym numbers) is.classes;
-        },
+        (
+          record {
+            clocks = c.clocks.ensures ∙ sym c.indexed.ensures;
+            must = c.must.ensures ∙ sym c.indexed.ensures;
+            acquires = is.acquires ∙ sym c.indexed.ensures;
+            places = ap (λ (ns : List ℕ). length ns) numbers ∙ is.numbers.len ∙ ap (λ (r : Recording). length r.events) (sym c.indexed.ensures);
+            classes = both_along (λ (r : Recording) (ns : List ℕ). AreClassesOf r ns c.args.located.now.classes) _ _ _ _ (sym c.indexed.ensures) (sym numbers) is.classes;
+          },
+          sym c.indexed.ensures,
+        ),
       ),
     )
 
