@@ -22,11 +22,14 @@ from collections.abc import Iterable, Sequence
 if __name__ == "__main__":
     sys.dont_write_bytecode = True
 import by_chance
+import contradicted
+import crowded
 import explained
 import judging
 import pictured
 import plain
 import running
+import states
 
 TRACES = 120
 # How many events a drawn trace has at most; those of the first number are gone over whole. Most have locks.
@@ -40,7 +43,8 @@ FORMS: list[list[str]] = [[], ["--script"], ["--std"], ["--svg"]]
 # What must be reached: each verdict, what a small trace has, folded runs, each kind of link, and a chain on which a
 # chain rests on which one rests.
 REACHED = [
-    *"none candidate beyond turned forced guarded undecided small folded links|section".split(),
+    *"none candidate beyond turned forced guarded contradicted undecided small folded links|section".split(),
+    *[f"step|{rule}" for rule in "base must through overwritten enters ends".split()],
     *"chains|2 pictures arrows".split(),
     *["as many runs as are told", "one run more"],
     *["pictures with earlier runs", "pictures of 40 runs", "pictures of 41 runs"],
@@ -118,6 +122,8 @@ class Judge:
                 explained.judge_forced(trace, self.tally, text, pair)
             elif verdict == "guarded":
                 explained.judge_guarded(trace, text, pair, trace.guard(*pair) or "no lock")
+            elif verdict == "contradicted":
+                contradicted.judge_contradicted(trace, self.tally, text, pair)
             else:
                 explained.judge_undecided(trace, self.tally, text, pair)
         except judging.Wrong as what:
@@ -185,15 +191,17 @@ def verdict_of(trace: plain.Trace, pair: explained.Pair) -> tuple[str, plain.Lis
     if listed is not None:
         return "beyond", listed
     turned = trace.turned(*pair)
-    return ("undecided", None) if turned is None else ("turned", tuple(sorted(turned)))
+    if turned is not None:
+        return "turned", tuple(sorted(turned))
+    return ("undecided" if pair in states.shown_by_any(trace) else "contradicted"), None
 
 
 def judge_reorderings(trace: plain.Trace, pairs: Iterable[explained.Pair]) -> None:
     """Compares the kinds and lists of the pairs with all correct reorderings of a small trace."""
     for first, second in pairs:
         showing = [listed for listed in trace.reorderings() if trace.shows(listed, first, second)]
-        kind = trace.kind(first, second)
-        if kind in ("forced", "guarded") and showing:
+        kind = verdict_of(trace, (first, second))[0]
+        if kind in ("forced", "guarded", "contradicted") and showing:
             raise plain.Contradiction(f"{first} and {second} are {kind}, and {showing[0]} shows them")
         least = trace.in_order(first, second)
         rising = [listed for listed in showing if list(listed) == sorted(listed)]
@@ -227,6 +235,15 @@ def named(thread: str, variable: str) -> plain.Trace:
     return made(f"{thread} acq {variable}", f"{thread} w {variable}", f"B w {variable}")
 
 
+# A pair, of events 3 and 8, that no correct reordering shows, since the reads and the critical sections forbid it.
+CONTRADICTED = made("A acq l", "A r x", "A w y", "A w x", "A rel l", "B acq l", "B w x", "B rel l", "B w x")
+
+# The same of events 9 and 16, where a write comes before another one, which a later read sees.
+OVERWRITTEN = made(
+    *("T r y", "W r x", "T acq m", "V w x", "T acq l", "T r x", "T rel l", "W w x", "W w y", "T w y", "T rel m"),
+    *("V acq m", "V w y", "V r x", "V rel m", "V w x", "V w y"),
+)
+
 # What chance draws seldom: many runs; a thread without an event, and one that is forked and joined; accesses that stay
 # before others; a pair that SHB orders and a list in the order of the trace shows, one that is shown by sections in
 # another order, and one of which no schedule is found; a chain that rests on one that rests on another; a section that
@@ -241,7 +258,8 @@ MADE = [
     made("A r x", "A w v", "B w x", "B w v", "C w x", "C w v"),
     made("A w x", "A acq l", "A rel l", "B acq l", "B rel l", "B w x"),
     made("A acq l", "A fork W", "A w x", "A rel l", "B acq l", "B r y", "B rel l", "B r x"),
-    made("A acq l", "A r x", "A w y", "A w x", "A rel l", "B acq l", "B w x", "B rel l", "B w x"),
+    CONTRADICTED,
+    OVERWRITTEN,
     made(
         "A acq m",
         "A w x",
@@ -289,15 +307,27 @@ def drawn(run: judging.Run) -> list[tuple[str, plain.Trace]]:
     return traces
 
 
+def judge_crowded(judge: Judge) -> None:
+    """Judges a pair that is never shown, in a trace that is too large for its contradiction to be found."""
+    early = crowded.before("A")
+    trace = plain.Trace([*early, *CONTRADICTED.events])
+    running.write("trace", trace.text())
+    pair = (len(early) + 3, len(early) + 8)
+    text = judge.printed("explain", "trace", str(pair[0]), str(pair[1]))
+    explained.judge_undecided(trace, judge.tally, text, pair)
+    judge.tally["undecided"] += 1
+
+
 def judged(run: judging.Run) -> str:
     judge, tally = Judge(run), run.tally
     for name, trace in drawn(run):
         with judging.about(name, "trace"):
             judge.judge_trace(trace, random.Random(name))
+    judge_crowded(judge)
     count, first = run.numbers
     verdicts = ", ".join(
         f"{tally[verdict]} {verdict}"
-        for verdict in ["candidate", "beyond", "turned", "forced", "guarded", "undecided"]
+        for verdict in ["candidate", "beyond", "turned", "forced", "guarded", "contradicted", "undecided"]
     )
     links = sum(number for kind, number in tally.items() if kind.startswith(("links|", "SHB|", "waits|")))
     return (

@@ -26,6 +26,7 @@ import judging
 import missing
 import plain
 import running
+import states
 from judging import Wrong
 
 TRACES = 3_000
@@ -47,7 +48,7 @@ REACHED = [
     "candidate",
     "beyond",
     "turned",
-    "undecided",
+    "contradicted",
     "apart",
     "untried",
     "known",
@@ -57,7 +58,6 @@ REACHED = [
     "one place",
     "more variables",
     "called",
-    "16 of more tries",
     "whole",
     "not whole",
     "unjudged",
@@ -110,7 +110,7 @@ def variables(trace: plain.Trace, pairs: list[Pair]) -> int:
 
 def verdict(trace: plain.Trace, pairs: list[Pair], tries: int) -> tuple[int, tuple[int, int], str]:
     """The order of the block among others, its first line, and the two events. The size of a schedule in another
-    order than the trace's is left out."""
+    order than the trace's is left out. What no correct reordering shows is apart."""
     counted = collections.Counter(kind for _, _, kind in pairs)
     of_open = f"variables {variables(trace, pairs)}"
     if counted["candidate"]:
@@ -136,6 +136,8 @@ def verdict(trace: plain.Trace, pairs: list[Pair], tries: int) -> tuple[int, tup
         if trace.turned(first, second) is not None:
             return 0, (second, first), f"race {first} {second} turned pairs {counted['open']} {of_open}"
     second, first = all_tries[0]
+    if tries and not states.shown_by_any(trace) & {(first, second) for second, first, kind in pairs if kind == "open"}:
+        return 2, (second, first), f"apart {first} {second} pairs {len(pairs)}"
     return (
         1,
         (second, first),
@@ -221,6 +223,9 @@ class Judge:
             ] += 1
             if head.startswith(f"race {first} {second} turned "):
                 head += " " + self.turned_size(trace, first, second)
+            self.tally["contradicted"] += head.startswith("apart ") and any(
+                kind == "open" for *_, kind in groups[places]
+            )
             self.tally["one place"] += places[0] == places[1]
             self.tally["more variables"] += part == 0 and " variables 1 " not in head
             blocks.append([head, *self.access(located, first), *self.access(located, second)])
@@ -240,9 +245,6 @@ class Judge:
         tries = 16 if is_usual else chance.choice(TRIES)
         counts, blocks = self.wanted(located, tries)
         flag = [] if is_usual else ["--tries", str(tries)]
-        self.tally["16 of more tries"] += is_usual and any(
-            block[0].endswith(" variables 17 tried 16") for block in blocks
-        )
         out = running.printed(self.program, ["triage", "trace", "--apart", *flag])
         self.compare(counts + sum(blocks, []), out)
         self.judge_json(out, "--apart", *flag)
@@ -374,7 +376,8 @@ def judged(run: judging.Run) -> str:
             run.tally += seen
     tally = run.tally
     kinds = ", ".join(
-        f"{tally[kind]} {kind}" for kind in ["candidate", "beyond", "turned", "undecided", "untried", "apart"]
+        f"{tally[kind]} {kind}"
+        for kind in ["candidate", "beyond", "turned", "undecided", "untried", "contradicted", "apart"]
     )
     return (
         f"triage: {tally['traces']} traces with {tally['pairs']} pairs, seeds {first} to {first + traces - 1}, are "

@@ -43,7 +43,6 @@ REACHED = [
     "one window",
     "many windows",
     "race",
-    "undecided",
     "apart",
     "standard input",
     "workers",
