@@ -21,12 +21,6 @@ class Hold(NamedTuple):
     at: int
 
 
-def check_kind(clock: clocks.Clock) -> None:
-    """Go programs are not followed into a deadlock."""
-    if clock.fields.get("go"):
-        raise plans.BadWitness("record/follow follows races of Go programs, and no deadlocks")
-
-
 def are_requests(clock: clocks.Clock, events: Sequence[int]) -> bool:
     """Whether these events are acquires. Others are accesses of a race."""
     return all(clock.record(event).kind in TAKES for event in events)
@@ -62,7 +56,8 @@ def wait_of(clock: clocks.Clock, request: int, holds: Sequence[Hold], threads: S
         raise plans.BadWitness(f"the call of event {request} does not wait for a lock: it tries, or waits for a time")
     for hold in holds:
         if hold.at == mine.at and hold.thread != mine.thread and hold.thread in threads:
-            return hold
+            # A writer may hold the lock of this reader alone.
+            return hold._replace(lock=name_of(hold.lock, mine.thread, mine.kind))
     raise plans.BadWitness(f"after this schedule no other thread of the deadlock holds the lock of event {request}")
 
 

@@ -347,6 +347,8 @@ def followed(
             result = Result(planned.read(), plan, rows, status, timed_out)
             if plan.clock.fields.get("java"):
                 take_texts(result, records)
+            elif plan.clock.fields.get("go"):
+                result.is_deadlock = bool(plan.requests) and following_go.is_asleep(records)
             else:
                 result.is_deadlock = raw_file.numbers_of(records).deadlock > 0
             return result

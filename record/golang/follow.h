@@ -4,9 +4,9 @@
 #include <sys/uio.h>
 #include <time.h>
 
-enum { STEP, STAND, LAST }; // types of steps
+enum { STEP, STAND, LAST, WAIT }; // types of steps
 enum { NOT_FOLLOWING, FOLLOWING, STANDS, DEPARTED, DONE };
-enum { OTHER_CODE = 1, MISSED, WOULD_WAIT, HANGS, ENDED, OTHER_OUTCOME };
+enum { OTHER_CODE = 1, MISSED, WOULD_WAIT, HANGS, ENDED, OTHER_OUTCOME, NO_WAIT = 9, NOT_HELD };
 
 struct step {
     u32 thread, type;
@@ -23,6 +23,7 @@ struct tick_entry {
 };
 #define MOST_FRAMES 64
 #define MOST_TOLD 64
+#define MOST_REQUESTS 8
 #define USES_SIZE (16 * 48)
 struct standing {
     u64 thread, pos, at, size, kind, pc, kernel_id, value[2], value_there, after[2], after_there, frames;
@@ -35,6 +36,9 @@ struct plan {
     struct standing standing[2];
     u64 at_tick[MOST_TOLD];
     u8 use[USES_SIZE];
+    u64 requests, hangs;
+    struct standing request[MOST_REQUESTS];
+    u64 holder[MOST_REQUESTS];
 };
 #define PLAN_MAGIC 0x3357464252524352ull
 #define CLOCK(ticks) ((u64)(ticks) << 16)
@@ -65,6 +69,12 @@ static const u8 kinds[64] = {
     [EVENTS + 6] = F_WRITER,
     [EVENTS + 7] = F_RELEASE,
     [EVENTS + 8] = F_TRIED,
+    [EVENTS + WANTED] = F_ACQUIRE,
+    [EVENTS + WANTED + 1] = F_READER_IN,
+    [EVENTS + LAST_WANTED] = F_WRITER,
+    [EVENTS + BY_TRY] = F_ACQUIRE,
+    [EVENTS + BY_TRY + 1] = F_READER_IN,
+    [EVENTS + BY_TRY + 2] = F_WRITER,
     [EVENTS + MEETS] = F_MEETING,
     [EVENTS + 18] = F_TRIED,
 };
@@ -175,17 +185,22 @@ static void both_stand(void) {
     if (at_step == plan->steps) syscall(SYS_exit_group, 0);
 }
 
+// Where a goroutine is, with its stack.
+static void note_standing(struct standing *s, const struct context *c, u64 pos, u8 kind) {
+    const struct waiting *w = &c->waiting;
+    s->thread = c->number, s->pos = pos, s->at = w->address, s->size = w->size, s->kind = kind;
+    s->pc = in_recording(w->pc);
+    for (u32 node = w->stack; node && s->frames < MOST_FRAMES; node = calls[node].parent)
+        s->frame[2 * s->frames++ + 1] = in_recording(calls[node].pc);
+}
+
 static void stand(struct context *c, u64 pos) {
     struct waiting *w = &c->waiting;
     u64 expected = expected_of(c, pos >> 16);
     // What an atomic operation is shows when it is done.
     u8 kind = w->work ? (u8)(expected & 127) : kind_in_recording(w->kind);
     if (!fits(expected, kind, w->pc)) depart(OTHER_CODE, c->number, pos, kind, w->pc, expected);
-    struct standing *s = &plan->standing[stood++];
-    s->thread = c->number, s->pos = pos, s->at = w->address, s->size = w->size, s->kind = kind;
-    s->pc = in_recording(w->pc);
-    for (u32 node = w->stack; node && s->frames < MOST_FRAMES; node = calls[node].parent)
-        s->frame[2 * s->frames++ + 1] = in_recording(calls[node].pc);
+    note_standing(&plan->standing[stood++], c, pos, kind);
     step_done(at_step);
     if (stood == 2) both_stand();
 }
@@ -216,7 +231,7 @@ static int must_wait(struct context *c, int waits) {
         u64 pos = CLOCK(c->ticks + 1);
         if (is_last_done(c->number)) return 0;
         if (pos > s->pos) depart(MISSED, c->number, pos, 0, c->waiting.pc, 0);
-        if (pos < s->pos || s->type == STEP || !waits) return 0;
+        if (pos < s->pos || s->type != STAND || !waits) return 0;
         stand(c, pos);
     }
     return 1;
@@ -233,7 +248,9 @@ static void tick(struct context *c, int kind, u64 pc) {
         int swaps = now_kind + (expected & 127) == F_UPDATE + F_LOAD && kind >= LOAD;
         depart(swaps ? OTHER_OUTCOME : OTHER_CODE, c->number, pos, now_kind, pc, expected);
     }
-    if (k >= plan->steps || steps[k].type != STEP || steps[k].pos != pos) return;
+    if (k >= plan->steps || steps[k].pos != pos) return;
+    if (steps[k].type == WAIT) depart(NO_WAIT, c->number, pos, now_kind, pc, expected);
+    if (steps[k].type != STEP) return;
     if (k != at_step && !needs_done(&steps[k])) depart(WOULD_WAIT, c->number, pos, now_kind, pc, expected);
     step_done(k);
     if (at_step == plan->steps) end_following();

@@ -6,7 +6,7 @@ import argparse
 import os
 import sys
 import tempfile
-from typing import Any
+from typing import IO, Any
 
 import clocks
 from golang import building, recording
@@ -20,6 +20,11 @@ def surroundings(fields: dict[str, Any], seed: int, paths: list[str]) -> dict[st
     found = recording.surroundings(options, paths[0])
     found["RACEBENCH_GO_SEED"], found["RACEBENCH_GO_AFTER"] = str(fields["seed"]), str(seed)
     return {**found, "RACEBENCH_GO_FOLLOW": paths[1], "GOGC": "off", "GOMEMLIMIT": "off"}
+
+
+def is_asleep(log: IO[bytes]) -> bool:
+    """Whether Go's runtime ended the program, since all goroutines waited."""
+    return bool(recording.head_of(log)[recording.DEAD])
 
 
 def places_command(clock: clocks.Clock) -> list[str]:

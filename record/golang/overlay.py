@@ -11,11 +11,13 @@ import re
 from collections.abc import Iterator
 
 HERE = os.path.dirname(os.path.realpath(__file__))
-RECORDER, FOLLOWER = os.path.join(HERE, "recorder.c"), os.path.join(HERE, "follow.h")
+RECORDER, HEADERS = os.path.join(HERE, "recorder.c"), ("follow.h", "requests.h")
 # The kinds of events of the changed sources, as recorder.c and decode/log.go count them.
 LOCK, UNLOCK, REFUSED, READ_LOCK, READ_UNLOCK, READ_REFUSED, WRITE_LOCK, WRITE_UNLOCK, WRITE_REFUSED = range(9)
 # Requests of goroutines that are about to wait for a lock.
 WANTED, READ_WANTED, WRITE_WANTED = range(9, 12)
+# Locks that a try took.
+TRIED_LOCK, TRIED_READ_LOCK, TRIED_WRITE_LOCK = range(12, 15)
 CHANNEL_MEETS, CHANNEL_BUFFER, CHANNEL_REFUSED, SIGNALED, WOKEN = range(16, 21)
 FILE_READS, FILE_READ, FILE_WRITES, FILE_WRITTEN, FILE_KEPT, FILE_CLOSED = range(21, 27)
 # The objects that Go links if no overlay drops them.
@@ -175,15 +177,19 @@ def wants(kind: int, what: str) -> str:
 
 
 def mutex(root: str) -> Source:
-    """A mutex is one record. It makes no record inside, and no other goroutine runs between the two."""
+    """A mutex is one record. It makes no record inside, and no other goroutine runs between the two. Each record is
+    made by the function that the program called: the innermost call is then the program's."""
     source = Source(root, "sync/mutex.go")
     begins = guarded("race.Turn()", "race.Disable()")
     for head in ("func (m *Mutex) Lock() {\n", "func (m *Mutex) TryLock() bool {\n"):
         source.after(head, begins)
-    source.change("race.Acquire(unsafe.Pointer(m))", "race.Enable()\n		" + event(LOCK, "m"), 3)
+    source.change(guarded("race.Acquire(unsafe.Pointer(m))"), "", 1, "func (m *Mutex) lockSlow() {")
+    source.change("race.Acquire(unsafe.Pointer(m))", "race.Enable()\n		" + event(LOCK, "m"), 2)
+    source.change(event(LOCK, "m"), event(TRIED_LOCK, "m"), 1, "func (m *Mutex) TryLock")
     source.change("race.Release(unsafe.Pointer(m))", f"race.Turn()\n		{event(UNLOCK, 'm')}\n		race.Disable()")
     source.change("		m.unlockSlow(new)\n	}\n", "		m.unlockSlow(new)\n	}\n" + guarded("race.Enable()"))
-    source.change("	m.lockSlow()\n", wants(WANTED, "m") + "	m.lockSlow()\n", 1, "func (m *Mutex) Lock() {")
+    slow, taken = "	m.lockSlow()\n", guarded("race.Enable()", event(LOCK, "m"))
+    source.change(slow, wants(WANTED, "m") + slow + taken, 1, "func (m *Mutex) Lock() {")
     refused = guarded("race.Enable()", event(REFUSED, "m"), "race.Refused()") + "		return false\n"
     source.change("		return false\n", refused, 2, "func (m *Mutex) TryLock")
     return source
@@ -193,16 +199,16 @@ def reader_locks(root: str) -> Source:
     source = Source(root, "sync/rwmutex.go")
     readers, writers = (f"race.Acquire(unsafe.Pointer(&rw.{name}Sem))" for name in ("reader", "writer"))
     enable = "race.Enable()\n"
-    for name in ("RLock", "TryRLock"):
-        source.change(readers, event(READ_LOCK, "rw"), 1, f"func (rw *RWMutex) {name}(")
+    for name, kind in (("RLock", READ_LOCK), ("TryRLock", TRIED_READ_LOCK)):
+        source.change(readers, event(kind, "rw"), 1, f"func (rw *RWMutex) {name}(")
     for head, kind, tabs, times in (("TryRLock", READ_REFUSED, 3, 1), ("TryLock", WRITE_REFUSED, 2, 2)):
         old = f"{enable}{tabs * '	'}}}\n{tabs * '	'}return false"
         new = f"{enable}{tabs * '	'}	{event(kind, 'rw')}\n{tabs * '	'}	race.Refused()\n{old[len(enable):]}"
         source.change(old, new, times, f"func (rw *RWMutex) {head}(")
     merge = "race.ReleaseMerge(unsafe.Pointer(&rw.writerSem))"
     source.change(merge, event(READ_UNLOCK, "rw"), 1, "func (rw *RWMutex) RUnlock(")
-    for name in ("Lock", "TryLock"):
-        source.change(readers, event(WRITE_LOCK, "rw"), 1, f"func (rw *RWMutex) {name}(")
+    for name, kind in (("Lock", WRITE_LOCK), ("TryLock", TRIED_WRITE_LOCK)):
+        source.change(readers, event(kind, "rw"), 1, f"func (rw *RWMutex) {name}(")
         source.change(writers, "", 1, f"func (rw *RWMutex) {name}(")
     release = "race.Release(unsafe.Pointer(&rw.readerSem))"
     source.change(release, event(WRITE_UNLOCK, "rw"), 1, "func (rw *RWMutex) Unlock(")
@@ -390,8 +396,9 @@ def recorder(root: str) -> str:
     """The recorder's source, with the name of the GOROOT that its programs are built from."""
     with open(RECORDER, encoding="utf-8") as file:
         text = file.read()
-    with open(FOLLOWER, encoding="utf-8") as file:
-        text = text.replace('#include "follow.h"\n', file.read())
+    for name in HEADERS:
+        with open(os.path.join(HERE, name), encoding="utf-8") as file:
+            text = text.replace(f'#include "{name}"\n', file.read())
     escaped = root.replace("\\", "\\\\").replace('"', '\\"')
     return f'#define GOROOT_MARK "RACEBENCH_GOROOT={escaped}"\n{text}'
 

@@ -44,7 +44,8 @@ enum {
     EVENTS = 32, // the kinds of __record_event begin here
     QUIET = 64   // set in the kind of an access inside of race.Disable, which is no tick
 };
-enum { WANTED = 9, MEETS = 16, BUFFER = 17 };
+// Events from WANTED to LAST_WANTED are requests of locks; those from BY_TRY on took a lock by a try.
+enum { WANTED = 9, LAST_WANTED = 11, BY_TRY, MEETS = 16, BUFFER = 17 };
 // Why records are missing.
 enum { ROOM = 1, DISK };
 // Who started a goroutine, as raceorigin says.
@@ -111,6 +112,7 @@ void __tsan_init(void **thread, void **processor, void *callback);
 static void *mapped(u64 bytes);
 
 #include "follow.h"
+#include "requests.h"
 
 static u64 drawn(void) {
     draw ^= draw << 13, draw ^= draw >> 7, draw ^= draw << 17;
@@ -502,8 +504,9 @@ u64 __record_event(struct context *c, u64 kind, u64 address, u64 value) {
     if (!begin(c)) return 0;
     struct context *other = kind == MEETS ? (struct context *)value : 0;
     u64 high = other ? other->thread : kind < MEETS ? place_of(value) : value;
-    int is_request = kind >= WANTED && kind < MEETS; // it depends on what others do, so it is no tick
-    if (!is_request) tick(c, (int)(EVENTS + kind), kind < MEETS ? value : 0);
+    // A request depends on what others do, so it is no tick.
+    if (kind >= WANTED && kind <= LAST_WANTED) wait_in_plan(c, kind, address);
+    else tick(c, (int)(EVENTS + kind), kind < MEETS ? calls[c->stack].pc : 0), note_lock(c, kind, address);
     if (other) tick(other, (int)(EVENTS + kind), 0);
     put(c->thread, what_of(address, EVENTS + kind, 0), c->stack, high);
     u64 place = kind < MEETS ? 0 : place_in(c, *(u64 **)__builtin_frame_address(0));

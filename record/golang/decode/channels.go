@@ -35,7 +35,7 @@ func (t *translation) met(r *record, at place) {
 	key := passKey{meetingOf, at}
 	other := *r
 	other.thread = r.high
-	if strings.Contains(t.location(0, uint32(r.size), 0), ":") {
+	if strings.Contains(t.location(spot{stack: uint32(r.size)}, 0), ":") {
 		other.pc, other.stack = 0, uint32(r.size)
 	}
 	if now, is := t.timers[r.high]; is {

@@ -17,6 +17,7 @@ const (
 	formatFork    = 5
 	formatLong    = 1 // the word before a record that is whole
 	formatSize    = 56
+	formatTry     = 2 // the order of a lock that a try took
 	formatWords   = formatSize / 8
 	mostNumbers   = 1 << 16
 )
@@ -34,11 +35,12 @@ type clock struct {
 	last    map[uint32]uint64   // of each goroutine the number of its last record
 	waiting map[uint32][]uint64 // events of records that are no tick: they are of the goroutine's next record
 	current *record
+	caller  func(stack uint32) uint64 // where a lock's function was called
 }
 
-func newClock(to *os.File, numbers map[uint32]int32) *clock {
+func newClock(to *os.File, numbers map[uint32]int32, caller func(uint32) uint64) *clock {
 	c := &clock{records: bufio.NewWriterSize(to, 1<<20), ticks: map[uint32]uint64{}, number: map[uint32]uint32{1: 0},
-		last: map[uint32]uint64{}, waiting: map[uint32][]uint64{}}
+		last: map[uint32]uint64{}, waiting: map[uint32][]uint64{}, caller: caller}
 	for _, one := range numbers {
 		if c.next <= uint32(one) {
 			c.next = uint32(one) + 1
@@ -68,19 +70,26 @@ func (c *clock) timer(context uint32) {
 	if c.ticks[context] == 0 {
 		c.ticks[context] = 1
 		number := c.numberOf(context)
-		c.put(formatFork, uint64(number), 0, 0, number, 1)
+		c.put(entry{kind: formatFork, at: uint64(number), number: number, tick: 1})
 	}
 }
 
-func (c *clock) put(kind uint8, at, pc uint64, size uint64, number uint32, tick uint64) {
+// A record of the clock.
+type entry struct {
+	kind, order        uint8
+	number             uint32
+	at, pc, size, tick uint64
+}
+
+func (c *clock) put(one entry) {
 	var r [formatSize]byte
 	r[0] = formatLong
-	binary.LittleEndian.PutUint64(r[8:], at)
-	binary.LittleEndian.PutUint64(r[16:], pc)
-	binary.LittleEndian.PutUint64(r[24:], tick<<16)
-	binary.LittleEndian.PutUint32(r[40:], uint32(size))
-	binary.LittleEndian.PutUint16(r[48:], uint16(number))
-	r[50], r[51] = kind, 1
+	binary.LittleEndian.PutUint64(r[8:], one.at)
+	binary.LittleEndian.PutUint64(r[16:], one.pc)
+	binary.LittleEndian.PutUint64(r[24:], one.tick<<16)
+	binary.LittleEndian.PutUint32(r[40:], uint32(one.size))
+	binary.LittleEndian.PutUint16(r[48:], uint16(one.number))
+	r[50], r[51], r[52] = one.kind, 1, one.order
 	c.records.Write(r[:])
 	c.count += formatWords
 }
@@ -88,7 +97,7 @@ func (c *clock) put(kind uint8, at, pc uint64, size uint64, number uint32, tick 
 // tick writes a record, and that of the other goroutine at a meeting.
 func (c *clock) tick(r *record) {
 	c.current = r
-	if r.quiet {
+	if r.quiet || r.kind >= wanted && r.kind <= wwanted {
 		return
 	}
 	kind, there := formatKinds[r.kind]
@@ -105,10 +114,17 @@ func (c *clock) tick(r *record) {
 	delete(c.waiting, r.context)
 	c.ticks[r.context]++
 	c.last[r.context] = c.count
-	c.put(kind, at, r.pc, r.size, c.numberOf(r.context), c.ticks[r.context])
+	one := entry{kind: kind, at: at, pc: r.pc, size: r.size, number: c.numberOf(r.context), tick: c.ticks[r.context]}
+	if r.kind >= lock && r.kind <= wrefused {
+		one.pc = c.caller(r.stack)
+	}
+	if r.tried {
+		one.order = formatTry
+	}
+	c.put(one)
 	if r.kind == meets {
 		c.ticks[r.high]++
-		c.put(formatMeeting, r.address, 0, 0, c.numberOf(r.high), c.ticks[r.high])
+		c.put(entry{kind: formatMeeting, at: r.address, number: c.numberOf(r.high), tick: c.ticks[r.high]})
 	}
 }
 

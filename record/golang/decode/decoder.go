@@ -34,10 +34,11 @@ type place struct {
 	offset uint64
 }
 
-// The place of an access in the code, and the calls that led there.
+// The place of an access in the code, the calls that led there, and whether a try took a lock.
 type spot struct {
 	pc    uint64
 	stack uint32
+	tried bool
 }
 
 // Threads of timers have numbers from here on: each time that one fires is a thread.
@@ -164,7 +165,7 @@ func (d *decoder) isChosen(r *record, known map[spot]bool) bool {
 	if len(d.only) == 0 {
 		return true
 	}
-	key := spot{r.pc, r.stack}
+	key := r.spot()
 	answer, there := known[key]
 	if !there {
 		answer = d.isIn(r.pc, r.stack, d.only)

@@ -45,6 +45,9 @@ const (
 	wanted
 	rwanted
 	wwanted
+	tried // a try took a lock
+	rtried
+	wtried
 )
 const (
 	meets = iota + 48
@@ -84,6 +87,7 @@ type record struct {
 	context uint32 // the thread; of a timer that of all times that it fires
 	kind    uint8
 	quiet   bool // an access inside of race.Disable, which is no tick of the clock
+	tried   bool // a try took a lock: the kind is that of a lock
 	small   uint8
 	stack   uint32
 	high    uint32
@@ -100,11 +104,11 @@ type stackNode struct {
 
 // A log that was written: the head's numbers, and the records of the body and the tail.
 type goLog struct {
-	body, tail                                                         []byte
+	body, tail                                                               []byte
 	lost, cause, base, others, clashes, switches, yields, forced, most, dead uint64
-	nodes                                                              []stackNode
-	hasNodes                                                           bool
-	bias                                                               uint64 // of the program's addresses
+	nodes                                                                    []stackNode
+	hasNodes                                                                 bool
+	bias                                                                     uint64 // of the program's addresses
 }
 
 func openLog(name string) (*goLog, error) {
@@ -198,10 +202,15 @@ func (r *record) take(what, with uint64) {
 	r.quiet = uint8(what>>48)&quietKind != 0
 	r.stack, r.high = uint32(with), uint32(with>>32)
 	r.size, r.pc = uint64(r.small), 0
+	if r.tried = r.kind >= tried && r.kind <= wtried; r.tried {
+		r.kind = lock + 3*(r.kind-tried)
+	}
 	if r.kind == malloc {
 		r.size = uint64(r.high)
 	}
 }
+
+func (r *record) spot() spot { return spot{r.pc, r.stack, r.tried} }
 
 // What a record does with memory.
 func (r *record) access() (reads, writes, atomic bool) {

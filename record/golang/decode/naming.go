@@ -247,6 +247,8 @@ func (l *locating) add(pc uint64) {
 			l.parts = append(l.parts, place, l.inside+" in "+name)
 		case l.most > 0:
 			l.parts = append(l.parts, place, name)
+		case l.inside == "try":
+			l.parts = append(l.parts, place, l.inside)
 		default:
 			l.parts = append(l.parts, place)
 		}
@@ -255,12 +257,15 @@ func (l *locating) add(pc uint64) {
 }
 
 // A location: the place of an access, and the calls that led to it.
-func (n *naming) location(pc uint64, stack uint32, most int) string {
+func (n *naming) location(at spot, most int) string {
 	l := &locating{naming: n, most: most}
-	if pc != 0 {
-		l.add(pc - n.bias - 1)
+	if at.tried {
+		l.inside = "try"
 	}
-	for ; stack != 0 && !l.full; stack = n.nodes(stack).parent {
+	if at.pc != 0 {
+		l.add(at.pc - n.bias - 1)
+	}
+	for stack := at.stack; stack != 0 && !l.full; stack = n.nodes(stack).parent {
 		l.add(n.nodes(stack).pc - 1)
 	}
 	if len(l.parts) == 0 {

@@ -63,7 +63,7 @@ func (d *decoder) needs() *needed {
 			forks = append(forks, forked{number, l.thread, uint32(l.object)})
 		} else if n.many[l.object] {
 			n.last[l.thread] = number
-			d.location(l.pc, l.stack, d.frames) // so that files of one name are known
+			d.location(l.spot, d.frames) // so that files of one name are known
 		}
 	}, nothing)
 	for k := len(forks) - 1; k >= 0; k-- {

@@ -82,7 +82,8 @@ func (p *printer) printing(l *lender) func(*record, int32, uint64) {
 	if p.records == 0 {
 		return work
 	}
-	p.clock = newClock(os.NewFile(uintptr(p.records), "records"), l.number)
+	caller := func(stack uint32) uint64 { return p.nodes(stack).pc + p.bias }
+	p.clock = newClock(os.NewFile(uintptr(p.records), "records"), l.number, caller)
 	return func(r *record, id int32, offset uint64) {
 		p.clock.tick(r)
 		work(r, id, offset)
@@ -97,7 +98,7 @@ func (p *printer) line1(l line) {
 	}
 	text, there := p.texts[l.spot]
 	if !there {
-		text = p.location(l.pc, l.stack, p.frames)
+		text = p.location(l.spot, p.frames)
 		p.texts[l.spot] = text
 	}
 	if p.lent[l.thread] && !p.begun[l.thread] {

@@ -111,7 +111,7 @@ func (t *translation) line(r *record, op uint8, object int32) {
 	if t.finalizes {
 		t.spoke[r.thread] = true
 	}
-	t.emit(line{spot{r.pc, r.stack}, r.thread, object, op})
+	t.emit(line{r.spot(), r.thread, object, op})
 }
 
 // A lock and the variable beside it.
@@ -207,7 +207,7 @@ func (t *translation) event(r *record, at place) {
 	case r.kind >= lock && r.kind <= wrefused:
 		t.locked(r, at)
 	case r.kind >= wanted && r.kind <= wwanted:
-		if one := (line{spot{r.pc, r.stack}, r.thread, t.object(lockOf, at, 0), opAcquire}); t.wants != nil {
+		if one := (line{r.spot(), r.thread, t.object(lockOf, at, 0), opAcquire}); t.wants != nil {
 			t.wants(one)
 		}
 	case r.kind >= fileReads && r.kind <= fileClosed:

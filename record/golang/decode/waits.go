@@ -28,7 +28,7 @@ func newWaits() *waits { return &waits{map[uint32]want{}, map[place]map[uint32]*
 
 func (w *waits) see(r *record, at place) {
 	if r.kind >= wanted && r.kind <= wwanted {
-		w.wanted[r.thread] = want{spot{r.pc, r.stack}, at, r.kind == rwanted}
+		w.wanted[r.thread] = want{r.spot(), at, r.kind == rwanted}
 		return
 	}
 	delete(w.wanted, r.thread)
@@ -45,7 +45,7 @@ func (w *waits) take(r *record, at place) {
 		w.holds[at] = map[uint32]*hold{}
 	}
 	if w.holds[at][r.thread] == nil {
-		w.holds[at][r.thread] = &hold{spot{r.pc, r.stack}, 0, r.kind == rlock}
+		w.holds[at][r.thread] = &hold{r.spot(), 0, r.kind == rlock}
 	}
 	w.holds[at][r.thread].depth++
 }
@@ -129,4 +129,4 @@ func (p *printer) circle() (lines []string) {
 }
 
 // placeOf is the first place of a location.
-func (p *printer) placeOf(at spot) string { return strings.SplitN(p.location(at.pc, at.stack, 1), " ", 2)[0] }
+func (p *printer) placeOf(at spot) string { return strings.SplitN(p.location(at, 1), " ", 2)[0] }
