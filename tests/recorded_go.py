@@ -40,7 +40,7 @@ SEEDS = range(1, 11)
 BEGIN, WHOLE = "recording|begin(RECORDED)|", "recording|end(WHOLE)|"
 # Each program, the options, and the label of the lines that race; no label is a program without a race.
 RACES = (
-    "counter captured mapwrite timer chanrace publish hidden many readers panics sliced condless finalized"
+    "counter captured mapwrite timer chanrace publish hidden many readers panics sliced condless finalized crowded"
 ).split()
 CLEAN = (
     "mutex rwmutex waitgroup once atomics cond pool trylock handed unbuffered closed pipeline selected files spins "
@@ -80,17 +80,20 @@ def scenarios_by(go: str) -> str:
     return program
 
 
-def ran(command: list[str], wanted: int = 0, cwd: str | None = None, go: str = "") -> tuple[str, str]:
-    """What a command writes on standard output and on standard error; `go` names another Go."""
-    surroundings = {**os.environ, "RECORD_GO": go} if go else None
+def ran(
+    command: list[str], wanted: int | tuple[int, ...] = 0, cwd: str | None = None, go: str = "", **more: str
+) -> tuple[str, str]:
+    """What a command writes on standard output and on standard error; its status is one that is wanted. `go` names
+    another Go, and `more` has variables of its environment."""
+    surroundings = {**os.environ, **({"RECORD_GO": go} if go else {}), **more}
     done = subprocess.run(command, capture_output=True, timeout=PATIENCE, check=False, cwd=cwd, env=surroundings)
     out, notes = done.stdout.decode(errors="replace"), done.stderr.decode(errors="replace")
-    if done.returncode != wanted:
+    if done.returncode not in (wanted if isinstance(wanted, tuple) else (wanted,)):
         raise Wrong(f"{' '.join(command)}: status {done.returncode}, and not {wanted}: {notes[-600:]}")
     return out, notes
 
 
-def recorded(name: str, *options: str, wanted: int = 0) -> tuple[str, str]:
+def recorded(name: str, *options: str, wanted: int | tuple[int, ...] = 0) -> tuple[str, str]:
     """The trace of a program, and what record/run says; the trace is in `trace.std` too."""
     command = [os.path.join(RECORD, "run"), *options, scenarios(), *name.split()]
     out, notes = ran(command, wanted)
@@ -313,7 +316,7 @@ def judge_choices() -> None:
 
 
 # Programs whose race the real program is led to, with what the order changes: a variable, a map, a timer, a channel
-# without a buffer, a pointer, a mutex, a lock for readers, a panic, a condition.
+# without a buffer, a pointer, a mutex, a lock for readers, a panic, a condition, a lock that a goroutine waited for.
 FOLLOWED = (
     ("counter", "the outputs differ: 2 with A first (A goes on), 1 with B first (B goes on)"),
     ("mapwrite", "is the same"),
@@ -324,6 +327,7 @@ FOLLOWED = (
     ("readers", "is the same"),
     ("panics", "is the same"),
     ("condless", "is the same"),
+    ("crowded", "is the same"),
 )
 
 
@@ -560,6 +564,10 @@ def all_cases(racebench: str) -> Iterator[Case]:
     yield "Go: reports of its race detector", judge_reported, (racebench,)
     yield "Go: record/check", judge_check, (racebench,)
     yield from recorded_go_planted.cases(racebench)
+    # It imports this module.
+    import recorded_go_deadlocks
+
+    yield from recorded_go_deadlocks.cases(racebench)
 
 
 def judge_by(go: str, judge: Callable[..., None], *about: object) -> None:

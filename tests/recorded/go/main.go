@@ -16,6 +16,10 @@ var programs = map[string]func(){
 	"asleep": asleep, "hangs": hangs, "alone": alone, "thousands": thousands,
 	"unjoined": unjoined,
 	"works": works,
+	"twoOrders": twoOrders, "writerWaits": writerWaits, "readerWaits": readerWaits, "comesBack": comesBack,
+	"circle": circle, "gated": gated, "oneAfterTheOther": oneAfterTheOther, "onlyReaders": onlyReaders,
+	"onlyTries": onlyTries,
+	"crowded": crowded,
 }
 
 func main() {

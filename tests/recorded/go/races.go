@@ -132,6 +132,37 @@ func hidden() {
 	fmt.Println(a.balance, audit)
 }
 
+var audited int
+
+// A goroutine waits for a lock in this run. In an order that shows the race it does not.
+func crowded() {
+	var mu sync.Mutex
+	var wg sync.WaitGroup
+	n, has := 0, make(chan bool)
+	wg.Add(2)
+	go func() {
+		defer wg.Done()
+		mu.Lock()
+		close(has)
+		for k := 0; k < 20; k++ {
+			n++
+			runtime.Gosched()
+		}
+		mu.Unlock()
+		audited++ // RACE crowded
+	}()
+	go func() {
+		defer wg.Done()
+		<-has
+		mu.Lock()
+		n++
+		mu.Unlock()
+		audited++ // RACE crowded
+	}()
+	wg.Wait()
+	fmt.Println(n)
+}
+
 var last int
 
 // One sends after its write, the other before: only the order of the two messages orders the writes.
