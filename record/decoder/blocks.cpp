@@ -18,11 +18,12 @@ std::optional<Dwarf_Die> pointed_to(Dwarf_Die holder) {
     return types::referred(*pointer, DW_AT_type);
 }
 
-// A block is of one object, or of several after `new T[n]` and in C. A block of a `sizeof` may have more at its end.
+// A block is of one object, or of several after `new T[n]` and in C. A block of a `sizeof` may have more at its end. If
+// the size of a number is only added, as in `size + 2 * sizeof(int)`, it is that of a part.
 bool fits(const guesses::Guess &guess, Dwarf_Die type, uint64_t size) {
     std::optional<Dwarf_Die> object = types::object_type(type);
     uint64_t each = object ? types::size_of(*object) : 0;
-    if (each < 2) return false;
+    if (each < 2 || (guess.is_sum && dwarf_tag(&*object) == DW_TAG_base_type)) return false;
     if (types::has_open_end(*object)) return each <= size;
     if (guess.from == guesses::Guess::SIZE) return each <= size;
     if (guess.from == guesses::Guess::NEW && !guess.is_array) return each == size;

@@ -109,9 +109,20 @@ Guess of_new(const Words &words, size_t at) {
     return guess;
 }
 
+// Whether something is added before a word or after it, within its parentheses.
+bool adds(const Words &words, size_t at, bool after) {
+    const char *opens = after ? "(" : ")", *closes = after ? ")" : "(";
+    for (int depth = 0; at < words.size() && depth >= 0; after ? at++ : at--) {
+        if (!depth && (words[at] == "+" || words[at] == ",")) return words[at] == "+";
+        depth += words[at] == opens ? 1 : words[at] == closes ? -1 : 0;
+    }
+    return false;
+}
+
 // `sizeof *p`, `sizeof(*a->p)`, `sizeof(struct host)`, `sizeof(host)`.
 Guess of_size(const Words &words, size_t at) {
     Guess guess;
+    guess.is_sum = adds(words, at, true) || adds(words, at - 1, false);
     while (is(words, at, "(")) at++;
     if (is(words, at, "*")) {
         while (is(words, ++at, "(")) {}

@@ -8,8 +8,8 @@ namespace guesses {
 struct Guess {
     enum { NONE, NEW, SIZE, CAST, POINTER } from = NONE;
     std::string name;
-    // The pointer is a member of something; `new` makes an array; the line returns the block.
-    bool is_member = false, is_array = false, passes_on = false;
+    // The pointer is a member of something; `new` makes an array; the line returns the block; the size is a sum.
+    bool is_member = false, is_array = false, passes_on = false, is_sum = false;
 };
 
 // The statement of a line, which may begin and end in the lines around it.

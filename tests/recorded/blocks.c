@@ -35,6 +35,7 @@ static struct item **table;
 static struct head *whole;
 static char *text;
 static struct note *note;
+static long *cells;
 
 static size_t bytes_of_note(int marks) { return sizeof(struct note) + (size_t)marks * 4; }
 
@@ -42,6 +43,13 @@ static void *xmalloc(size_t n) {
     void *p = malloc(n);
     if (!p) abort();
     return p;
+}
+
+/* A block with two numbers before it, which its caller does not see. */
+static void *with_head(size_t n) {
+    int *p = (int *)malloc(n + 2 * sizeof(int));
+    if (!p) abort();
+    return p + 2;
 }
 
 static void *work(void *p) {
@@ -57,6 +65,7 @@ static void *work(void *p) {
     text[5]++;
     note->length++;
     note->marks[9].to++;
+    cells[4]++;
     return p;
 }
 
@@ -72,6 +81,7 @@ int main(void) {
     whole = calloc(1, sizeof(struct head) + 2 * sizeof(struct item));
     text = malloc(20);
     note = xmalloc(bytes_of_note(10));
+    cells = with_head(6 * sizeof(long));
     for (int k = 0; k < 2; k++)
         if (pthread_create(&t[k], NULL, work, NULL)) return 1;
     for (int k = 0; k < 2; k++) pthread_join(t[k], NULL);
