@@ -2,8 +2,8 @@
 of tests/recorded/go/orders.go about, with the stacks of its goroutines. If no order of a run is a deadlock, there is
 none.
 
-What no other judge sees: a goroutine that is said to wait and does not, a wrong holder, a deadlock that stands although
-a goroutine took another lock than in the recording.
+What no other judge sees: a goroutine that does not wait as the text says, a wrong holder, a deadlock that is reported
+although a goroutine took another lock than in the recording.
 """
 
 from __future__ import annotations
@@ -25,7 +25,7 @@ CLEAN = "gated oneAfterTheOther onlyReaders onlyTries".split()
 SEEDS = range(1, 11)
 # How many recordings of a program are judged; of two programs all.
 COUNT, ALL = 3, ("twoOrders", "onlyTries")
-# What the line about a departure says, by the lock that a goroutine takes in place of the recorded one.
+# What the line about a departure says, by the lock that a goroutine takes instead of the recorded one.
 DEPARTURES = {
     "idle": "{} did not have to wait at {}",
     "mains": "{} waits at {} for a lock that no other thread of the deadlock holds",
@@ -77,7 +77,7 @@ def followed(racebench: str, events: list[int], *options: str, wanted: int = 0, 
 
 
 def judge_found(name: str, seed: int, found: list[dict[str, Any]]) -> None:
-    """The one deadlock stands: each goroutine waits at a line that waits, and the next one holds the lock."""
+    """The one deadlock comes about: each goroutine waits at a line that waits, and the next one holds the lock."""
     if len(found) != 1 or found[0]["ended"] != "stands":
         raise Wrong(f"{name}, seed {seed}: {found}")
     one = found[0]
@@ -93,8 +93,8 @@ def judge_found(name: str, seed: int, found: list[dict[str, Any]]) -> None:
 
 
 def judge_stands(racebench: str, name: str) -> None:
-    """The deadlock stands with each seed whose run does not hang. record/follow prints the stack of each goroutine,
-    which begins with the line where it waits."""
+    """The deadlock comes about with each seed whose run does not hang. record/follow prints the stack of each
+    goroutine, which begins with the line where it waits."""
     for seed in recorded(name):
         found = confirmed(racebench)
         judge_found(name, seed, found)

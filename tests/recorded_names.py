@@ -54,7 +54,8 @@ DAMAGED = 40
 MOVED = 3000
 # The blocks of sources, without their lines: a type that the source names is marked, and some have none.
 TYPES = {
-    "blocks.c": "config?.limit config?.in.b point_t?[2].y int?[3] item?.value note?.length note?.marks[9].to +8 +8 +5 +40",
+    "blocks.c": "config?.limit config?.in.b point_t?[2].y int?[3] item?.value note?.length note?.marks[9].to "
+    "+8 +8 +5 +40",
     "blocks.cpp": "Entry.id Entry.uses Plain?.b Owner.first Plain?[2].a Plain.a Plain[3].b Plain.b +4 #2+4",
 }
 # A source with names of 10,000 characters that differ at their ends alone, arguments of templates that are as long, and

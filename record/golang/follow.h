@@ -185,7 +185,7 @@ static void both_stand(void) {
     if (at_step == plan->steps) syscall(SYS_exit_group, 0);
 }
 
-// Where a goroutine is, with its stack.
+// Notes the place of a goroutine, with its stack.
 static void note_standing(struct standing *s, const struct context *c, u64 pos, u8 kind) {
     const struct waiting *w = &c->waiting;
     s->thread = c->number, s->pos = pos, s->at = w->address, s->size = w->size, s->kind = kind;

@@ -179,7 +179,7 @@ func circle() {
 	o.done.Wait()
 }
 
-// Both goroutines hold a third lock meanwhile.
+// Both goroutines hold a third lock.
 func gated() {
 	o := newOrders()
 	work := func(outer, inner *sync.Mutex) func() {
