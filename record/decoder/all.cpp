@@ -32,4 +32,5 @@
 #include "words.cpp"
 #include "writing.cpp"
 #include "stretches.cpp"
+#include "values.cpp"
 #include "main.cpp"

@@ -9,9 +9,10 @@
 
 namespace {
 
-const char *const USAGE = "decoder [--max N] [--from N] [--frames N] [--no-free] [--raw-names] [--only FILE].. "
-                          "[--trust LIB].. [--cause CAUSE] [--killed] "
-                          "[--numbers FILE] [--all] [--ordered FILE] [--workers N] RAW | decoder --places RAW";
+const char *const USAGE =
+    "decoder [--max N] [--from N] [--frames N] [--no-free] [--raw-names] [--only FILE].. "
+    "[--trust LIB].. [--cause CAUSE] [--killed] "
+    "[--numbers FILE] [--all] [--ordered FILE] [--values FILE] [--workers N] RAW | decoder --places RAW";
 
 struct Request {
     trace::Options options;
@@ -44,6 +45,7 @@ bool read_option(int option, Request &request) {
     case 'k': request.options.killed = true; return true;
     case 'a': request.options.all = true; return true;
     case 'd': request.options.ordered = optarg; return true;
+    case 'v': request.options.values = optarg; return true;
     case 's':
         if (!number_in(optarg, number)) return false;
         request.options.workers = number;
@@ -66,6 +68,7 @@ bool read_arguments(int count, char **arguments, Request &request) {
         {"cause", required_argument, nullptr, 'w'},
         {"killed", no_argument, nullptr, 'k'},
         {"ordered", required_argument, nullptr, 'd'},
+        {"values", required_argument, nullptr, 'v'},
         {"all", no_argument, nullptr, 'a'},
         {"workers", required_argument, nullptr, 's'},
         {nullptr, 0, nullptr, 0},
@@ -89,6 +92,7 @@ void decode(const Request &request) {
     trace::Trace trace(file, request.options);
     trace::Counts counts = trace.write(stdout, numbers);
     if (!request.options.ordered.empty()) trace.write_ordered();
+    if (!request.options.values.empty()) trace.write_values();
     if (fflush(stdout) || ferror(stdout) || (numbers && fclose(numbers)))
         throw raw::Wrong("the trace can't be written");
     print_fact("before", counts.before);
