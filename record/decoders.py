@@ -150,6 +150,12 @@ def run_decoder(call: list[str], files: list[int], out: Lines | None) -> tuple[i
         return status, errors.read().decode(errors="replace")
 
 
+def searched(call: list[str], source: IO[bytes], out: IO[bytes]) -> tuple[int, str]:
+    """Runs the decoder as a search, from one file to another. Returns its status, and its standard error."""
+    done = subprocess.run(call, stdin=source, stdout=out, stderr=subprocess.PIPE, check=False)
+    return done.returncode, done.stderr.decode(errors="replace")
+
+
 def decoded(
     file: IO[bytes],
     options: list[str],

@@ -33,4 +33,8 @@
 #include "writing.cpp"
 #include "stretches.cpp"
 #include "values.cpp"
+#include "by_value_trace.cpp"
+#include "by_value_order.cpp"
+#include "by_value_state.cpp"
+#include "by_value_search.cpp"
 #include "main.cpp"
