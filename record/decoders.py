@@ -150,15 +150,30 @@ def run_decoder(call: list[str], files: list[int], out: Lines | None) -> tuple[i
         return status, errors.read().decode(errors="replace")
 
 
+def searched(call: list[str], source: IO[bytes], out: IO[bytes]) -> tuple[int, str]:
+    """Runs the decoder as a search, from one file to another. Returns its status, and its standard error."""
+    done = subprocess.run(call, stdin=source, stdout=out, stderr=subprocess.PIPE, check=False)
+    return done.returncode, done.stderr.decode(errors="replace")
+
+
 def decoded(
-    file: IO[bytes], options: list[str], out: Lines | None = None, numbered: bool = False
+    file: IO[bytes],
+    options: list[str],
+    out: Lines | None = None,
+    numbered: bool = False,
+    values: IO[bytes] | None = None,
 ) -> tuple[Facts, array[int]]:
     """Decodes an open raw file by the decoder's options. The trace goes to standard output, or line by line to `out`.
-    Returns the facts of the trace, and the numbers of its events' records if they are wanted."""
+    The values of its events go to `values`. Returns the facts of the trace, and the numbers of its events' records if
+    they are wanted."""
     record_of = array("Q")
     with tempfile.TemporaryFile() as numbers:
         files = [file.fileno(), numbers.fileno()]
-        call = [path(), *options, *(["--numbers", f"/dev/fd/{files[1]}"] if numbered else []), f"/dev/fd/{files[0]}"]
+        more = ["--numbers", f"/dev/fd/{files[1]}"] if numbered else []
+        if values:
+            files.append(values.fileno())
+            more += ["--values", f"/dev/fd/{files[2]}"]
+        call = [path(), *options, *more, f"/dev/fd/{files[0]}"]
         status, errors = run_decoder(call, files, out)
         facts = Facts(errors)
         if status:

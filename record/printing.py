@@ -14,6 +14,7 @@ import clocks
 import decoders
 import raw as raw_file
 import running
+import values
 
 # What racebench reads at once: events, threads, bytes.
 MOST_EVENTS, MOST_THREADS, MOST_BYTES = 1_048_576, 256, 268_435_456
@@ -89,17 +90,20 @@ def libraries_of(file: IO[bytes]) -> list[str]:
 def print_trace(options: argparse.Namespace, status: int, file: IO[bytes]) -> int:
     """Writes the trace, and its clock if that is wanted; the status of this command."""
     recorded = Recorded(file, bool(options.clock))
-    out = clocks.Kept(sys.stdout.buffer) if options.clock else None
+    out = clocks.Kept(sys.stdout.buffer) if options.clock or options.values else None
+    found = running.nameless_file()[0] if options.values else None
     try:
         if options.raw:
             with open(options.raw, "wb") as kept:
                 raw_file.write_compact(file, kept)
         is_killed = status < 0 and not recorded.head.deadlock
         decoding = decoder_options(options, is_killed)
-        facts, recorded.record_of = decoders.decoded(file, decoding, out, bool(options.clock))
+        facts, recorded.record_of = decoders.decoded(file, decoding, out, bool(options.clock), found)
         sys.stdout.buffer.flush()
-        if out:
+        if out and options.clock:
             clocks.write(options, recorded, out)
+        if out and found:
+            values.write(options.values, out, found)
     except (OSError, decoders.Undecodable) as error:
         say(
             f"{error.filename or 'the trace was not written'}: {error.strerror}"

@@ -48,7 +48,7 @@ MODULE = struct.Struct(f"<QQ{number_of(HEADER, 'MODULE_PATH')}s")
 NODE = struct.Struct("<QQII")
 RECORD = struct.Struct("<QQQQIIHBBBBH")
 # What the low 16 bits of a word say, and the numbers of words and slots.
-NOTHING, LONG, TURN, TAKEN_BACK = range(4)
+NOTHING, LONG, TURN, TAKEN_BACK, VALUE = range(5)
 FIRST_SLOT, SLOTS, LONG_WORDS = (number_of(HEADER, name) for name in ("FIRST_SLOT", "SLOTS", "LONG_WORDS"))
 WORD = 8
 # How many bytes are copied at once.
@@ -208,11 +208,11 @@ class Reader:
                 self.thread, self.tick = at, self.words[place + 1] if place + 1 < count else 0
             elif kind == TAKEN_BACK:
                 record = self.short(at, 0)._replace(kind=KINDS["VOID"])
-            elif kind != NOTHING:
+            elif kind not in (NOTHING, VALUE):
                 raise Damaged
             if record:
                 yield place, record
-            place += LONG_WORDS if kind == LONG else 2 if kind == TURN else 1
+            place += LONG_WORDS if kind == LONG else 2 if kind in (TURN, VALUE) else 1
 
 
 def all_records(raw: bytes, head: Numbers) -> Iterator[tuple[int, Record]]:

@@ -44,6 +44,7 @@ import recorded_runs
 import recorded_rust
 import recorded_strangers
 import recorded_tries
+import recorded_values
 import recorded_whole
 import recorded_workers
 import second_tries
@@ -252,7 +253,7 @@ def cases_of(racebench: str, pairs: Sequence[tuple[str, str | None]]) -> list[Ca
             cases += recorded_deadlocks.cases(racebench, c, cxx)
             cases += recorded_leaving.cases(racebench, c) + recorded_raw.cases(c)
             cases += recorded_strangers.cases(racebench, c, cxx) + recorded_go.cases(racebench)
-            cases += recorded_rust.cases(racebench) + recorded_workers.cases()
+            cases += recorded_rust.cases(racebench) + recorded_workers.cases() + recorded_values.cases(racebench)
         else:
             cases += recorded_strangers.more_cases(racebench, c, cxx)
         if cxx:

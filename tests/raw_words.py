@@ -10,8 +10,8 @@ from collections.abc import Iterator
 TOP = os.path.dirname(os.path.dirname(os.path.abspath(__file__)))
 WORDS, RECORD = struct.Struct("<20Q"), struct.Struct("<QQQQIIHBBBBH")
 # Words that are no slot, and how many words each begins.
-NOTHING, LONG, TURN, TAKEN_BACK = range(4)
-COUNTS = {LONG: 7, TURN: 2}
+NOTHING, LONG, TURN, TAKEN_BACK, VALUE = range(5)
+COUNTS = {LONG: 7, TURN: 2, VALUE: 2}
 # The places of some words of the head: of the records' words, how many there are, and of the turns by force.
 USED_AT, WORDS_AT, FORCED_AT = 2, 6, 8
 
@@ -56,7 +56,7 @@ def numbered_rows(raw: bytes, used: int) -> Iterator[tuple[int, tuple[int, ...]]
             thread, hooks = rest, int.from_bytes(more, "little")
         elif piece == TAKEN_BACK:
             hooks += 1
-        else:
+        elif piece != VALUE:
             _, pc, _, _, size, node, _, kind, _, order, of, unused = shapes[piece]
             hooks += kind != frame
             answer, clock = (rest, 0) if kind == frame else (0, hooks << 16)

@@ -308,6 +308,7 @@ def judge_choices() -> None:
     for options, why in (
         (["--clock", "clock", "--from", "2"], "--clock: the trace of a clock begins with the first event"),
         (["--ordered", "ordered"], "--ordered: the trace of a Go program leaves out no access"),
+        (["--values", "values"], "--values: it is for C, C++ and Rust programs"),
         (["--names", "raw"], "--names: the variables of a Go program have the names of the source"),
     ):
         trace, notes = recorded("counter", *options, wanted=2)

@@ -202,6 +202,7 @@ def judge_refused() -> None:
         (["--no-free", "-cp", ".", "Main"], "a Java program frees nothing"),
         (["--all", "Main"], "--all is not there for Java: the trace leaves out no access"),
         (["--ordered", "to", "Main"], "--ordered is not there for Java: the trace leaves out no access"),
+        (["--values", "to", "Main"], "--values is not there for Java: it is for C, C++ and Rust programs"),
         (["--names", "raw", "Main"], "variables have the names of the source"),
         (["--slots", "Main"], "it is for Go programs"),
         (["--frames", "9", "Main"], "--frames is from 0 to 8"),

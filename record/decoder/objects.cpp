@@ -155,6 +155,14 @@ void Objects::resize(u64 start, u64 size) {
     at->second.size = size;
 }
 
+Where Objects::living_with(u64 address) const {
+    auto next = on.living.upper_bound(address);
+    if (next == on.living.begin()) return {NOTHING, 0};
+    auto last = std::prev(next);
+    return address < last->second.end(last->first) ? Where{last->second.thing, address - last->first}
+                                                   : Where{NOTHING, 0};
+}
+
 Where Objects::living_at(u64 start) const {
     auto at = on.living.find(start);
     return at == on.living.end() ? Where{NOTHING, 0} : Where{at->second.thing, at->second.size};

@@ -71,6 +71,8 @@ public:
     void resize(u64 start, u64 size);
     // The living block that starts at an address, and its length; or nothing.
     Where living_at(u64 start) const;
+    // The block or stack that lives at an address; or nothing.
+    Where living_with(u64 address) const;
     Where at(u64 address) {
         u64 page = address >> PAGE_BITS;
         const Whole &whole = pages[page % WHOLE_PAGES];

@@ -29,6 +29,7 @@
 #include "raw.hpp"
 #include "relaxed.hpp"
 #include "streams.hpp"
+#include "values.hpp"
 
 namespace trace {
 
@@ -45,6 +46,8 @@ struct Options {
     bool all = false;
     // Where the accesses that are left out are named; nowhere if it is empty.
     std::string ordered;
+    // Where the values of the events are written; nowhere if it is empty.
+    std::string values;
     // Variables that these files access; empty for all variables.
     std::vector<std::string> only;
     // Libraries that may be without hooks: how their names begin.
@@ -168,6 +171,8 @@ public:
     std::vector<deadlocks::Wait> deadlock();
     // Writes which accesses are not, since forks and joins order them, to the file of the options.
     void write_ordered();
+    // Writes what each event of the trace read or wrote, if that is known, as lines `EVENT VALUE`.
+    void write_values();
     // Where accesses are written with more order than they have.
     std::set<std::string> stronger_places();
 
@@ -272,6 +277,7 @@ private:
     void put(const char *text, size_t size);
     void flush();
     void see_deadlock(const record &one, const Resolved &of);
+    std::string value_of(const values::Values &known, const Found &found, const Operation &operation);
 
     const raw::File &file;
     Options options;

@@ -280,6 +280,8 @@ def refused(options: argparse.Namespace) -> str:
     """Why options can't be used for a Go program; empty if they can."""
     if options.clock and options.first:
         return "--clock: the trace of a clock begins with the first event, so --from can't be used"
+    if options.values:
+        return "--values: it is for C, C++ and Rust programs"
     if options.ordered:
         return "--ordered: the trace of a Go program leaves out no access that forks alone order"
     if options.names != "source":

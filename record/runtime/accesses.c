@@ -7,6 +7,7 @@
 #include "events.h"
 #include "follow.h"
 #include "turns.h"
+#include "values.h"
 #include "words.h"
 
 /* A turn ends after a number of accesses, which is drawn below twice `--yield`. If a turn brought no place of code
@@ -61,13 +62,13 @@ static inline void look_for_waiting(u64 at, u64 pc) {
     if (again && left_of_turn > 2 * (u64)one_in) begin_turn(1);
 }
 
-static inline __attribute__((always_inline)) void put_access(int kind, u64 at, u64 size, u64 pc) {
+static inline __attribute__((always_inline)) u64 put_access(int kind, u64 at, u64 size, u64 pc) {
     if (is_full && !following) {
         head->lost++;
-        return;
+        return NO_PLACE;
     }
     see_place(pc);
-    put_plain(kind, at, size, pc);
+    return put_plain(kind, at, size, pc);
 }
 
 /* An access of a call that has been made, in the turn that it was made in: no other thread comes between. */
@@ -75,22 +76,42 @@ static void accessed(int kind, const volatile void *at, u64 size, u64 pc) {
     if (!IDLE && size) put_access(kind, (u64)at, size, pc);
 }
 
-/* Nearly all hooks are of this kind: all of it is inlined here. */
-static __attribute__((noinline)) void come_to_access(int kind, u64 at, u64 size, u64 pc) {
+/* Before all else, in a run that is followed or if values are recorded. */
+static __attribute__((noinline)) void begin_access(int kind, u64 at, u64 size, u64 pc) {
+    if (keeps_values) settle_value();
     if (following) about_to(kind, at, size, pc);
+}
+
+/* Nearly all hooks are of this kind: all of it is inlined here. The place of the record. */
+static __attribute__((noinline)) u64 come_to_access(int kind, u64 at, u64 size, u64 pc) {
+    if (following | keeps_values) begin_access(kind, at, size, pc);
     if (kind == READ) look_for_waiting(at, pc);
     else last_read[0].pc = last_read[1].pc = 0;
     maybe_give();
-    put_access(kind, at, size, pc);
+    return put_access(kind, at, size, pc);
 }
 
+static __attribute__((noinline)) void come_with_value(int kind, u64 at, u64 size, u64 pc) {
+    note_value(come_to_access(kind, at, size, pc), kind, (void *)at, size);
+}
+
+/* An access of the program's code. */
+static inline void hook(int kind, const volatile void *at, u64 size, u64 pc) {
+    if (IDLE) return;
+    if (keeps_values) come_with_value(kind, (u64)at, size, pc);
+    else come_to_access(kind, (u64)at, size, pc);
+}
+
+/* An access of a call has no value: the call is made later than this hook. */
 static inline void access_(int kind, const volatile void *at, u64 size, u64 pc) {
     if (!IDLE && size) come_to_access(kind, (u64)at, size, pc);
 }
 
 /* Before a call whose accesses are known when it has been made: another thread may come first. */
 static void comes_to_call(void) {
-    if (!IDLE) maybe_give();
+    if (IDLE) return;
+    if (keeps_values) settle_value();
+    maybe_give();
 }
 
 /* What a call wrote, where it wrote something: it is a tick all the same. */
@@ -109,14 +130,14 @@ static void went_over(const volatile void *at, u64 size, u64 pc) {
 }
 
 #define ACCESSES(n) \
-    void __tsan_read##n(void *a) { access_(READ, a, n, PC); } \
-    void __tsan_write##n(void *a) { access_(WRITE, a, n, PC); } \
-    void __tsan_unaligned_read##n(void *a) { access_(READ, a, n, PC); } \
-    void __tsan_unaligned_write##n(void *a) { access_(WRITE, a, n, PC); } \
-    void __tsan_volatile_read##n(void *a) { access_(READ, a, n, PC); } \
-    void __tsan_volatile_write##n(void *a) { access_(WRITE, a, n, PC); } \
-    void __tsan_unaligned_volatile_read##n(void *a) { access_(READ, a, n, PC); } \
-    void __tsan_unaligned_volatile_write##n(void *a) { access_(WRITE, a, n, PC); } \
+    void __tsan_read##n(void *a) { hook(READ, a, n, PC); } \
+    void __tsan_write##n(void *a) { hook(WRITE, a, n, PC); } \
+    void __tsan_unaligned_read##n(void *a) { hook(READ, a, n, PC); } \
+    void __tsan_unaligned_write##n(void *a) { hook(WRITE, a, n, PC); } \
+    void __tsan_volatile_read##n(void *a) { hook(READ, a, n, PC); } \
+    void __tsan_volatile_write##n(void *a) { hook(WRITE, a, n, PC); } \
+    void __tsan_unaligned_volatile_read##n(void *a) { hook(READ, a, n, PC); } \
+    void __tsan_unaligned_volatile_write##n(void *a) { hook(WRITE, a, n, PC); } \
     void __tsan_read_write##n(void *a) { \
         access_(READ, a, n, PC); \
         access_(WRITE, a, n, PC); \

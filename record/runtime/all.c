@@ -6,6 +6,7 @@
 #include "plan.c"
 #include "freed.c"
 #include "words.c"
+#include "values.c"
 #include "events.c"
 #include "frames.c"
 #include "follow.c"

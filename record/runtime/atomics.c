@@ -8,6 +8,7 @@
 #include "deadlocks.h"
 #include "events.h"
 #include "follow.h"
+#include "values.h"
 #include "words.h"
 
 /* Where the library of C++ counts who waits at an atomic variable, a semaphore, a latch or a barrier, so that it wakes
@@ -19,13 +20,16 @@ static int is_waiter_count(const volatile void *at) { return waiter_pool && (u64
 /* The record of an atomic access comes before it; its place. One that `may_fail` becomes a read if it does. */
 static u64 atomic_as(int kind, const volatile void *at, u64 size, int order, u64 pc, int may_fail) {
     if (IDLE) return NO_PLACE;
+    if (keeps_values) settle_value();
     if (following) about_to(kind, (u64)at, size, pc);
     look_for_waiting((u64)at, pc);
     maybe_give();
     see_place(pc);
     if (is_waiter_count(at)) order = __ATOMIC_RELAXED;
     struct record r = {.kind = (u8)kind, .at = (u64)at, .size = (u32)size, .pc = pc, .order = (u8)order};
-    return may_fail ? put_open_record(r) : put_record(r);
+    u64 place = may_fail ? put_open_record(r) : put_record(r);
+    if (keeps_values) note_value(place, kind, at, size);
+    return place;
 }
 
 static u64 atomic_(int kind, const volatile void *at, u64 size, int order, u64 pc) {

@@ -9,6 +9,7 @@
 #include "freed.h"
 #include "plan.h"
 #include "turns.h"
+#include "values.h"
 #include "words.h"
 
 static u64 put(int kind, u64 at, u64 size, u64 pc);
@@ -125,6 +126,7 @@ static u64 pos_of_end(u64 at, u64 size, u64 pc) {
  * when the call has been made. Inlined, so that the record is in registers. */
 static inline __attribute__((always_inline)) u64 put_inline(struct record r, int stays_open) {
     if (IDLE) return NO_PLACE;
+    if (keeps_values) settle_value();
     keep_turn();
     int is_end = r.kind == FREED && r.order == OF_FRAME;
     r.pos = is_end ? pos_of_end(r.at, r.size, r.pc) : next_pos(r.kind, r.at, r.size, r.pc);

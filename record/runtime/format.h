@@ -52,15 +52,18 @@ struct record {
  * NOTHING is a word that was not written. After LONG there is a whole record in the next words; unless the content is
  * 0, it is the slot whose form the record is from now on. TURN has a thread as its content, and the next word says how
  * many hooks that thread has passed. TAKEN_BACK is a record that did not happen after all; its content is its slot.
+ * VALUE is what an access read or wrote, which is the next word. Its content is twice the number of the record's word,
+ * and one more for a write; 0 if the value was not written whole.
  *
  * Any other number, from FIRST_SLOT on, is a slot: a record of its form, whose `at` is the content. Its thread is that
  * of the last TURN, or of the last long record with a clock. It is the thread's next tick. Its `answer` is 0. But a
  * FRAME is no tick, and its `answer` is its `at`. */
-enum { NOTHING, LONG, TURN, TAKEN_BACK };
+enum { NOTHING, LONG, TURN, TAKEN_BACK, VALUE };
 #define FIRST_SLOT 16
 #define SLOTS 65536
 #define LONG_WORDS 7
 #define TURN_WORDS 2
+#define VALUE_WORDS 2
 
 /* A function that was entered: a place in it, where it was called, and the node of its caller. `same` is the node that
  * represents it: if a function calls itself, the one above it that has the same two places. */

@@ -65,6 +65,7 @@ static inline const struct record *read_other(struct reader *r, u64 word) {
         r->thread = (u16)(word / SLOTS);
         if (r->next < r->end) r->tick = r->words[r->next++];
         return 0;
+    case VALUE: r->next++; return 0;
     case TAKEN_BACK: return read_taken_back(r, word / SLOTS);
     default: r->is_faulty = 1; return 0;
     }

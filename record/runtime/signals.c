@@ -12,6 +12,7 @@
 #include "events.h"
 #include "follow.h"
 #include "turns.h"
+#include "values.h"
 
 static struct sigaction handlers[NSIG];
 
@@ -67,8 +68,10 @@ static void handle(int number, siginfo_t *info, void *context) {
     if (waits) in_a_row = had_turn ? in_a_row + 1 : 0, inside = 0;
     if (!(a->sa_flags & SA_RESTART)) was_interrupted = 1;
     errno = error;
+    forget_value();
     if (a->sa_flags & SA_SIGINFO) a->sa_sigaction(number, info, context);
     else a->sa_handler(number);
+    forget_value();
     if (outside) give();
     if (waits) keep_turn(), inside = IN_TURNS, is_waiting = in_a_row < MOST_IN_A_ROW;
 }

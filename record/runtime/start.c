@@ -11,6 +11,7 @@
 #include "processes.h"
 #include "threads.h"
 #include "turns.h"
+#include "values.h"
 #include "words.h"
 
 /* The compiled parts of the program that have hooks, before the head is there. */
@@ -34,7 +35,9 @@ static u64 lay_out(struct head *h, u64 room) {
     h->stack_room = room / 4 < 4096 ? 4096 : room / 4 > 1 << 24 ? 1 << 24 : room / 4;
     h->stacks_at = sizeof *h;
     h->words_at = (h->stacks_at + h->stack_room * sizeof(struct node) + 4095) / 4096 * 4096;
-    return h->words_at + (room * LONG_WORDS + PIECE) / PIECE * PIECE * sizeof *words;
+    /* An update has two values. */
+    u64 most_words = LONG_WORDS + (keeps_values ? 2 * VALUE_WORDS : 0);
+    return h->words_at + (room * most_words + PIECE) / PIECE * PIECE * sizeof *words;
 }
 
 /* Makes room for the table of nodes and the first of each part; whether there is any. */
@@ -131,6 +134,7 @@ static void start(void) {
     if (started) return;
     started = 1;
     inside = 1;
+    keeps_values = option("RACEBENCH_RECORD_VALUES", 0) > 0;
     int there = map_file(getenv("RACEBENCH_RECORD"));
     if (raw_file >= 0) hide_file();
     inside = 0;

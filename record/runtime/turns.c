@@ -6,6 +6,7 @@
 #include "channels.h"
 #include "follow.h"
 #include "threads.h"
+#include "values.h"
 
 static volatile u32 holder = NOBODY;
 static volatile u64 progress;
@@ -185,6 +186,7 @@ static void take(void) {
 
 static void give(void) {
     if (me >= MOST_THREADS || holder != me) return;
+    if (keeps_values) settle_value();
     struct before b = enter_turns();
     lock_turns();
     if (holder == me) hand_on();
@@ -200,6 +202,7 @@ static void give_and_take(void) {
         take();
         return;
     }
+    if (keeps_values) settle_value();
     struct before b = enter_turns();
     lock_turns();
     u32 k = choose();
@@ -252,6 +255,7 @@ static int park(const volatile void *at, const struct timespec *until, clockid_t
         let_others();
         return 0;
     }
+    if (keeps_values) settle_value();
     struct before b = enter_turns();
     lock_turns();
     __atomic_store_n(&woken[me], 0, __ATOMIC_SEQ_CST);

@@ -172,6 +172,20 @@ static inline int fits_word(const struct record r) {
     return r.at >> 48 == 0 && r.pc >> 48 == 0 && r.kind < 32 && r.of < 8;
 }
 
+/* What the record at a place read or wrote. The next record of this thread continues what the last one did. */
+static void put_value(u64 place, int is_write, u64 value) {
+    u64 at, state;
+    do {
+        at = __atomic_load_n(&head->used, __ATOMIC_ACQUIRE);
+        state = last_put;
+        if (is_full || !has_words(at, VALUE_WORDS)) return;
+    } while (!take_words(at, VALUE_WORDS));
+    __atomic_store_n(&words[at], VALUE, __ATOMIC_RELEASE);
+    __atomic_store_n(&words[at + 1], value, __ATOMIC_RELEASE);
+    __atomic_store_n(&words[at], (place << 1 | (u64)is_write) * SLOTS + VALUE, __ATOMIC_RELEASE);
+    if (state == STATE(me, tick, at)) last_put = STATE(me, tick, at + VALUE_WORDS);
+}
+
 /* What was recorded before a call that was then refused did not happen. */
 static void take_back(u64 place) {
     if (place == NO_PLACE) return;

@@ -30,5 +30,6 @@ SHARED u64 put_first_access(u64 at, struct form f, u32 thread, u64 now);
 SHARED u64 first_slot_of(struct form f);
 SHARED u64 put_word(struct record r, u64 before, u64 after);
 SHARED u64 put_long(const struct record *r, u64 slot);
+SHARED void put_value(u64 place, int is_write, u64 value);
 SHARED void take_back(u64 place);
 #undef SHARED
