@@ -26,6 +26,7 @@ pub use leaving::{Choice, Left, is_met, left_of};
 pub use left::{MergedAsked, MergedForm, write_left};
 pub use listing::{triage, triage_on};
 pub use merging::{MergedLog, write_merged_page, write_merged_sarif};
+pub use race_changes::race_rows;
 pub use race_page::About;
 pub use race_triage::{Filters, MAX_TRIES, Silent, Watch, has_block};
 pub use recording::read_recording;

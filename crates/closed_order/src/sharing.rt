@@ -1,9 +1,11 @@
-//! Looks for contradictions of many pairs of requests, with one budget.
-ghost use Rattle.std.specs.Prelude.{◌<◌, [], ◌∷◌, All, length};
+//! Looks at many pairs of events, with one budget.
+ghost use Rattle.std.specs.Prelude.{◌<◌, [], ◌∷◌, All, IfOk, length};
 ghost use Rattle.rapid_text.specs.Appended.{IfFound};
+ghost use Rattle.closed_order.specs.Looks.{IsClosed, IsClosedDeadlock};
 ghost use Rattle.closed_order.specs.Steps.{IsContradiction};
 
 use crate::contradicting::contradiction_of;
+use crate::looking::{Closed, deadlock_looked_at, race_looked_at};
 use crate::steps::Step;
 use crate::tables::Tables;
 use must_order::Analysis;
@@ -55,18 +57,73 @@ impl Closing {
         requires second { second < length analysis.now.events }
         ensures { IfFound result (λ steps. IsContradiction analysis.now.events (first ∷ second ∷ []) steps.items) }
     {
-        if self.left == 0 {
+        if !self.begin(alloc, analysis)? {
             return Ok(None);
+        }
+        match &self.tables {
+            None => Ok(None),
+            Some(tables) => found(alloc, analysis, tables, &[first, second], &mut self.left),
+        }
+    }
+
+    /// Whether two conflicting accesses can come side by side: steps that contradict them, or a schedule that shows them,
+    /// if the search finds either before the counts are used up.
+    pub fn race(
+        &mut self,
+        alloc: Global,
+        analysis: &Analysis<'_>,
+        first: u32,
+        second: u32,
+    ) -> Result<Closed, OutOfMemory>
+        requires first { first < length analysis.now.events }
+        requires second { second < length analysis.now.events }
+        ensures { IfOk result (IsClosed analysis.now first second) }
+    {
+        if !self.begin(alloc, analysis)? {
+            return Ok(Closed::Open);
+        }
+        match &self.tables {
+            None => Ok(Closed::Open),
+            Some(tables) => {
+                race_looked_at(alloc, analysis, tables, (first, second), &mut self.left)
+            }
+        }
+    }
+
+    /// The same for the two requests of a deadlock.
+    pub fn deadlock(
+        &mut self,
+        alloc: Global,
+        analysis: &Analysis<'_>,
+        first: u32,
+        second: u32,
+    ) -> Result<Closed, OutOfMemory>
+        requires first { first < length analysis.now.events }
+        requires second { second < length analysis.now.events }
+        ensures { IfOk result (IsClosedDeadlock analysis.now first second) }
+    {
+        if !self.begin(alloc, analysis)? {
+            return Ok(Closed::Open);
+        }
+        match &self.tables {
+            None => Ok(Closed::Open),
+            Some(tables) => {
+                deadlock_looked_at(alloc, analysis, tables, (first, second), &mut self.left)
+            }
+        }
+    }
+
+    // Makes the lists of the trace, and takes the cost of a search. False if nothing is left.
+    fn begin(&mut self, alloc: Global, analysis: &Analysis<'_>) -> Result<bool, OutOfMemory> {
+        if self.left == 0 {
+            return Ok(false);
         }
         if self.tables.is_none() {
             self.tables = Some(Tables::of(alloc, analysis.indexed())?);
         }
         let cost = u64::from(analysis.indexed().len() / 8);
         self.left = self.left.saturating_sub(cost);
-        match &self.tables {
-            None => Ok(None),
-            Some(tables) => found(alloc, analysis, tables, &[first, second], &mut self.left),
-        }
+        Ok(true)
     }
 }
 

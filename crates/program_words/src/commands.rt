@@ -166,6 +166,13 @@ locations may race.",
             ),
         },
         Word {
+            name: "since",
+            kind: Kind::Text("OLD"),
+            help: Some(
+                "Say which races are new or gone since OLD, which `triage --json` or `merge --json` printed",
+            ),
+        },
+        Word {
             name: "fail",
             kind: Kind::Flag(&[]),
             help: Some("End with status 3 if a race is printed, or 4 if the trace has no events"),

@@ -88,6 +88,27 @@ pub(crate) fn today_of(given: &ArgMatches<'_>) -> Result<Option<u32>, Unread> {
     day(given.get_str("today"), given.get_str("triage").is_some())
 }
 
+/// Refuses an earlier report beside options whose report is not compared.
+fn check_since(given: &ArgMatches<'_>) -> Result<(), Unread> {
+    if given.get_str("since").is_none() {
+        return Ok(());
+    }
+    if given.get_flag("json")
+        || given.get_flag("lines")
+        || given.get_flag("page")
+        || given.get_flag("sarif")
+        || given.get_flag("init-triage")
+        || given.get_str("windows").is_some()
+    {
+        return Err(Unread::Refused(TEXT_ALONE));
+    }
+    Ok(())
+}
+
+/// Why `--since` is refused with other options.
+const TEXT_ALONE: &str =
+    "`--since` does not go with `--json`, `--lines`, `--page`, `--sarif`, `--init-triage`, `--windows`";
+
 /// Refuses paths and texts of `triage` that do not go together.
 fn check_triage(given: &ArgMatches<'_>) -> Result<(), Unread> {
     let decided = word(given, "triage");
@@ -98,8 +119,9 @@ fn check_triage(given: &ArgMatches<'_>) -> Result<(), Unread> {
             word(given, "confirmed"),
             decided,
         ],
-        &[],
+        &[word(given, "since")],
     )?;
+    check_since(given)?;
     check_beside(
         given,
         "confirmed",
@@ -182,6 +204,7 @@ fn triage<'a>(alloc: Global, given: &ArgMatches<'a>, limits: Limits) -> Result<T
         source: given.get_str("source"),
         triage: given.get_str("triage"),
         today: numbers.today,
+        since: given.get_str("since"),
         fail: given.get_flag("fail"),
         progress: given.get_flag("progress"),
     }))

@@ -140,6 +140,8 @@ pub struct TriageTask<'a> {
     pub triage: Option<&'a str>,
     /// The day on which its entries must be in force, a number such as 20271231; None means today.
     pub today: Option<u32>,
+    /// The path of an earlier report in JSON, with whose races those of the trace are compared.
+    pub since: Option<&'a str>,
     /// Whether the exit status is 3 if a race is printed, and 4 if the trace has no events.
     pub fail: bool,
     /// Whether standard error shows the progress, even if it is not a terminal.

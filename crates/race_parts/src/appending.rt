@@ -9,7 +9,7 @@ use rapid_text::OutOfMemory;
 use serde_json::Value;
 
 /// Appends `words`.
-pub(crate) fn append_words(out: &mut Vec<u8>, words: &[u8]) -> Result<(), OutOfMemory>
+pub fn append_words(out: &mut Vec<u8>, words: &[u8]) -> Result<(), OutOfMemory>
     ensures { Appended result out.old out.new words.now }
 {
     out.extend_from_slice(words)?;
@@ -17,7 +17,7 @@ pub(crate) fn append_words(out: &mut Vec<u8>, words: &[u8]) -> Result<(), OutOfM
 }
 
 /// Appends a blank and a number.
-pub(crate) fn append_number(out: &mut Vec<u8>, number: u64) -> Result<(), OutOfMemory>
+pub fn append_number(out: &mut Vec<u8>, number: u64) -> Result<(), OutOfMemory>
     ensures { Appended result out.old out.new (number_text number) }
 {
     let mut digits = Buffer::new();
@@ -26,7 +26,7 @@ pub(crate) fn append_number(out: &mut Vec<u8>, number: u64) -> Result<(), OutOfM
 }
 
 /// Appends a word, a blank, the number, and a line feed.
-pub(crate) fn append_count(out: &mut Vec<u8>, word: &[u8], number: u64) -> Result<(), OutOfMemory>
+pub fn append_count(out: &mut Vec<u8>, word: &[u8], number: u64) -> Result<(), OutOfMemory>
     ensures { Appended result out.old out.new (count_line word.now number) }
 {
     append_words(out, word)?;

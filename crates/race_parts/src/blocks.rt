@@ -91,7 +91,7 @@ fn append_event(out: &mut Vec<u8>, access: &Value) -> Result<(), OutOfMemory>
 
 /// Appends the access with this index, 0 or 1, and the locks that its thread holds. Appends nothing if the row has no
 /// such access.
-fn append_access(out: &mut Vec<u8>, row: &Value, place: usize) -> Result<(), OutOfMemory>
+pub fn append_access(out: &mut Vec<u8>, row: &Value, place: usize) -> Result<(), OutOfMemory>
     ensures { Appended result out.old out.new (access_text place (view row.now)) }
 {
     match access_in(row, place) {
@@ -104,7 +104,7 @@ fn append_access(out: &mut Vec<u8>, row: &Value, place: usize) -> Result<(), Out
 }
 
 /// Appends a word and the event numbers of the two accesses.
-fn append_pair(out: &mut Vec<u8>, word: &[u8], row: &Value) -> Result<(), OutOfMemory>
+pub fn append_pair(out: &mut Vec<u8>, word: &[u8], row: &Value) -> Result<(), OutOfMemory>
     ensures { Appended result out.old out.new (words_text word.now (view row.now)) }
 {
     append_words(out, word)?;

@@ -23,6 +23,8 @@ mod sharing;
 mod text;
 mod undoing;
 
+pub use appending::{append_count, append_number, append_words};
+pub use blocks::{append_access, append_pair};
 pub use cells::{Cell, Row, cells_of, event_in, rows_of};
 pub use counting::races_in;
 pub use facts::{Fact, data_of};

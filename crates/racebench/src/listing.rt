@@ -15,16 +15,27 @@ use client_scripts::{ReplayFault, Sink};
 use event_index::Indexed;
 use program_words::{RacesForm, TriageTask};
 use rapid_text::OutOfMemory;
+use serde_json::Value as Row;
 use std::alloc::Global;
 use std::thread::Threads;
 use toml::Value;
 
-/// What is listed: the options, what was found when races were followed, and the entries of a triage file.
+/// What is listed: the options, what was found when races were followed, the entries of a triage file, and the rows of
+/// the races of an earlier report.
 #[derive(Clone, Copy)]
 pub(crate) struct Listing<'a> {
     pub(crate) task: &'a TriageTask<'a>,
     pub(crate) about: About<'a>,
     pub(crate) triage: Option<&'a [Value]>,
+    pub(crate) since: Option<&'a [Row]>,
+}
+
+/// The form of a text, which is compared with these rows if there are any.
+fn text_form(since: Option<&[Row]>) -> Form<'_> {
+    match since {
+        Some(rows) => Form::Since { rows },
+        None => Form::Text,
+    }
 }
 
 /// The options, in the type that the call takes.
@@ -39,7 +50,7 @@ fn asked_of<'a>(listing: Listing<'a>, code: &'a Code<'_>) -> Asked<'a> {
         tries: task.tries,
         workers: task.workers,
         form: match task.form {
-            RacesForm::Text => Form::Text,
+            RacesForm::Text => text_form(listing.since),
             RacesForm::Json => Form::Json,
             RacesForm::Lines => Form::Lines {
                 folder: &code.found.folder,

@@ -86,7 +86,7 @@ fn tell_refusal(rt: &HostRuntime, fault: MergeFault, path: &str, other: &str) ->
 }
 
 /// Reports a fault of the file with this number.
-fn tell_merge(rt: &HostRuntime, fault: MergeFault, file: u32, paths: &[&str]) -> ExitCode
+pub(crate) fn tell_merge(rt: &HostRuntime, fault: MergeFault, file: u32, paths: &[&str]) -> ExitCode
     ensures { 0 < exit_status result }
 {
     match fault {
@@ -99,7 +99,7 @@ fn tell_merge(rt: &HostRuntime, fault: MergeFault, file: u32, paths: &[&str]) ->
 }
 
 /// Takes in the parts of the files at these paths. A fault comes with the number of its file.
-fn read_parts(rt: &HostRuntime, paths: &[&str]) -> Result<Parts, (MergeFault, u32)> {
+pub(crate) fn read_parts(rt: &HostRuntime, paths: &[&str]) -> Result<Parts, (MergeFault, u32)> {
     let mut parts = Parts::new(rt.alloc());
     take_in(rt, &mut parts, paths)?;
     Ok(parts)

@@ -4,6 +4,7 @@ use crate::coding::{is_folder, tell_codeless};
 use crate::failing::{NO_TRACE_EVENTS, Unjudged, status_of};
 use crate::input::input_at;
 use crate::listing::{Listed, Listing, list_to};
+use crate::merging::{read_parts, tell_merge};
 use crate::progress::Progress;
 use crate::seen::Seen;
 use crate::telling::tell_replay;
@@ -13,10 +14,12 @@ use crate::telling_triage::{
 };
 use crate::today::today_of;
 use calls::triage::{
-    About, ConfirmedFault, Crew, Followed, Silent, Watch, entries_of, read_confirmed, read_triaged,
+    About, ConfirmedFault, Crew, Followed, Silent, Watch, entries_of, race_rows, read_confirmed,
+    read_triaged,
 };
 use client_scripts::{FromWrite, ReplayFault};
 use program_words::TriageTask;
+use serde_json::Value as Row;
 use std::alloc::AllocError;
 use std::io::IsTerminal;
 use std::process::ExitCode;
@@ -139,22 +142,59 @@ fn list_about<R: Threads + Wait + Sync>(
     list_races(rt, starts, listing, &Silent)
 }
 
-/// Prints the report, with these followed races and these entries of a triage file, if there are any.
+/// Prints the report, with what was read of the other files.
+fn list_compared<R: Threads + Wait + Sync>(
+    rt: &HostRuntime,
+    starts: &R,
+    task: &TriageTask<'_>,
+    read: Read<'_>,
+    since: Option<&[Row]>,
+) -> ExitCode {
+    let about = About {
+        name: task.trace.as_bytes(),
+        followed: read.followed,
+    };
+    let listing = Listing {
+        task,
+        about,
+        triage: read.triage,
+        since,
+    };
+    list_about(rt, starts, listing)
+}
+
+/// The rows of the races of the earlier report at this path. Reports a fault.
+fn rows_at(rt: &HostRuntime, path: &str) -> Result<Vec<Row>, ExitCode> {
+    match read_parts(rt, &[path]) {
+        Ok(parts) => match race_rows(rt.alloc(), &parts) {
+            Ok(rows) => Ok(rows),
+            Err(_) => Err(tell_replay(rt, ReplayFault::OutOfMemory)),
+        },
+        Err((fault, file)) => Err(tell_merge(rt, fault, file, &[path])),
+    }
+}
+
+/// What was read of the files beside the trace: followed races, and entries of a triage file.
+#[derive(Clone, Copy)]
+struct Read<'a> {
+    followed: Option<&'a [Followed]>,
+    triage: Option<&'a [Value]>,
+}
+
+/// Reads the earlier report, if one is named, and prints the report.
 fn list_followed<R: Threads + Wait + Sync>(
     rt: &HostRuntime,
     starts: &R,
     task: &TriageTask<'_>,
-    followed: Option<&[Followed]>,
-    triage: Option<&[Value]>,
+    read: Read<'_>,
 ) -> ExitCode {
-    let name = task.trace.as_bytes();
-    let about = About { name, followed };
-    let listing = Listing {
-        task,
-        about,
-        triage,
+    let Some(path) = task.since else {
+        return list_compared(rt, starts, task, read, None);
     };
-    list_about(rt, starts, listing)
+    match rows_at(rt, path) {
+        Ok(rows) => list_compared(rt, starts, task, read, Some(rows.as_slice())),
+        Err(status) => status,
+    }
 }
 
 /// Reads the triage file, if one is named, and prints the report.
@@ -165,13 +205,20 @@ fn list_decided<R: Threads + Wait + Sync>(
     followed: Option<&[Followed]>,
 ) -> ExitCode {
     let Some(path) = task.triage else {
-        return list_followed(rt, starts, task, followed, None);
+        let read = Read {
+            followed,
+            triage: None,
+        };
+        return list_followed(rt, starts, task, read);
     };
     let Some(today) = today_of(rt, task.today) else {
         return tell_dateless(rt);
     };
     match read_triaged(rt.alloc(), &mut input_at(rt, path), today) {
-        Ok(table) => list_followed(rt, starts, task, followed, Some(entries_of(&table))),
+        Ok(table) => {
+            let triage = Some(entries_of(&table));
+            list_followed(rt, starts, task, Read { followed, triage })
+        }
         Err(fault) => tell_triaged(rt, fault, path),
     }
 }

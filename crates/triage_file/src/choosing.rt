@@ -11,7 +11,7 @@ use rapid_text::OutOfMemory;
 use toml::Value;
 
 /// Whether the verdict is a race.
-pub(crate) fn is_race(verdict: &Verdict) -> bool
+pub fn is_race(verdict: &Verdict) -> bool
     ensures { result ≡ is_race verdict.now }
 {
     match verdict.outcome {

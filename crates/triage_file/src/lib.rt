@@ -11,10 +11,12 @@ mod mistakes;
 mod spots;
 mod writing;
 
-pub use choosing::{add_triaged, is_met};
+pub use choosing::{add_triaged, is_met, is_race};
 pub use fields::hides;
 pub use files::{Refusal, entries_of, read_triage};
-pub use matching::{are_sides, has_variables, is_match, is_named};
+pub use matching::{
+    are_sides, function_of, has_variables, is_match, is_named, line_of, path_of, use_of,
+};
 pub use mistakes::Mistake;
 pub use spots::Spot;
 pub use toml::{Table, Value};

@@ -16,7 +16,7 @@ use toml::Value;
 use variable_names::are_same;
 
 /// The path of a place `PATH:LINE`. A place of another form is a path without a line.
-pub(crate) fn path_of(place: &[u8]) -> &[u8]
+pub fn path_of(place: &[u8]) -> &[u8]
     ensures { result.now ≡ path_of place.now }
 {
     if is_line(place) {
@@ -28,7 +28,7 @@ pub(crate) fn path_of(place: &[u8]) -> &[u8]
 }
 
 /// The line of a place `PATH:LINE`; empty if the place has none.
-pub(crate) fn line_of(place: &[u8]) -> &[u8]
+pub fn line_of(place: &[u8]) -> &[u8]
     ensures { result.now ≡ line_of place.now }
 {
     if is_line(place) {
@@ -40,7 +40,7 @@ pub(crate) fn line_of(place: &[u8]) -> &[u8]
 }
 
 /// The function of an access at this location; empty if the location names none.
-pub(crate) fn function_of(location: &[u8]) -> &[u8]
+pub fn function_of(location: &[u8]) -> &[u8]
     ensures { result.now ≡ function_of location.now }
 {
     let (_, calls) = cut_at_arrow(location);
@@ -120,7 +120,7 @@ pub fn are_sides(entry: &Value, one: &[u8], other: &[u8]) -> bool
 }
 
 /// The variable that the event accesses. Returns None if the event is not an access.
-pub(crate) fn use_of(indexed: &Indexed, event: u32) -> Option<&[u8]>
+pub fn use_of(indexed: &Indexed, event: u32) -> Option<&[u8]>
     ensures { option_map (λ name. name.now) result ≡ use_at indexed.now event }
 {
     if event < indexed.len() {

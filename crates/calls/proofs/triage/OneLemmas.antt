@@ -19,11 +19,11 @@ use Rattle.race_triage.specs.declared.totals.Totals.{Totals}
 use Rattle.race_triage.specs.declared.verdicts.Verdict.{Verdict}
 use Rattle.race_triage.proofs.NumberLemmas.{known_same, numbers_unique, AreChosen-known}
 use Rattle.race_triage.proofs.SameLemmas.{chosen_same, one_law, texts_law, IsSameChoice}
-use Rattle.calls.specs.triage.Answers.{entries_of, hide_of, only_of, AreGiven, AreVerdicts, IsGiven, IsTextOf, IsToldIn}
+use Rattle.calls.specs.triage.Answers.{entries_of, hide_of, only_of, races_of, AreGiven, AreVerdicts, IsGiven, IsTextOf, IsToldIn}
 use Rattle.calls.specs.triage.Laws.{IsLines, ListingsAreOne}
 use Rattle.calls.specs.declared.triage.asked.Asked.{Asked}
 use Rattle.calls.specs.declared.triage.asked.Form.{Form}
-use Rattle.calls.specs.declared.triage.asked.Form.TheVariants.{Text, Json, Lines, Entries, Sarif, Page}
+use Rattle.calls.specs.declared.triage.asked.Form.TheVariants.{Text, Since, Json, Lines, Entries, Sarif, Page}
 
 -- what is printed as JSON, from what is printed of it
 abbrev json_printed : Recording → Totals → List Verdict → Option ℕ → Option ℕ → List ℕ
@@ -67,6 +67,16 @@ given_same keys ls same (Some text) (Some pairs) None one two = absurd two
 right_of : (r : Recording) (numbers : List ℕ) (tries : ℕ) (apart : Bool) (vs : List Verdict) → AreVerdicts r numbers tries apart vs → AreRight r (slice_index numbers) tries apart vs
 right_of r numbers tries apart vs are = record { verdicts = are.verdicts; complete = are.complete; once = are.once; few = are.few; rising = are.rising }
 
+-- a report in lines has all races
+all_races : (form : Form) → IsLines form → (r : Recording) (c : Chosen) → races_of form r c ≡ c.races
+all_races Text lines r c = refl
+all_races (Since rows) lines r c = absurd lines
+all_races Json lines r c = refl
+all_races (Lines folder) lines r c = refl
+all_races Entries lines r c = refl
+all_races (Sarif sources) lines r c = absurd lines
+all_races (Page about) lines r c = absurd lines
+
 -- without a triage file, what is known is what the texts list
 known_as_listed :
     (r : Recording) (keys ls : List (Vec ℕ Global)) (numbers ns : List ℕ) → texts_of keys ≡ texts_of ls → (given : Option (List ℕ)) (entries : Option (List Value)) → entries ≡ None
@@ -95,13 +105,14 @@ module _ (r : Recording) (numbers : List ℕ) (legal : IsLegal r) (asked : Asked
   text_same_in Json lines c d chosen also told another = json_same r (slice_index numbers) asked.tries asked.apart legal vs ws one two alike known (only_of asked) (hide_of asked) c d chosen (chosen_by d also) text words told another
   text_same_in (Lines folder) lines c d chosen also told another = lines_same r (slice_index numbers) asked.tries asked.apart legal vs ws one two alike known (only_of asked) (hide_of asked) c d chosen (chosen_by d also) folder.now text words told another
   text_same_in Entries lines c d chosen also told another = entries_same r (slice_index numbers) asked.tries asked.apart legal vs ws one two alike known (only_of asked) (hide_of asked) c d chosen (chosen_by d also) numbers text words told another
+  text_same_in (Since rows) lines c d chosen also told another = absurd lines
   text_same_in (Sarif sources) lines c d chosen also told another = absurd lines
   text_same_in (Page about) lines c d chosen also told another = absurd lines
 
   told_same : IsLines asked.form → IsToldIn r numbers known asked vs races text → IsToldIn r numbers other (record asked { workers = workers }) ws others words → (text ≡ words) × (races ≡ others)
   told_same lines (c, chosen, told, mine) (d, also, another, its) = (
     text_same_in asked.form lines c d chosen also told another,
-    races_same c d chosen also mine its,
+    races_same c d chosen also (mine ∙ all_races asked.form lines r c) (its ∙ all_races asked.form lines r d),
   )
 
 pub listings_law : ListingsAreOne

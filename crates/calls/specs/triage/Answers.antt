@@ -5,6 +5,7 @@ use Rattle.std.specs.Io.KnownBytes.{Appends}
 use Rattle.rapid_text.specs.Recording.{Recording}
 use Rattle.triage_report.specs.json.Lines.{IsTriageJson}
 use Rattle.triage_report.specs.lines.Lines.{IsLinesText}
+use Rattle.race_changes.specs.Texts.{new_count, report_races, IsSinceText}
 use Rattle.race_page.specs.Pages.{IsPage, left_of}
 use Rattle.race_page.specs.Rows.{all_rows, followed_in}
 use Rattle.triage_report.specs.sarif.Logs.{IsSarif}
@@ -31,7 +32,7 @@ use Rattle.calls.specs.declared.triage.fault.TriageFault.{TriageFault}
 use Rattle.calls.specs.declared.triage.fault.TriageFault.TheVariants.{Replay, TooMany}
 use Rattle.calls.specs.declared.triage.asked.Asked.{Asked}
 use Rattle.calls.specs.declared.triage.asked.Form.{Form}
-use Rattle.calls.specs.declared.triage.asked.Form.TheVariants.{Text, Json, Lines, Entries, Sarif, Page}
+use Rattle.calls.specs.declared.triage.asked.Form.TheVariants.{Text, Since, Json, Lines, Entries, Sarif, Page}
 
 -- The verdicts on a trace whose events have these numbers of places, if `tries` open pairs of two places are tried: one for each two places of a
 -- conflicting pair. Their totals are those of the trace.
@@ -54,6 +55,7 @@ hide_of asked = map (λ t. t.now) asked.filters.hide.now
 -- the text reports the chosen verdicts in this form; `vs` are all verdicts
 abbrev pub IsTextOf : Form → Recording → List ℕ → Bool → List Verdict → Chosen → List ℕ → Type 0
 IsTextOf Text r numbers apart vs c text = IsTriageText r vs c text
+IsTextOf (Since rows) r numbers apart vs c text = IsSinceText r vs c rows.now text
 IsTextOf Json r numbers apart vs c text = IsTriageJson r vs c text
 IsTextOf (Lines folder) r numbers apart vs c text = IsLinesText r folder.now c text
 IsTextOf Entries r numbers apart vs c text = IsTriageFile r numbers c text
@@ -61,11 +63,16 @@ IsTextOf (Sarif sources) r numbers apart vs c text = IsSarif r sources c text
 IsTextOf (Page about) r numbers apart vs c text =
     IsPage r vs c.races (left_of c) about.name.now text (all_rows r (followed_in about) apart c.verdicts.items)
 
+-- How many races a report in this form has: the new ones if it is compared with an earlier report, else all.
+abbrev pub races_of : Form → Recording → Chosen → ℕ
+races_of (Since rows) r c = new_count r (report_races rows.now) c.verdicts.items
+races_of form r c = c.races
+
 -- the text reports `races` races in the wanted form; each form has the same choice of verdicts
 abbrev pub IsToldIn : Recording → List ℕ → Option (List (ℕ × ℕ)) → Asked → List Verdict → ℕ → List ℕ → Type 0
 IsToldIn r numbers known asked vs races text =
     (c : Chosen) × AreChosen r known (only_of asked) (hide_of asked) asked.apart vs c
-    × IsTextOf asked.form r numbers asked.apart vs c text × (races ≡ c.races)
+    × IsTextOf asked.form r numbers asked.apart vs c text × (races ≡ races_of asked.form r c)
 
 -- Which pairs of places are known: those whose two locations the text names, if a text is given. `keys` are the locations by their numbers.
 abbrev pub IsGiven : List (Vec ℕ Global) → Option (List ℕ) → Option (List (ℕ × ℕ)) → Type 0

@@ -5,11 +5,13 @@ use Rattle.race_triage.specs.Same.{AreSettledAlike, IsLegal}
 use Rattle.calls.specs.triage.Answers.{IsListing}
 use Rattle.calls.specs.declared.triage.asked.Asked.{Asked}
 use Rattle.calls.specs.declared.triage.asked.Form.{Form}
-use Rattle.calls.specs.declared.triage.asked.Form.TheVariants.{Text, Json, Lines, Entries, Sarif, Page}
+use Rattle.calls.specs.declared.triage.asked.Form.TheVariants.{Text, Since, Json, Lines, Entries, Sarif, Page}
 
--- lines, of text, of JSON, for editors or of a triage file, and no page and no log, which have schedules
+-- lines, of text, of JSON, for editors or of a triage file; no page and no log, which have schedules; and no report that
+-- is compared with another
 abbrev pub IsLines : Form → Type 0
 IsLines Text = ⊤
+IsLines (Since rows) = ⊥
 IsLines Json = ⊤
 IsLines (Lines folder) = ⊤
 IsLines Entries = ⊤

@@ -1,6 +1,7 @@
 //! The options of `triage`, and who watches its work.
 use race_page::About;
 use race_triage::{Filters, Watch};
+use serde_json::Value as Row;
 use std::thread::Threads;
 use triage_file::Value;
 use triage_report::folder::Folder;
@@ -28,6 +29,11 @@ pub struct Asked<'a> {
 pub enum Form<'a> {
     /// Lines of text.
     Text,
+    /// Lines of text, compared with the races of an earlier report.
+    Since {
+        /// The rows of these races.
+        rows: &'a [Row],
+    },
     /// An object of JSON a line.
     Json,
     /// Lines as compilers write them (docs/FORMATS.md, "Lines for editors").

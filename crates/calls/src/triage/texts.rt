@@ -1,8 +1,8 @@
 //! The text that reports the verdicts on the pairs of locations of a trace.
-ghost use Rattle.std.specs.Prelude.{IfErr, IfOk, OnOk};
+ghost use Rattle.std.specs.Prelude.{◌≡◌, IfErr, IfOk, OnOk};
 ghost use Rattle.race_triage.specs.Located.{IsLocated};
 ghost use Rattle.race_triage.specs.Places.{AreFirstUsesOf, AreSpotsOf};
-ghost use Rattle.calls.specs.triage.Answers.{IsUntold};
+ghost use Rattle.calls.specs.triage.Answers.{races_of, IsUntold};
 ghost use Rattle.calls.specs.triage.Listings.{AppendsChosen, AppendsEntries, AppendsTold, AreChosenFor, AreVerdictsFor, IsReportOf};
 
 use crate::triage::asked::{Asked, Crew, Form, Hears};
@@ -12,6 +12,7 @@ use crate::triage::tables::tables_of;
 use client_scripts::ReplayFault;
 use event_index::Indexed;
 use must_order::Analysis;
+use race_changes::{new_races, since_text};
 use race_page::page_text;
 use race_triage::{
     Chosen, Effort, Known, Located, TriageRefusal, Verdicts, Watch, chosen_of,
@@ -128,7 +129,22 @@ fn append_told(
 {
     let chosen = chosen(analysis.indexed(), found, known, asked, out)?;
     append_chosen(analysis, found, &chosen, asked, out)?;
-    Ok(chosen.races)
+    races_of(*out.allocator(), analysis.indexed(), &chosen, asked)
+}
+
+/// How many races the report has: the new ones if it is compared with an earlier report, else all.
+fn races_of(
+    alloc: Global,
+    indexed: &Indexed,
+    chosen: &Chosen,
+    asked: Asked<'_>,
+) -> Result<u64, OutOfMemory>
+    ensures { IfOk result (λ races. races ≡ races_of asked.entry.form indexed.now chosen.now) }
+{
+    match asked.form {
+        Form::Since { rows } => new_races(alloc, indexed, chosen.verdicts.as_slice(), rows),
+        _ => Ok(chosen.races),
+    }
 }
 
 /// Appends the chosen verdicts in the requested form.
@@ -143,6 +159,7 @@ fn append_chosen(
 {
     match asked.form {
         Form::Text => triage_text(analysis.indexed(), analysis.must(), found, chosen, out),
+        Form::Since { rows } => since_text(analysis, found, chosen, rows, out),
         Form::Json => triage_json(analysis, found, chosen, out),
         Form::Lines { folder } => triage_lines(analysis, chosen, folder, out),
         Form::Entries => append_entries(analysis.indexed(), found, chosen, out),

@@ -4,6 +4,9 @@ use Rattle.calls.proofs.triage.texts.append_chosen.Goals as goal
 pub returns-in-Text : goal.returns-in-Text
 returns-in-Text c = rw c.in-Text.is (simp c.indexed.ensures at c.triage_text.ensures.ok)
 
+pub returns-in-Since : goal.returns-in-Since
+returns-in-Since c = rw c.in-Since.is c.since_text.ensures
+
 pub returns-in-Json : goal.returns-in-Json
 returns-in-Json c = rw c.in-Json.is c.triage_json.ensures.ok
 

@@ -1,0 +1,5 @@
+pub mod Changes
+pub mod Races
+pub mod Rows
+pub mod Sites
+pub mod Texts
