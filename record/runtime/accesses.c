@@ -76,23 +76,20 @@ static void accessed(int kind, const volatile void *at, u64 size, u64 pc) {
     if (!IDLE && size) put_access(kind, (u64)at, size, pc);
 }
 
-/* Before all else, in a run that is followed or if values are recorded. */
-static __attribute__((noinline)) void begin_access(int kind, u64 at, u64 size, u64 pc) {
-    if (keeps_values) settle_value();
+/* Nearly all hooks are of this kind: all of it is inlined. The place of the record. */
+static inline __attribute__((always_inline)) u64 come(int kind, u64 at, u64 size, u64 pc) {
     if (following) about_to(kind, at, size, pc);
-}
-
-/* Nearly all hooks are of this kind: all of it is inlined here. The place of the record. */
-static __attribute__((noinline)) u64 come_to_access(int kind, u64 at, u64 size, u64 pc) {
-    if (following | keeps_values) begin_access(kind, at, size, pc);
     if (kind == READ) look_for_waiting(at, pc);
     else last_read[0].pc = last_read[1].pc = 0;
     maybe_give();
     return put_access(kind, at, size, pc);
 }
 
+static __attribute__((noinline)) void come_to_access(int kind, u64 at, u64 size, u64 pc) { come(kind, at, size, pc); }
+
 static __attribute__((noinline)) void come_with_value(int kind, u64 at, u64 size, u64 pc) {
-    note_value(come_to_access(kind, at, size, pc), kind, (void *)at, size);
+    settle_value();
+    note_value(come(kind, at, size, pc), kind, (void *)at, size);
 }
 
 /* An access of the program's code. */
@@ -104,7 +101,9 @@ static inline void hook(int kind, const volatile void *at, u64 size, u64 pc) {
 
 /* An access of a call has no value: the call is made later than this hook. */
 static inline void access_(int kind, const volatile void *at, u64 size, u64 pc) {
-    if (!IDLE && size) come_to_access(kind, (u64)at, size, pc);
+    if (IDLE || !size) return;
+    if (keeps_values) settle_value();
+    come_to_access(kind, (u64)at, size, pc);
 }
 
 /* Before a call whose accesses are known when it has been made: another thread may come first. */
