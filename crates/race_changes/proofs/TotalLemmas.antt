@@ -1,9 +1,9 @@
 -- The counts at the head of a text are those of its verdicts, so they are one prefix.
-use Rattle.std.proofs.Common.{◌≡◌, ◌≤◌, ℕ, List, ◌++◌, drop, length, refl, ap, sym, subst, ◌∙◌, arith}
+use Rattle.std.proofs.Common.{◌≡◌, ◌≤◌, ℕ, List, ◌++◌, drop, length, codes, append_assoc, ap, sym, ◌∙◌, arith}
 use Rattle.std.proofs.Math.Seq.{drop-append_seam}
 use Rattle.std.proofs.lemmas.List.{length-append}
 use Rattle.race_changes.specs.Texts.{blocks_text, AreCounts}
-use Rattle.race_triage.specs.Texts.{totals_text, triage_words, AreTotals, IsTriageText}
+use Rattle.race_triage.specs.Texts.{block_texts, left_out_text, totals_text, AreTotals, IsTriageText}
 use Rattle.race_triage.specs.declared.chosen.Chosen.{Chosen}
 use Rattle.race_triage.specs.declared.totals.Totals.{Totals}
 use Rattle.race_triage.specs.declared.verdicts.Verdict.{Verdict}
@@ -40,11 +40,18 @@ totals_are_one r vs t u one two =
     ∙ ap (λ n. made u.events u.threads u.pairs u.candidates u.open_pairs u.guarded u.forced u.places u.races n t.apart) (one.undecided ∙ sym two.undecided)
     ∙ ap (λ n. made u.events u.threads u.pairs u.candidates u.open_pairs u.guarded u.forced u.places u.races u.undecided n) (one.apart ∙ sym two.apart)
 
+-- what comes after the counts, piece by piece
+regrouped : (t b k h : List ℕ) → t ++ b ++ k ++ h ≡ t ++ (b ++ k ++ h)
+regrouped t b k h = simp append_assoc
+
 -- a text of `triage` is its counts, and what comes after them
 pub told_is :
     (r : Recording) (vs : List Verdict) (c : Chosen) (told counts : List ℕ) → IsTriageText r vs c told → AreCounts r vs counts → told ≡ counts ++ blocks_text r c
 told_is r vs c told counts text (t, counted, is) =
+    let printed : told ≡ totals_text text.totals ++ blocks_text r c =
     text.printed
+    ∙ regrouped (totals_text text.totals) (block_texts r c.verdicts.items) (left_out_text (codes "known") c.known) (left_out_text (codes "hidden") c.hidden) in
+    printed
     ∙ ap (λ (u : Totals). totals_text u ++ blocks_text r c) (totals_are_one r vs text.totals t text.counted counted)
     ∙ ap (λ (head : List ℕ). head ++ blocks_text r c) (sym is)
 
@@ -61,7 +68,7 @@ pub blocks_after :
 blocks_after r vs c told counts text are =
     ap (λ (l : List ℕ). drop (length counts) l) (told_is r vs c told counts text are) ∙ drop-append_seam counts (blocks_text r c)
 
--- four pieces, one after another
-pub four_pieces :
-    (old a b c d w x y z : List ℕ) → a ≡ old ++ w → b ≡ a ++ x → c ≡ b ++ y → d ≡ c ++ z → d ≡ old ++ (w ++ x ++ y ++ z)
-four_pieces old a b c d w x y z one two three four = rw (four, three, two, one) (search arith)
+-- four pieces, each the same as another
+pub four_same :
+    (a b c d w x y z : List ℕ) → a ≡ w → b ≡ x → c ≡ y → d ≡ z → a ++ b ++ c ++ d ≡ w ++ x ++ y ++ z
+four_same a b c d w x y z one two three four = cc

@@ -1,5 +1,5 @@
 -- The two accesses of a race, in a trace and in a report. `r` is the trace's recording.
-use Rattle.std.specs.Prelude.{ℕ, ◌==◌, ◌&&◌, not, Bool, List, [], codes, Option, Some, None}
+use Rattle.std.specs.Prelude.{ℕ, ◌==◌, ◌&&◌, not, List, [], codes, Option, Some, None}
 use Rattle.explain_report.specs.places.Located.{location_at}
 use Rattle.race_changes.specs.Sites.{Site, Sites, access_site, site_of}
 use Rattle.race_changes.specs.declared.races.Race.{Race}

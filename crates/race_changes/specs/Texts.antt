@@ -1,6 +1,6 @@
 -- The report of a trace as text, compared with an earlier report. `r` is the trace's recording, `vs` are its verdicts,
 -- and `rows` are the rows of the races of the report. All notions here are this project's own.
-use Rattle.std.specs.Prelude.{◌≡◌, ℕ, Bool, cond, List, [], ◌++◌, count_by, flat_map, map, codes, Vec}
+use Rattle.std.specs.Prelude.{◌≡◌, ℕ, cond, List, [], ◌++◌, count_by, flat_map, map, codes, Vec}
 use Rattle.std.specs.declared.alloc.Global.{Global}
 use Rattle.race_changes.specs.Changes.{fate_of, is_fate, is_new, is_unchanged}
 use Rattle.race_changes.specs.Races.{row_sites}
@@ -8,7 +8,7 @@ use Rattle.race_changes.specs.Sites.{Sites}
 use Rattle.race_changes.specs.declared.ended.Ended.{Ended}
 use Rattle.race_changes.specs.declared.fates.Fate.{Fate}
 use Rattle.race_changes.specs.declared.fates.Fate.TheVariants.{Gone, Unmet}
-use Rattle.race_parts.specs.Texts.{access_text, count_line, number_text, words_text}
+use Rattle.race_parts.specs.Texts.{access_text, number_text, words_text}
 use Rattle.race_triage.specs.Texts.{block_texts, left_out_text, totals_text, AreTotals}
 use Rattle.race_triage.specs.declared.chosen.Chosen.{Chosen}
 use Rattle.race_triage.specs.declared.totals.Totals.{Totals}

@@ -34,10 +34,17 @@ pub(crate) fn ended_of<'a>(
 {
     let mut ended = Vec::new(alloc);
     for row in rows {
-        let fate = fate_of(indexed, verdicts, row_race(row));
-        ended.push(Ended { fate, row })?;
+        ended.push(end_of(indexed, verdicts, row))?;
     }
     Ok(ended)
+}
+
+/// What became of a row of an earlier report.
+fn end_of<'a>(indexed: &Indexed, verdicts: &[Verdict], row: &'a Value) -> Ended<'a>
+    ensures { ended_told result ≡ end_of indexed.now verdicts.now (view row.now) }
+{
+    let fate = fate_of(indexed, verdicts, row_race(row));
+    Ended { fate, row }
 }
 
 /// Whether this became of the race.

@@ -1,8 +1,9 @@
 //! What became of the races of an earlier report.
-ghost use Rattle.std.specs.Prelude.{◌≡◌};
+ghost use Rattle.std.specs.Prelude.{◌≡◌, is_some};
 ghost use Rattle.race_changes.specs.Changes.{are_met, fate_of, is_access_at, is_met, is_race_of, is_still};
 ghost use Rattle.race_changes.specs.Races.{race_sites};
 ghost use Rattle.race_changes.specs.Sites.{access_site};
+ghost use Rattle.triage_file.specs.Matching.{use_at};
 
 use crate::accesses::{Access, is_access};
 use crate::races::{Race, event_access, is_one_race, verdict_race};
@@ -37,11 +38,18 @@ fn is_still(indexed: &Indexed, verdicts: &[Verdict], race: Race<'_>) -> bool
         .any(|verdict| is_race_of(indexed, race, verdict))
 }
 
+/// Whether the event is an access.
+fn is_use(indexed: &Indexed, event: u32) -> bool
+    ensures { result ≡ is_some (use_at indexed.now event) }
+{
+    use_of(indexed, event).is_some()
+}
+
 /// Whether the event is this access.
 fn is_access_at(indexed: &Indexed, single: bool, access: Access<'_>, event: u32) -> bool
     ensures { result ≡ is_access_at indexed.now single (access_site access.entry) event }
 {
-    use_of(indexed, event).is_some() && is_access(single, access, event_access(indexed, event))
+    is_use(indexed, event) && is_access(single, access, event_access(indexed, event))
 }
 
 /// Whether the trace has this access.

@@ -1,8 +1,8 @@
 //! The report of a trace as text, compared with an earlier report.
-ghost use Rattle.std.specs.Prelude.{IfOk, OnOk, map};
+ghost use Rattle.std.specs.Prelude.{◌≡◌, ◌≤◌, ◌++◌, IfOk, OnOk, drop, length, map};
 ghost use Rattle.rapid_text.specs.Appended.{Appended};
 ghost use Rattle.race_changes.specs.Races.{race_sites};
-ghost use Rattle.race_changes.specs.Texts.{counts_line, ended_text, ended_told, new_line, new_lines, since_lines, AppendsSince, AreCounts};
+ghost use Rattle.race_changes.specs.Texts.{counts_line, ended_text, ended_told, ends_of, new_line, new_lines, report_races, since_lines, AppendsSince, AreCounts};
 ghost use Rattle.race_triage.specs.Texts.{IsTriageText};
 
 use crate::counting::{is_new, new_count, unchanged_count};
@@ -27,6 +27,13 @@ struct Sorts {
     unmet: u64,
 }
 
+/// The comparison: the lines after the counts, and the blocks at the end.
+#[derive(Drop)]
+struct Compared {
+    lines: Vec<u8>,
+    blocks: Vec<u8>,
+}
+
 /// Appends the text of `triage`, compared with an earlier report that has these rows of races. After the counts come a
 /// line with the numbers of new, unchanged, gone and unmet races, and a line for each new one. Last come blocks of what
 /// is gone and unmet.
@@ -40,22 +47,83 @@ pub fn since_text(
     ensures { OnOk result (AppendsSince analysis.now found.now chosen.now rows.now out.old out.new) }
 {
     let alloc = *out.allocator();
-    let indexed = analysis.indexed();
-    let verdicts = found.verdicts.as_slice();
-    let ended = ended_of(alloc, indexed, verdicts, rows)?;
-    let races = row_races(alloc, rows)?;
     let told = told_of(alloc, analysis, found, chosen)?;
-    let totals = counts_of(alloc, analysis, found)?;
-    append_words(out, totals.as_slice())?;
+    let counts = counts_of(alloc, analysis, found)?;
+    let compared = compared_of(
+        alloc,
+        analysis.indexed(),
+        found.verdicts.as_slice(),
+        chosen.verdicts.as_slice(),
+        rows,
+    )?;
+    append_all(out, counts.as_slice(), told.as_slice(), &compared)
+}
+
+/// Appends the counts, the lines that follow them, what the text has after the counts, and the blocks at the end.
+fn append_all(
+    out: &mut Vec<u8>,
+    counts: &[u8],
+    told: &[u8],
+    compared: &Compared,
+) -> Result<(), OutOfMemory>
+    requires { length counts.now ≤ length told.now }
+    ensures { Appended result out.old out.new
+        (counts.now ++ compared.now.lines.items ++ drop (length counts.now) told.now ++ compared.now.blocks.items) }
+{
+    append_words(out, counts)?;
+    append_words(out, compared.lines.as_slice())?;
+    append_words(out, &told[counts.len()..])?;
+    append_words(out, compared.blocks.as_slice())
+}
+
+/// Compares the verdicts with the rows of an earlier report. `shown` are the verdicts that are printed.
+fn compared_of(
+    alloc: Global,
+    indexed: &Indexed,
+    verdicts: &[Verdict],
+    shown: &[Verdict],
+    rows: &[Value],
+) -> Result<Compared, OutOfMemory>
+    ensures lines { IfOk result (λ made. made.lines.items
+        ≡ since_lines indexed.now (report_races rows.now) shown.now (ends_of indexed.now verdicts.now rows.now)) }
+    ensures blocks { IfOk result (λ made. made.blocks.items ≡ ended_text (ends_of indexed.now verdicts.now rows.now)) }
+{
+    let races = row_races(alloc, rows)?;
+    let ended = ended_of(alloc, indexed, verdicts, rows)?;
+    let lines = lines_of(alloc, indexed, &races, shown, &ended)?;
+    let blocks = blocks_of(alloc, &ended)?;
+    Ok(Compared { lines, blocks })
+}
+
+/// The lines after the counts.
+fn lines_of(
+    alloc: Global,
+    indexed: &Indexed,
+    races: &Vec<Race<'_>>,
+    verdicts: &[Verdict],
+    ended: &Vec<Ended<'_>>,
+) -> Result<Vec<u8>, OutOfMemory>
+    ensures { IfOk result (λ lines. lines.items
+        ≡ since_lines indexed.now (map race_sites races.now.items) verdicts.now (map ended_told ended.now.items)) }
+{
+    let mut lines = Vec::new(alloc);
     append_since(
-        out,
+        &mut lines,
         indexed,
         races.as_slice(),
-        chosen.verdicts.as_slice(),
+        verdicts,
         ended.as_slice(),
     )?;
-    append_words(out, &told[totals.len()..])?;
-    append_all_ended(out, ended.as_slice())
+    Ok(lines)
+}
+
+/// The blocks at the end.
+fn blocks_of(alloc: Global, ended: &Vec<Ended<'_>>) -> Result<Vec<u8>, OutOfMemory>
+    ensures { IfOk result (λ blocks. blocks.items ≡ ended_text (map ended_told ended.now.items)) }
+{
+    let mut blocks = Vec::new(alloc);
+    append_all_ended(&mut blocks, ended.as_slice())?;
+    Ok(blocks)
 }
 
 /// The text of `triage`.
