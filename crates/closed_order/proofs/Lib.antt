@@ -1,3 +1,4 @@
 pub mod KeptLemmas
 pub mod StandsLemmas
 pub mod StepLemmas
+pub mod ThreadLemmas

@@ -50,7 +50,8 @@ pub(crate) fn close(
     Ok(())
 }
 
-fn is_over(rows: &Rows, limit: u64) -> bool {
+// Whether the order contradicts itself, or no more is looked at.
+pub(crate) fn is_over(rows: &Rows, limit: u64) -> bool {
     rows.conflict.is_some() || rows.is_full || rows.work > limit
 }
 

@@ -33,7 +33,7 @@ pub fn contradiction_of<'a>(
 }
 
 // The steps if they contradict the requests.
-fn if_contradicting(
+pub(crate) fn if_contradicting(
     analysis: &Analysis<'_>,
     requests: &[u32],
     steps: Vec<Step>,

@@ -3,11 +3,15 @@
 
 mod closing;
 mod contradicting;
+mod counting;
 mod facts;
 mod following;
+mod guiding;
 mod known;
 mod laws;
 mod locking;
+mod looking;
+mod ordering;
 mod proving;
 mod reading;
 mod rows;
@@ -17,10 +21,12 @@ mod tables;
 mod telling;
 
 pub use contradicting::contradiction_of;
+pub use counting::threads_in;
 pub use laws::{
     contradicted_is_never_ready, contradicted_is_never_shown, contradicted_is_no_deadlock,
     precedes_is_kept,
 };
+pub use looking::Closed;
 pub use proving::contradicts;
 pub use sharing::{Closing, USUAL_WORK};
 pub use steps::{Rule, Step};

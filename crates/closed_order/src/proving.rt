@@ -1,5 +1,6 @@
 //! Whether a derivation shows that requests are contradicted.
 ghost use Rattle.std.specs.Prelude.{◌≡◌, ◌<◌, ◌↔◌, ℕ, All, IsTrue, Option, None, Some, length};
+ghost use Rattle.closed_order.specs.Closed.{Precedes};
 ghost use Rattle.closed_order.specs.Known.{IsKnown, IsTrueAfter};
 ghost use Rattle.closed_order.specs.Steps.{AreTrueSteps, IsContradiction, IsTrueStep};
 
@@ -10,8 +11,8 @@ use crate::reading::{is_initial, is_overwritten, is_unseen};
 use crate::steps::{Rule, Step};
 use must_order::Analysis;
 
-/// Whether each step follows from earlier ones, and the last ones contradict the requests. The last step says that a
-/// request has to be there, or that an event precedes itself; the step before it then says that this event is there.
+/// Whether each step follows from earlier ones, and the last one contradicts the requests. It says that a request has to
+/// be there, or that an event precedes itself; some step then says that this event is there.
 pub fn contradicts<'a>(analysis: &'a Analysis<'a>, requests: &'a [u32], steps: &'a [Step]) -> bool
     requires requests { All (λ e. e < length analysis.now.events) requests.now }
     // Then each step is true, the last one is a contradiction, and so the requests are contradicted.
@@ -41,24 +42,48 @@ fn all_follow<'a>(analysis: &'a Analysis<'a>, requests: &'a [u32], steps: &'a [S
     true
 }
 
-// Whether the last steps contradict the requests.
+// Whether the last step contradicts the requests.
 fn is_conflicting(_analysis: &Analysis, requests: &[u32], steps: &[Step]) -> bool
     requires steps { AreTrueSteps _analysis.now.events requests.now steps.now }
     ensures { IsTrue result → IsContradiction _analysis.now.events requests.now steps.now }
 {
-    let Some((last, earlier)) = steps.split_last() else {
+    let Some((last, _)) = steps.split_last() else {
         return false;
     };
     let Some(second) = last.second else {
         return requests.contains(&last.first);
     };
-    let Some(there) = earlier.last() else {
-        return false;
-    };
     if second != last.first {
         return false;
     }
-    there.first == second && there.second == None
+    is_there(_analysis, requests, steps, second)
+}
+
+// Whether some step says that the event is there.
+fn is_there(_analysis: &Analysis, _requests: &[u32], steps: &[Step], event: u32) -> bool
+    requires steps { AreTrueSteps _analysis.now.events _requests.now steps.now }
+    ensures { IsTrue result → Precedes _analysis.now.events _requests.now event None }
+{
+    for at in 0..steps.len() {
+        if says_there(_analysis, _requests, steps[at], event) {
+            return true;
+        }
+    }
+    false
+}
+
+// Whether the step says that the event is there.
+fn says_there(_analysis: &Analysis, _requests: &[u32], step: Step, event: u32) -> bool
+    requires { IsTrueStep _analysis.now.events _requests.now step }
+    ensures { IsTrue result → Precedes _analysis.now.events _requests.now event None }
+{
+    if step.first != event {
+        return false;
+    }
+    match step.second {
+        None => true,
+        Some(_) => false,
+    }
 }
 
 // Whether the step follows from the earlier ones.

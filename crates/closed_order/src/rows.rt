@@ -8,6 +8,8 @@ use std::alloc::Global;
 
 // More cells than this are not kept: 64 MB with what each came by.
 const MOST_CELLS: usize = 8_388_608;
+// Nor more facts than this.
+const MOST_FACTS: usize = 4_194_304;
 
 // A count as a number of 32 bits.
 pub(crate) fn number_of(count: usize) -> u32 {
@@ -33,6 +35,8 @@ pub(crate) struct Rows {
     // For each fact the `vias` of the row of an arrow's first event, and the arrow before it of that event.
     fact_vias: Vec<u32>,
     before: Vec<u32>,
+    // Whether steps may be told later. If not, only arrows are noted, and no `vias` of them.
+    is_traced: bool,
     pub(crate) last: u32,
     // How many cells were looked at.
     pub(crate) work: u64,
@@ -55,11 +59,43 @@ impl Rows {
             facts: Vec::new(alloc),
             fact_vias: Vec::new(alloc),
             before: Vec::new(alloc),
+            is_traced: true,
             last: 0,
             work: 0,
             has_grown: false,
             conflict: None,
             is_full: false,
+        })
+    }
+
+    // No steps will be told.
+    pub(crate) fn stop_tracing(&mut self, alloc: Global) {
+        self.is_traced = false;
+        self.vias = Vec::new(alloc);
+        self.fact_vias = Vec::new(alloc);
+    }
+
+    // The same rows once more, of which no steps will be told.
+    pub(crate) fn copied(&self, alloc: Global) -> Result<Rows, OutOfMemory> {
+        let cells = self.counts.len().saturating_add(self.facts.len());
+        Ok(Rows {
+            width: self.width,
+            slots: Vec::from_slice(alloc, self.slots.as_slice())?,
+            counts: Vec::from_slice(alloc, self.counts.as_slice())?,
+            vias: Vec::new(alloc),
+            theres: Vec::from_slice(alloc, self.theres.as_slice())?,
+            grown: Vec::from_slice(alloc, self.grown.as_slice())?,
+            arrows: Vec::from_slice(alloc, self.arrows.as_slice())?,
+            reach: Vec::from_slice(alloc, self.reach.as_slice())?,
+            facts: Vec::from_slice(alloc, self.facts.as_slice())?,
+            fact_vias: Vec::new(alloc),
+            before: Vec::from_slice(alloc, self.before.as_slice())?,
+            is_traced: false,
+            last: self.last,
+            work: self.work.saturating_add(cells as u64),
+            has_grown: self.has_grown,
+            conflict: self.conflict,
+            is_full: self.is_full,
         })
     }
 
@@ -221,16 +257,26 @@ impl Rows {
     // Notes a fact, with the `vias` of this event's row.
     fn note(&mut self, indexed: &Indexed, fact: Fact, event: u32) -> Result<u32, OutOfMemory> {
         let number = number_of(self.facts.len());
-        for thread in 0..indexed.threads() {
-            let via = self.via(event, thread);
-            self.fact_vias.push(via)?;
+        if self.is_traced {
+            for thread in 0..indexed.threads() {
+                let via = self.via(event, thread);
+                self.fact_vias.push(via)?;
+            }
         }
         self.facts.push(fact)?;
         self.before.push(0)?;
-        if self.fact_vias.len() > MOST_CELLS {
+        if self.fact_vias.len() > MOST_CELLS || self.facts.len() > MOST_FACTS {
             self.is_full = true;
         }
         Ok(number)
+    }
+
+    // Notes a fact that nothing but the steps needs.
+    fn note_step(&mut self, indexed: &Indexed, fact: Fact, event: u32) -> Result<u32, OutOfMemory> {
+        if !self.is_traced {
+            return Ok(0);
+        }
+        self.note(indexed, fact, event)
     }
 
     // Notes that one event precedes another one, if that is new.
@@ -293,7 +339,7 @@ impl Rows {
             to,
             fact: arrow,
         };
-        let number = self.note(indexed, again, from)?;
+        let number = self.note_step(indexed, again, from)?;
         self.join_by(indexed, from, to, number);
         Ok(())
     }
@@ -313,7 +359,7 @@ impl Rows {
         if count <= old {
             return Ok(());
         }
-        let number = self.note(indexed, Fact::There { event, cause }, event)?;
+        let number = self.note_step(indexed, Fact::There { event, cause }, event)?;
         for place in old..count {
             self.add_row(indexed, thread, place, number)?;
         }
@@ -340,7 +386,9 @@ impl Rows {
         };
         for other in 0..indexed.threads() {
             self.counts.push(if other == thread { place } else { 0 })?;
-            self.vias.push(0)?;
+            if self.is_traced {
+                self.vias.push(0)?;
+            }
         }
         self.theres.push(number)?;
         self.grown.push(true)?;

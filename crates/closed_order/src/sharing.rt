@@ -1,10 +1,8 @@
-//! Looks for contradictions of many pairs of requests, with one budget.
-ghost use Rattle.std.specs.Prelude.{◌<◌, [], ◌∷◌, All, length};
-ghost use Rattle.rapid_text.specs.Appended.{IfFound};
-ghost use Rattle.closed_order.specs.Steps.{IsContradiction};
+//! Looks at many pairs of events, with one budget.
+ghost use Rattle.std.specs.Prelude.{◌<◌, IfOk, length};
+ghost use Rattle.closed_order.specs.Looks.{IsClosed, IsClosedDeadlock};
 
-use crate::contradicting::contradiction_of;
-use crate::steps::Step;
+use crate::looking::{Closed, deadlock_looked_at, race_looked_at};
 use crate::tables::Tables;
 use must_order::Analysis;
 use rapid_text::OutOfMemory;
@@ -42,44 +40,63 @@ impl Closing {
         is_enough
     }
 
-    /// Steps that contradict the two requests, if the search finds them before the counts are used up. A `Closing` is
-    /// for one trace.
-    pub fn contradiction(
+    /// Whether two conflicting accesses can come side by side: steps that contradict them, or a schedule that shows them,
+    /// if the search finds either before the counts are used up.
+    pub fn race(
         &mut self,
         alloc: Global,
         analysis: &Analysis<'_>,
         first: u32,
         second: u32,
-    ) -> Result<Option<Vec<Step>>, OutOfMemory>
+    ) -> Result<Closed, OutOfMemory>
         requires first { first < length analysis.now.events }
         requires second { second < length analysis.now.events }
-        ensures { IfFound result (λ steps. IsContradiction analysis.now.events (first ∷ second ∷ []) steps.items) }
+        ensures { IfOk result (IsClosed analysis.now first second) }
     {
+        if !self.begin(alloc, analysis)? {
+            return Ok(Closed::Open);
+        }
+        match &self.tables {
+            None => Ok(Closed::Open),
+            Some(tables) => {
+                race_looked_at(alloc, analysis, tables, (first, second), &mut self.left)
+            }
+        }
+    }
+
+    /// The same for the two requests of a deadlock.
+    pub fn deadlock(
+        &mut self,
+        alloc: Global,
+        analysis: &Analysis<'_>,
+        first: u32,
+        second: u32,
+    ) -> Result<Closed, OutOfMemory>
+        requires first { first < length analysis.now.events }
+        requires second { second < length analysis.now.events }
+        ensures { IfOk result (IsClosedDeadlock analysis.now first second) }
+    {
+        if !self.begin(alloc, analysis)? {
+            return Ok(Closed::Open);
+        }
+        match &self.tables {
+            None => Ok(Closed::Open),
+            Some(tables) => {
+                deadlock_looked_at(alloc, analysis, tables, (first, second), &mut self.left)
+            }
+        }
+    }
+
+    // Makes the lists of the trace, and takes the cost of a search. False if nothing is left.
+    fn begin(&mut self, alloc: Global, analysis: &Analysis<'_>) -> Result<bool, OutOfMemory> {
         if self.left == 0 {
-            return Ok(None);
+            return Ok(false);
         }
         if self.tables.is_none() {
             self.tables = Some(Tables::of(alloc, analysis.indexed())?);
         }
         let cost = u64::from(analysis.indexed().len() / 8);
         self.left = self.left.saturating_sub(cost);
-        match &self.tables {
-            None => Ok(None),
-            Some(tables) => found(alloc, analysis, tables, &[first, second], &mut self.left),
-        }
+        Ok(true)
     }
-}
-
-// The same with the lists of the trace.
-fn found(
-    alloc: Global,
-    analysis: &Analysis<'_>,
-    tables: &Tables,
-    requests: &[u32],
-    left: &mut u64,
-) -> Result<Option<Vec<Step>>, OutOfMemory>
-    requires requests { All (λ e. e < length analysis.now.events) requests.now }
-    ensures { IfFound result (λ steps. IsContradiction analysis.now.events requests.now steps.items) }
-{
-    contradiction_of(alloc, &*analysis, &*tables, &*requests, left)
 }

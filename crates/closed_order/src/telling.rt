@@ -319,22 +319,24 @@ impl<'a> Telling<'a> {
         match conflict {
             Conflict::Request { event } => {
                 let step = self.tell_there(event)?;
-                self.tell_again(step)
+                self.tell_last(step)
             }
             Conflict::Circle { first, second, via } => {
+                self.tell_there(second)?;
                 let path = self.tell_path(indexed, first, second, via)?;
                 let circle = self.tell_circle(first, second, path)?;
-                let there = self.tell_there(second)?;
-                self.tell_again(there)?;
-                self.tell_again(circle)
+                self.tell_last(circle)
             }
         }
     }
 
-    // The step once more, as the last one.
-    fn tell_again(&mut self, step: u32) -> Result<(), OutOfMemory> {
-        if let Some(again) = self.steps.get(step as usize).copied() {
-            self.add(again.first, again.second, again.rule)?;
+    // The step is the last one: it is told once more if it is not.
+    fn tell_last(&mut self, step: u32) -> Result<(), OutOfMemory> {
+        if (step as usize).saturating_add(1) == self.steps.len() {
+            return Ok(());
+        }
+        if let Some(last) = self.steps.get(step as usize).copied() {
+            self.add(last.first, last.second, last.rule)?;
         }
         Ok(())
     }

@@ -6,6 +6,5 @@ pub mod OpenLemmas
 pub mod PatternLemmas
 pub mod RowLemmas
 pub mod StepLemmas
-pub mod ThreadLemmas
 pub mod TryLemmas
 pub mod VisitLemmas

@@ -3,6 +3,5 @@ pub mod Nesting
 pub mod Patterns
 pub mod Requests
 pub mod Rows
-pub mod Threads
 pub mod Tries
 pub mod Verdicts

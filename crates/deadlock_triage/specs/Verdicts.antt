@@ -4,7 +4,7 @@ use Rattle.std.specs.Prelude.{◌≡◌, ◌≢◌, ◌↔◌, ℕ, ◌<◌, Lis
 use Rattle.rapid_text.specs.Recording.{Recording}
 use Rattle.rapid_text.specs.declared.event.Event.{Event}
 use Rattle.schedule.specs.Reordering.{IsCorrectReordering}
-use Rattle.witness_search.specs.trace_order.Sizes.{AreThreadsOf}
+use Rattle.closed_order.specs.Threads.{IsThreadCount}
 use Rattle.lock_waits.specs.Waits.{ShowsDeadlock}
 use Rattle.deadlock_triage.specs.Patterns.{HasPattern}
 use Rattle.deadlock_triage.specs.Requests.{IsPair}
@@ -19,10 +19,6 @@ use Rattle.deadlock_triage.specs.declared.outcomes.Verdict.{Verdict}
 -- no correct reordering shows the two requests
 abbrev pub IsNeverShown : List Event → ℕ → ℕ → Type 0
 IsNeverShown T e d = (P : List ℕ) → IsCorrectReordering T P → ¬ ShowsDeadlock T P (e ∷ d ∷ [])
-
--- this many threads have an event in the list
-abbrev pub IsThreadCount : List Event → List ℕ → ℕ → Type 0
-IsThreadCount T P n = (ts : List ℕ) × AreThreadsOf T P ts × (length ts ≡ n)
 
 -- A schedule with these numbers of events and threads shows the two requests. It is ordered if and only if it is in the order of the trace.
 pub record IsShown (T : List Event) (e d : ℕ) (how : How) (events threads : ℕ) : Type 0 where

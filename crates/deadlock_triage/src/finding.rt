@@ -5,7 +5,7 @@ ghost use Rattle.deadlock_triage.specs.Requests.{IsPair};
 ghost use Rattle.lock_waits.specs.Required.{AreRefuted};
 ghost use Rattle.lock_waits.specs.Waits.{ShowsDeadlock};
 
-use crate::closing::are_contradicted;
+use crate::closing::finding_of;
 use crate::requests::is_request;
 use crate::searching::schedule_of;
 use closed_order::{Closing, USUAL_WORK};
@@ -63,7 +63,7 @@ pub fn find(
     }
 }
 
-// The finding if no schedule was found: whether the closed order of the requests contradicts itself.
+// The finding if no schedule was found: what the closed order of the requests tells.
 fn closed(
     alloc: Global,
     analysis: &Analysis<'_>,
@@ -76,10 +76,7 @@ fn closed(
     ensures { IfOk result (IsFinding analysis.now first second) }
 {
     let mut closing = Closing::new(USUAL_WORK);
-    if are_contradicted(&mut closing, alloc, analysis, first, second)? {
-        return Ok(Finding::Apart);
-    }
-    Ok(Finding::Undecided)
+    finding_of(&mut closing, alloc, analysis, first, second)
 }
 
 /// The same. It searches for a schedule only if `may_search` is true. It adds to `work` how many events it visited, and
@@ -108,8 +105,13 @@ pub(crate) fn found(
     }
 }
 
-// The finding if this schedule shows the two requests.
-fn shown(analysis: &Analysis<'_>, schedule: Schedule, _first: u32, _second: u32) -> Finding
+/// The finding if this schedule shows the two requests.
+pub(crate) fn shown(
+    analysis: &Analysis<'_>,
+    schedule: Schedule,
+    _first: u32,
+    _second: u32,
+) -> Finding
     requires trace { schedule.trace ≡ analysis.now }
     requires shows { ShowsDeadlock analysis.now.events schedule.events (_first ∷ _second ∷ []) }
     ensures { IsFinding analysis.now _first _second result }

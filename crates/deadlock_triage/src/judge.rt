@@ -3,7 +3,7 @@ ghost use Rattle.std.specs.Prelude.{◌≡◌, ◌+◌, ◌<◌, IfOk, OnOk, Som
 ghost use Rattle.deadlock_triage.specs.Rows.{AreRowsOf, IsJudge, IsNext, IsRowAt, first_outcome};
 ghost use Rattle.deadlock_triage.specs.Verdicts.{IsJudged, IsVerdict};
 
-use crate::closing::are_contradicted;
+use crate::closing::judgement_of;
 use crate::judging::{Judgement, judged};
 use crate::outcomes::Verdict;
 use crate::patterns::pattern_of;
@@ -166,8 +166,7 @@ impl Judge<'_> {
         Ok(after(row, first, second, known, self.tries, indexed))
     }
 
-    // The answer, if there is one. If a schedule was searched in vain, whether the closed order of the two requests
-    // contradicts itself.
+    // The answer, if there is one. If a schedule was searched in vain, what the closed order of the two requests tells.
     fn closed(
         &self,
         left: &mut Left,
@@ -182,14 +181,11 @@ impl Judge<'_> {
     {
         match answer {
             Judgement::Missed => {
-                let analysis = self.analysis;
                 if self.tries == 0 {
                     return Ok(Judgement::Missed);
                 }
-                if are_contradicted(&mut left.closing, self.alloc, analysis, first, second)? {
-                    return Ok(Judgement::Never);
-                }
-                Ok(Judgement::Missed)
+                let closing = &mut left.closing;
+                judgement_of(closing, self.alloc, self.analysis, first, second)
             }
             known => Ok(known),
         }

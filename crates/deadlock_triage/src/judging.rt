@@ -1,15 +1,12 @@
 //! Judges two requests that wait for each other.
-ghost use Rattle.std.specs.Prelude.{◌≡◌, ◌<◌, ◌≤◌, ◌+◌, ◌↔◌, [], ◌∷◌, All, AllPairs, IfOk, IsTrue, Some, length};
-ghost use Rattle.event_index.specs.Events.{thread_at};
-ghost use Rattle.witness_search.specs.trace_order.Sizes.{HasThread};
-ghost use Rattle.deadlock_triage.specs.Threads.{IsCountBelow};
-ghost use Rattle.deadlock_triage.specs.Verdicts.{IsJudged, IsThreadCount};
+ghost use Rattle.std.specs.Prelude.{◌≡◌, ◌<◌, ◌↔◌, [], ◌∷◌, AllPairs, IfOk, IsTrue, length};
+ghost use Rattle.deadlock_triage.specs.Verdicts.{IsJudged};
 ghost use Rattle.deadlock_triage.specs.declared.outcomes.How.TheVariants.{Ordered};
 ghost use Rattle.lock_waits.specs.Waits.{ShowsDeadlock};
 
 use crate::finding::{Finding, found};
 use crate::outcomes::How;
-use event_index::Indexed;
+use closed_order::threads_in;
 use must_order::Analysis;
 use rapid_text::OutOfMemory;
 use schedule::Schedule;
@@ -47,14 +44,19 @@ pub(crate) fn judged(
     ensures judged { IfOk result (IsJudged analysis.now.events first second) }
 {
     match found(alloc, analysis, first, second, may_search, work)? {
-        Finding::Shown(schedule) => Ok(shown(analysis, &schedule, first, second)),
+        Finding::Shown(schedule) => Ok(shown_by(analysis, &schedule, first, second)),
         Finding::Apart => Ok(Judgement::Never),
         Finding::Undecided => Ok(Judgement::Missed),
     }
 }
 
-// The answer if this schedule shows the two requests.
-fn shown(analysis: &Analysis<'_>, schedule: &Schedule, _first: u32, _second: u32) -> Judgement
+/// The answer if this schedule shows the two requests.
+pub(crate) fn shown_by(
+    analysis: &Analysis<'_>,
+    schedule: &Schedule,
+    _first: u32,
+    _second: u32,
+) -> Judgement
     requires trace { schedule.now.trace ≡ analysis.now }
     requires shows { ShowsDeadlock analysis.now.events schedule.now.events (_first ∷ _second ∷ []) }
     ensures { IsJudged analysis.now.events _first _second result }
@@ -90,53 +92,4 @@ fn is_rising(events: &[u32]) -> bool
         }
     }
     true
-}
-
-// How many threads have an event in the list.
-fn threads_in(indexed: &Indexed, events: &[u32]) -> u32
-    requires { All (λ e. e < length indexed.now.events) events.now }
-    ensures { IsThreadCount indexed.now.events events.now result }
-{
-    let mut count = 0u32;
-    for thread in 0..indexed.threads() {
-        count = count_more(count, indexed, events, thread);
-    }
-    count
-}
-
-// The number of threads up to this one that have an event in the list, given the number of those before it.
-fn count_more(count: u32, indexed: &Indexed, events: &[u32], thread: u32) -> u32
-    requires few { count ≤ thread }
-    requires thread { thread < length indexed.now.threads }
-    requires events { All (λ e. e < length indexed.now.events) events.now }
-    requires counted { IsCountBelow indexed.now.events events.now thread count }
-    ensures few { result ≤ thread + 1 }
-    ensures counted { IsCountBelow indexed.now.events events.now (thread + 1) result }
-{
-    let _threads = indexed.threads();
-    if has_thread(indexed, events, thread) {
-        return count + 1;
-    }
-    count
-}
-
-// Whether the thread has an event in the list.
-fn has_thread(indexed: &Indexed, events: &[u32], thread: u32) -> bool
-    requires { All (λ e. e < length indexed.now.events) events.now }
-    ensures { IsTrue result ↔ HasThread indexed.now.events events.now thread }
-{
-    for at in 0..events.len() {
-        if is_of_thread(indexed, events[at], thread) {
-            return true;
-        }
-    }
-    false
-}
-
-// Whether the event is of the thread.
-fn is_of_thread(indexed: &Indexed, event: u32, thread: u32) -> bool
-    requires { event < length indexed.now.events }
-    ensures { IsTrue result ↔ (thread_at indexed.now.events event ≡ Some thread) }
-{
-    indexed.event(event).thread == thread
 }

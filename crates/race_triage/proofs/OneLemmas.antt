@@ -2,10 +2,10 @@
 use Rattle.std.proofs.Common.{◌≡◌, ◌≢◌, ℕ, zero, suc, ◌+◌, ◌<◌, ◌≤◌, ◌==◌, ◌⊎◌, Bool, true, false, List, [], ◌∷◌, ◌++◌, All, AllPairs, Any, Contains, length, take, get_or, Option, Some, None, refl, sym, ap, ◌∙◌, subst, arith, inl, inr}
 use Rattle.std.specs.List.{slice_get}
 use Rattle.std.proofs.lemmas.Bool.{cases_lt, cases_order, eqb-true, or_cases, true≢false}
-use Rattle.std.proofs.lemmas.List.{get_or_default, take_all}
+use Rattle.std.proofs.lemmas.List.{get_or_default}
 use Rattle.std.proofs.lemmas.List.Kept.{AllPairs-cons}
 use Rattle.std.proofs.lemmas.List.Elements.{All-contains, All-cons, All-weaker}
-use Rattle.std.proofs.lemmas.Option.{same_Some, slice_get_within}
+use Rattle.std.proofs.lemmas.Option.{same_Some}
 use Rattle.rapid_text.specs.Recording.{Recording}
 use Rattle.rapid_text.specs.declared.event.Event.{Event}
 use Rattle.rapid_text.specs.declared.event.Op.{Op}
@@ -30,7 +30,7 @@ use Rattle.race_groups.specs.declared.least_pairs.tries.Try.{Try}
 use Rattle.race_groups.specs.least_pairs.Pairs.{AreAt, AreFirstTries, HasPair, IsLeastPair, IsOf, IsOpenOf}
 use Rattle.race_groups.specs.declared.least_pairs.wanted.Wanted.{Wanted}
 use Rattle.race_groups.specs.declared.least_pairs.wanted.Wanted.TheVariants.{Candidate as CandidatePair, Open as OpenPair, Any as AnyPair}
-use Rattle.race_triage.specs.Verdicts.{AreMissed, AreTriedInVain, HasOpen, IsFirstFound, IsFirstOfTried, IsFoundBy, IsMissed, IsOutcome, IsOutcomeFor, IsPairApart, IsPairFor, IsShownBy, IsTold, IsVerdict, named_apart}
+use Rattle.race_triage.specs.Verdicts.{AreInVain, AreMissed, HasOpen, IsFirstFound, IsFirstOfTried, IsFoundBy, IsMissed, IsOutcome, IsOutcomeFor, IsPairApart, IsPairFor, IsShownBy, IsTold, IsVerdict, named_apart}
 use Rattle.race_triage.specs.Same.{IsSettledAs}
 use Rattle.race_triage.specs.declared.verdicts.Outcome.{Outcome}
 use Rattle.race_triage.specs.declared.verdicts.Outcome.TheVariants.{Race, Undecided, Apart}
@@ -38,7 +38,7 @@ use Rattle.race_triage.specs.declared.verdicts.Verdict.{Verdict}
 use Rattle.race_triage.proofs.BudgetLemmas.{IsBudget-unique, IsCountOf-unique, counts_same, row_of}
 use Rattle.race_triage.proofs.ListLemmas.{one_rising, some_or_all}
 use Rattle.race_triage.proofs.OnceLemmas.{distinct-le}
-use Rattle.race_triage.proofs.TurnedLemmas.{AreNeeded-unique, IsLeft-unique, IsTurned-unique}
+use Rattle.race_triage.proofs.TurnedLemmas.{AreNeeded-unique, IsLeft-unique, IsTurned-more, IsTurned-unique}
 
 pair_same : (p q : ℕ × ℕ) → p.0 ≡ q.0 → p.1 ≡ q.1 → p ≡ q
 pair_same p q one other = ap (λ x. (x, p.1)) one ∙ ap (λ y. (q.0, y)) other
@@ -80,15 +80,30 @@ module _ (T : List Event) where
       (sym one.events ∙ other.events, sym one.count ∙ ap (λ (ts : List ℕ). length ts) same ∙ other.count)
 
   module _ (a b : ℕ) where
-    pub IsFoundAs-unique : (how : How) (P Q : List ℕ) → IsFoundAs T a b how P → IsFoundAs T a b how Q → P ≡ Q
-    IsFoundAs-unique Candidate P Q one other = AreNeeded-unique T _ P Q one other
-    IsFoundAs-unique Beyond P Q one other = AreNeeded-unique T _ P Q one other
-    IsFoundAs-unique Turned P Q one other = same_Some P Q (IsTurned-unique T a b search_limit (Some P) (Some Q) one other)
+    -- if it was found by turning, the search finds a list
+    abbrev pub IsSearched : How → Type 0
+    IsSearched Candidate = Unit {0}
+    IsSearched Beyond = Unit {0}
+    IsSearched Turned = (P : List ℕ) × IsTurned T a b search_limit (Some P)
 
-    pub sizes_same : (how : How) (n k m l : ℕ) → IsShownBy T a b how n k → IsShownBy T a b how m l → (n ≡ m) × (k ≡ l)
-    sizes_same how n k m l one other =
-        let same = IsFoundAs-unique how one.schedule other.schedule one.found other.found in
+    turned_list : (P Q : List ℕ) → IsTurned T a b search_limit (Some P) → IsFoundAs T a b Turned Q → P ≡ Q
+    turned_list P Q searched (inl found) = same_Some P Q (IsTurned-unique T a b search_limit (Some P) (Some Q) searched found)
+    turned_list P Q searched (inr none) = cc (IsTurned-unique T a b search_limit (Some P) None searched none)
+
+    pub IsFoundAs-unique : (how : How) (P Q : List ℕ) → IsSearched how → IsFoundAs T a b how P → IsFoundAs T a b how Q → P ≡ Q
+    IsFoundAs-unique Candidate P Q searched one other = AreNeeded-unique T _ P Q one other
+    IsFoundAs-unique Beyond P Q searched one other = AreNeeded-unique T _ P Q one other
+    IsFoundAs-unique Turned P Q searched one other = sym (turned_list searched.0 P searched.1 one) ∙ turned_list searched.0 Q searched.1 other
+
+    pub sizes_same : (how : How) (n k m l : ℕ) → IsSearched how → IsShownBy T a b how n k → IsShownBy T a b how m l → (n ≡ m) × (k ≡ l)
+    sizes_same how n k m l searched one other =
+        let same = IsFoundAs-unique how one.schedule other.schedule searched one.found other.found in
         HasSize-unique other.schedule n k m l (subst (λ (P : List ℕ). HasSize T P n k) same one.size) other.size
+
+    -- the search finds the list of a pair that no list in order shows
+    pub searched_turned : (budget : ℕ) → budget ≤ search_limit → IsFoundBy T a b budget → IsNeverShownInOrder T a b → IsSearched Turned
+    searched_turned budget few (inl shown) never = absurd (never shown.0 shown.1.0 shown.1.1 shown.1.2)
+    searched_turned budget few (inr (P, found)) never = (P, IsTurned-more T a b budget search_limit P found few)
 
     -- what is found is not missed
     pub found_not_missed : (budget left : ℕ) → IsFoundBy T a b budget → IsMissed T a b budget left → ⊥
@@ -122,16 +137,6 @@ module _ (T : List Event) where
   pub found_before : (budget : ℕ) (tried : List Try) (p q : ℕ × ℕ) (mine : IsFirstFound T budget tried p) (its : IsFirstFound T budget tried q) → mine.at < its.at → ⊥
   found_before budget tried p q mine its lt =
       let (m, n, before, missed) = missed_at tried its.at mine.at mine.one budget its.left its.earlier lt mine.one_is in
-      let same : m ≡ mine.left = AreMissed-unique (take mine.at tried) budget m mine.left before mine.earlier in
-      let here : IsMissed T p.1 p.0 m n = subst (λ (x : ℕ × ℕ). IsMissed T x.1 x.0 m n) mine.told missed in
-      found_not_missed p.1 p.0 mine.left n mine.found (subst (λ k. IsMissed T p.1 p.0 k n) same here)
-
-  -- nor does one stand among those that were missed
-  pub found_or_missed : (budget : ℕ) (tried : List Try) (p : ℕ × ℕ) (mine : IsFirstFound T budget tried p) (left : ℕ) → AreMissed T budget tried left → ⊥
-  found_or_missed budget tried p mine left all =
-      let lt = slice_get_within tried mine.at mine.one mine.one_is in
-      let whole : AreMissed T budget (take (length tried) tried) left = subst (λ (ts : List Try). AreMissed T budget ts left) (sym (take_all (length tried) tried (omega arith))) all in
-      let (m, n, before, missed) = missed_at tried (length tried) mine.at mine.one budget left whole lt mine.one_is in
       let same : m ≡ mine.left = AreMissed-unique (take mine.at tried) budget m mine.left before mine.earlier in
       let here : IsMissed T p.1 p.0 m n = subst (λ (x : ℕ × ℕ). IsMissed T x.1 x.0 m n) mine.told missed in
       found_not_missed p.1 p.0 mine.left n mine.found (subst (λ k. IsMissed T p.1 p.0 k n) same here)
@@ -296,22 +301,15 @@ module _ (r : Recording) (place : ℕ → ℕ) (tries : ℕ) (apart : Bool) (pla
         | inr (inr gt) ↦ absurd (found_before T other.budget other.tried q p its mine gt)
       ]
 
-  not_vain : (p : ℕ × ℕ) (count : ℕ) → IsFirstOfTried r place tries places p → AreTriedInVain r place tries places count → ⊥
-  not_vain p count one other =
-      let tried : one.tried ≡ other.tried = AreFirstTries-unique r place places tries one.tried other.tried one.first other.first in
-      let budget : one.budget ≡ other.budget = IsBudget-unique r place one.budget other.budget one.shared other.shared in
-      let mine : IsFirstFound T other.budget other.tried p =
-      subst (λ (n : ℕ). IsFirstFound T n other.tried p) budget (subst (λ (ts : List Try). IsFirstFound T one.budget ts p) tried one.found) in
-      found_or_missed T other.budget other.tried p mine other.left other.none
-
-  vain_same : (n m : ℕ) → AreTriedInVain r place tries places n → AreTriedInVain r place tries places m → n ≡ m
-  vain_same n m one other =
-      sym one.len ∙ ap (λ (ts : List Try). length ts) (AreFirstTries-unique r place places tries one.tried other.tried one.first other.first) ∙ other.len
-
-  race_same : (how : How) (n k m l : ℕ) (p q : ℕ × ℕ) → p ≡ q → IsShownBy T p.1 p.0 how n k → IsShownBy T q.1 q.0 how m l → ◌≡◌ {A = Outcome} (Race how n k) (Race how m l)
-  race_same how n k m l p q same one other =
-      let sizes = sizes_same T p.1 p.0 how n k m l one (subst (λ (x : ℕ × ℕ). IsShownBy T x.1 x.0 how m l) (sym same) other) in
+  race_same : (how : How) (n k m l : ℕ) (p q : ℕ × ℕ) → p ≡ q → IsSearched T p.1 p.0 how → IsShownBy T p.1 p.0 how n k → IsShownBy T q.1 q.0 how m l
+      → ◌≡◌ {A = Outcome} (Race how n k) (Race how m l)
+  race_same how n k m l p q same searched one other =
+      let sizes = sizes_same T p.1 p.0 how n k m l searched one (subst (λ (x : ℕ × ℕ). IsShownBy T x.1 x.0 how m l) (sym same) other) in
       ap (λ x. Race how x k) sizes.0 ∙ ap (λ y. Race how m y) sizes.1
+
+  -- the search finds the schedule of the first tried pair that no list in order shows
+  first_searched : (p : ℕ × ℕ) → IsFirstOfTried r place tries places p → IsShownAs r p.1 p.0 Turned → IsSearched T p.1 p.0 Turned
+  first_searched p first as = searched_turned T p.1 p.0 first.found.left first.found.few first.found.found as.1
 
   -- what no list in order shows is not shown by one
   beyond_or_turned : (p q : ℕ × ℕ) → p ≡ q → IsShownAs r p.1 p.0 Beyond → IsShownAs r q.1 q.0 Turned → ⊥
@@ -337,46 +335,61 @@ module _ (r : Recording) (place : ℕ → ℕ) (tries : ℕ) (apart : Bool) (pla
   abbrev Known : ℕ × ℕ → Outcome → Type 0
   Known p o = (IsTold apart o → AreAt place places p.1 p.0) × (o ≡ Apart → IsNeverShownBetween T place places.0 places.1)
 
-  -- the one is not apart if the other is undecided
-  abbrev Settled : Outcome → Outcome → Type 0
-  Settled o u = o ≡ Apart → (tried : ℕ) → u ≢ Undecided tried
+  -- if no schedule was found for any tried pair, the two are the same
+  abbrev Alike : ℕ × ℕ → ℕ × ℕ → Outcome → Outcome → Type 0
+  Alike p q o u = AreInVain r place tries places → Same p q o u
 
-  outcome_same : (p q : ℕ × ℕ) (o u : Outcome) → Settled o u → Settled u o → Known p o → Known q u → Right p o → Right q u → Same p q o u
-  outcome_same p q (Race Candidate n k) (Race Candidate m l) settled also mine its one other =
+  -- the pair of a race that is no candidate
+  abbrev Tried : ℕ × ℕ → Type 0
+  Tried p = IsFirstOfTried r place tries places p ⊎ AreInVain r place tries places
+
+  beyond_same : (p q : ℕ × ℕ) (n k m l : ℕ) → Alike p q (Race Beyond n k) (Race Beyond m l) → IsOutcome r p.1 p.0 (Race Beyond n k) → IsOutcome r q.1 q.0 (Race Beyond m l) → Tried p → Tried q
+      → Same p q (Race Beyond n k) (Race Beyond m l)
+  beyond_same p q n k m l alike one other (inr vain) its = alike vain
+  beyond_same p q n k m l alike one other (inl first) (inr vain) = alike vain
+  beyond_same p q n k m l alike one other (inl first) (inl also) =
+      let same = first_same p q first also in
+      (same, race_same Beyond n k m l p q same tt one.0 other.0)
+
+  turned_same : (p q : ℕ × ℕ) (n k m l : ℕ) → Alike p q (Race Turned n k) (Race Turned m l) → IsOutcome r p.1 p.0 (Race Turned n k) → IsOutcome r q.1 q.0 (Race Turned m l) → Tried p → Tried q
+      → Same p q (Race Turned n k) (Race Turned m l)
+  turned_same p q n k m l alike one other (inr vain) its = alike vain
+  turned_same p q n k m l alike one other (inl first) (inr vain) = alike vain
+  turned_same p q n k m l alike one other (inl first) (inl also) =
+      let same = first_same p q first also in
+      (same, race_same Turned n k m l p q same (first_searched p first one.1) one.0 other.0)
+
+  mixed_same : (p q : ℕ × ℕ) (o u : Outcome) → Alike p q o u → (p ≡ q → ⊥) → Tried p → Tried q → Same p q o u
+  mixed_same p q o u alike differ (inr vain) its = alike vain
+  mixed_same p q o u alike differ (inl first) (inr vain) = alike vain
+  mixed_same p q o u alike differ (inl first) (inl also) = absurd (differ (first_same p q first also))
+
+  outcome_same : (p q : ℕ × ℕ) (o u : Outcome) → Alike p q o u → Known p o → Known q u → Right p o → Right q u → Same p q o u
+  outcome_same p q (Race Candidate n k) (Race Candidate m l) alike mine its one other =
       let same = least_same CandidatePair p q one.2 other.2 in
-      (same, race_same Candidate n k m l p q same one.0.0 other.0.0)
-  outcome_same p q (Race Candidate n k) (Race Beyond m l) settled also mine its one other = absurd (some_or_none one.1 other.1)
-  outcome_same p q (Race Candidate n k) (Race Turned m l) settled also mine its one other = absurd (some_or_none one.1 other.1)
-  outcome_same p q (Race Candidate n k) (Undecided m) settled also mine its one other = absurd (some_or_none one.1 other.1)
-  outcome_same p q (Race Candidate n k) Apart settled also mine its one other = absurd (omega (arith, one.1, other.1))
-  outcome_same p q (Race Beyond n k) (Race Candidate m l) settled also mine its one other = absurd (some_or_none other.1 one.1)
-  outcome_same p q (Race Beyond n k) (Race Beyond m l) settled also mine its one other =
-      let same = first_same p q one.2 other.2 in
-      (same, race_same Beyond n k m l p q same one.0.0 other.0.0)
-  outcome_same p q (Race Beyond n k) (Race Turned m l) settled also mine its one other =
-      let same = first_same p q one.2 other.2 in
-      absurd (beyond_or_turned p q same one.0.1 other.0.1)
-  outcome_same p q (Race Beyond n k) (Undecided m) settled also mine its one other = absurd (not_vain p m one.2 other.2.1)
-  outcome_same p q (Race Beyond n k) Apart settled also mine its one other = absurd (shown_or_never Beyond n k p one.0.0 (mine.0 tt) (its.1 refl))
-  outcome_same p q (Race Turned n k) (Race Candidate m l) settled also mine its one other = absurd (some_or_none other.1 one.1)
-  outcome_same p q (Race Turned n k) (Race Beyond m l) settled also mine its one other =
-      let same = first_same p q one.2 other.2 in
-      absurd (beyond_or_turned q p (sym same) other.0.1 one.0.1)
-  outcome_same p q (Race Turned n k) (Race Turned m l) settled also mine its one other =
-      let same = first_same p q one.2 other.2 in
-      (same, race_same Turned n k m l p q same one.0.0 other.0.0)
-  outcome_same p q (Race Turned n k) (Undecided m) settled also mine its one other = absurd (not_vain p m one.2 other.2.1)
-  outcome_same p q (Race Turned n k) Apart settled also mine its one other = absurd (shown_or_never Turned n k p one.0.0 (mine.0 tt) (its.1 refl))
-  outcome_same p q (Undecided n) (Race Candidate m l) settled also mine its one other = absurd (some_or_none other.1 one.1)
-  outcome_same p q (Undecided n) (Race Beyond m l) settled also mine its one other = absurd (not_vain q n other.2 one.2.1)
-  outcome_same p q (Undecided n) (Race Turned m l) settled also mine its one other = absurd (not_vain q n other.2 one.2.1)
-  outcome_same p q (Undecided n) (Undecided m) settled also mine its one other = (least_same OpenPair p q one.2.0 other.2.0, ap (λ x. Undecided x) (vain_same n m one.2.1 other.2.1))
-  outcome_same p q (Undecided n) Apart settled also mine its one other = absurd (also refl n refl)
-  outcome_same p q Apart (Race Candidate m l) settled also mine its one other = absurd (omega (arith, other.1, one.1))
-  outcome_same p q Apart (Race Beyond m l) settled also mine its one other = absurd (shown_or_never Beyond m l q other.0.0 (its.0 tt) (mine.1 refl))
-  outcome_same p q Apart (Race Turned m l) settled also mine its one other = absurd (shown_or_never Turned m l q other.0.0 (its.0 tt) (mine.1 refl))
-  outcome_same p q Apart (Undecided m) settled also mine its one other = absurd (settled refl m refl)
-  outcome_same p q Apart Apart settled also mine its one other = (apart_same apart p q one.2 other.2, refl)
+      (same, race_same Candidate n k m l p q same tt one.0.0 other.0.0)
+  outcome_same p q (Race Candidate n k) (Race Beyond m l) alike mine its one other = absurd (some_or_none one.1 other.1)
+  outcome_same p q (Race Candidate n k) (Race Turned m l) alike mine its one other = absurd (some_or_none one.1 other.1)
+  outcome_same p q (Race Candidate n k) (Undecided m) alike mine its one other = absurd (some_or_none one.1 other.1)
+  outcome_same p q (Race Candidate n k) Apart alike mine its one other = absurd (omega (arith, one.1, other.1))
+  outcome_same p q (Race Beyond n k) (Race Candidate m l) alike mine its one other = absurd (some_or_none other.1 one.1)
+  outcome_same p q (Race Beyond n k) (Race Beyond m l) alike mine its one other = beyond_same p q n k m l alike one.0 other.0 one.2 other.2
+  outcome_same p q (Race Beyond n k) (Race Turned m l) alike mine its one other =
+      mixed_same p q _ _ alike (λ same. beyond_or_turned p q same one.0.1 other.0.1) one.2 other.2
+  outcome_same p q (Race Beyond n k) (Undecided m) alike mine its one other = alike (m, other.2.1)
+  outcome_same p q (Race Beyond n k) Apart alike mine its one other = absurd (shown_or_never Beyond n k p one.0.0 (mine.0 tt) (its.1 refl))
+  outcome_same p q (Race Turned n k) (Race Candidate m l) alike mine its one other = absurd (some_or_none other.1 one.1)
+  outcome_same p q (Race Turned n k) (Race Beyond m l) alike mine its one other =
+      mixed_same p q _ _ alike (λ same. beyond_or_turned q p (sym same) other.0.1 one.0.1) one.2 other.2
+  outcome_same p q (Race Turned n k) (Race Turned m l) alike mine its one other = turned_same p q n k m l alike one.0 other.0 one.2 other.2
+  outcome_same p q (Race Turned n k) (Undecided m) alike mine its one other = alike (m, other.2.1)
+  outcome_same p q (Race Turned n k) Apart alike mine its one other = absurd (shown_or_never Turned n k p one.0.0 (mine.0 tt) (its.1 refl))
+  outcome_same p q (Undecided n) u alike mine its one other = alike (n, one.2.1)
+  outcome_same p q Apart (Race Candidate m l) alike mine its one other = absurd (omega (arith, other.1, one.1))
+  outcome_same p q Apart (Race Beyond m l) alike mine its one other = absurd (shown_or_never Beyond m l q other.0.0 (its.0 tt) (mine.1 refl))
+  outcome_same p q Apart (Race Turned m l) alike mine its one other = absurd (shown_or_never Turned m l q other.0.0 (its.0 tt) (mine.1 refl))
+  outcome_same p q Apart (Undecided m) alike mine its one other = alike (m, other.2.1)
+  outcome_same p q Apart Apart alike mine its one other = (apart_same apart p q one.2.0 other.2.0, refl)
 
 -- a verdict of these parts
 abbrev made : ℕ → ℕ → Row → ℕ → Outcome → Verdict
@@ -384,8 +397,8 @@ made a b row n o = record { first = a; second = b; row = row; variables = n; out
 
 module _ (r : Recording) (place : ℕ → ℕ) (tries : ℕ) (apart : Bool) (v w : Verdict) (is : IsVerdict r place tries apart v) (also : IsVerdict r place tries apart w) where
   -- right verdicts on the same places are one
-  pub IsVerdict-unique : IsSettledAs v w → IsSettledAs w v → v.row.places ≡ w.row.places → v ≡ w
-  IsVerdict-unique settled back same =
+  pub IsVerdict-unique : IsSettledAs r place tries v w → v.row.places ≡ w.row.places → v ≡ w
+  IsVerdict-unique settled same =
       let counts : v.row.counts ≡ w.row.counts =
       counts_same r place w.row.places v.row.counts w.row.counts (subst (λ (p : ℕ × ℕ). IsRowAt r place p v.row.counts) same is.row) also.row
       in
@@ -397,7 +410,11 @@ module _ (r : Recording) (place : ℕ → ℕ) (tries : ℕ) (apart : Bool) (v w
       (subst (λ (p : ℕ × ℕ). IsCountOf (HasPair r place p) (before (length r.variables)) v.variables) same is.variables) also.variables
       in
       let both =
-      outcome_same r place tries apart w.row.places w.row.counts (v.second, v.first) (w.second, w.first) v.outcome w.outcome settled back (
+      outcome_same r place tries apart w.row.places w.row.counts (v.second, v.first) (w.second, w.first) v.outcome w.outcome (
+        λ vain.
+            let alike = settled (subst (AreInVain r place tries) (sym same) vain) in
+            (pair_same (v.second, v.first) (w.second, w.first) alike.1 alike.0, alike.2)
+      ) (
         λ told. subst (λ (p : ℕ × ℕ). AreAt place p v.first v.second) same (is.pair told).1,
         λ never. subst (λ (p : ℕ × ℕ). IsNeverShownBetween r.events place p.0 p.1) same (is.never never),
       ) (λ told. (also.pair told).1, also.never) (

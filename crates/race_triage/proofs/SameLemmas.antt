@@ -20,7 +20,7 @@ use Rattle.race_triage.specs.Pieces.{capped}
 use Rattle.race_triage.specs.Same.{AreRight, AreSettledAlike, TextsAreOne, VerdictsAreOne}
 use Rattle.race_triage.specs.Texts.{block_texts, left_out_text, totals_text}
 use Rattle.race_triage.specs.Totals.{ArePlacesOf}
-use Rattle.race_triage.specs.Verdicts.{IsTold, IsVerdict}
+use Rattle.race_triage.specs.Verdicts.{AreInVain, IsTold, IsVerdict}
 use Rattle.race_triage.specs.declared.chosen.Chosen.{Chosen}
 use Rattle.race_triage.specs.declared.chosen.Part.{Part}
 use Rattle.race_triage.specs.declared.chosen.Part.TheVariants.{Races, Open, Never}
@@ -61,8 +61,10 @@ told_never apart asked (Undecided n) = tt
 told_never apart asked Apart = asked
 
 -- the other way round
-turned_alike : (vs ws : List Verdict) → AreSettledAlike vs ws → AreSettledAlike ws vs
-turned_alike vs ws alike w v there in_vs same = let both = alike v w in_vs there (sym same) in (both.1, both.0)
+turned_alike : (r : Recording) (place : ℕ → ℕ) (tries : ℕ) (vs ws : List Verdict) → AreSettledAlike r place tries vs ws → AreSettledAlike r place tries ws vs
+turned_alike r place tries vs ws alike w v there in_vs same vain =
+    let both = alike v w in_vs there (sym same) (subst (AreInVain r place tries) same vain) in
+    (sym both.0, sym both.1, sym both.2)
 
 module _ (r : Recording) (place : ℕ → ℕ) (tries : ℕ) (apart : Bool) where
   abbrev T : List Event
@@ -75,7 +77,7 @@ module _ (r : Recording) (place : ℕ → ℕ) (tries : ℕ) (apart : Bool) wher
       ap (λ x. (x, v.row.places.1)) both.0 ∙ ap (λ y. (w.row.places.0, y)) both.1
 
   -- each verdict of the one list stands in the other
-  pub told_in : (vs ws : List Verdict) → AreRight r place tries apart vs → AreRight r place tries apart ws → AreSettledAlike vs ws → (v : Verdict) → Contains vs v → Contains ws v
+  pub told_in : (vs ws : List Verdict) → AreRight r place tries apart vs → AreRight r place tries apart ws → AreSettledAlike r place tries vs ws → (v : Verdict) → Contains vs v → Contains ws v
   told_in vs ws one other alike v there =
       let is = All-contains (IsVerdict r place tries apart) vs v one.verdicts there in
       let c = is.there in
@@ -87,7 +89,7 @@ module _ (r : Recording) (place : ℕ → ℕ) (tries : ℕ) (apart : Bool) wher
       let also = All-contains (IsVerdict r place tries apart) ws w other.verdicts found.1 in
       let same = same_places_of v w c.first c.second is also c.between found.2 in
       let settled = alike v w there found.1 same in
-      subst (Contains ws) (sym (IsVerdict-unique r place tries apart v w is also settled.0 settled.1 same)) found.1
+      subst (Contains ws) (sym (IsVerdict-unique r place tries apart v w is also settled same)) found.1
 
   module _ (vs : List Verdict) (right : AreRight r place tries apart vs) where
     abbrev Strict : Verdict → Verdict → Type 0
@@ -120,8 +122,8 @@ module _ (r : Recording) (place : ℕ → ℕ) (tries : ℕ) (apart : Bool) wher
         (told (get_or kept i d) (All-get_or (λ (v : Verdict). is_of p v ≡ true) kept i d (omega (arith, lt, le)) passes))
         (told (get_or kept j d) (All-get_or (λ (v : Verdict). is_of p v ≡ true) kept j d le passes))
 
-  module _ (vs ws : List Verdict) (one : AreRight r place tries apart vs) (other : AreRight r place tries apart ws) (alike : AreSettledAlike vs ws) where
-    kept_in : (us xs : List Verdict) → AreRight r place tries apart us → AreRight r place tries apart xs → AreSettledAlike us xs → (p : Part) (v : Verdict) → Contains (filter (is_of p) us) v
+  module _ (vs ws : List Verdict) (one : AreRight r place tries apart vs) (other : AreRight r place tries apart ws) (alike : AreSettledAlike r place tries vs ws) where
+    kept_in : (us xs : List Verdict) → AreRight r place tries apart us → AreRight r place tries apart xs → AreSettledAlike r place tries us xs → (p : Part) (v : Verdict) → Contains (filter (is_of p) us) v
         → Contains (filter (is_of p) xs) v
     kept_in us xs a b both p v there =
         into_filter (is_of p) xs v (told_in us xs a b both v (from_filter (is_of p) us v there))
@@ -130,7 +132,7 @@ module _ (r : Recording) (place : ℕ → ℕ) (tries : ℕ) (apart : Bool) wher
     -- each part is one list
     part_same : (p : Part) → ((v : Verdict) → is_of p v ≡ true → IsTold apart v.outcome) → filter (is_of p) vs ≡ filter (is_of p) ws
     part_same p told =
-        one_rising IsBefore before_apart (filter (is_of p) vs) (filter (is_of p) ws) (part_rises vs one p told) (part_rises ws other p told) (kept_in vs ws one other alike p) (kept_in ws vs other one (turned_alike vs ws alike) p)
+        one_rising IsBefore before_apart (filter (is_of p) vs) (filter (is_of p) ws) (part_rises vs one p told) (part_rises ws other p told) (kept_in vs ws one other alike p) (kept_in ws vs other one (turned_alike r place tries vs ws alike) p)
 
     races_same : filter (is_of Races) vs ≡ filter (is_of Races) ws
     races_same = part_same Races (λ v. told_race apart v.outcome)

@@ -15,17 +15,17 @@ use Rattle.race_groups.specs.Groups.{is_between}
 use Rattle.race_groups.specs.Kinds.{IsNeverShownBetween}
 use Rattle.race_groups.specs.declared.kinds.Counts.{Counts}
 use Rattle.race_groups.specs.declared.kinds.Row.{Row}
-use Rattle.race_groups.specs.least_pairs.Pairs.{AreAt, IsLeastPair}
+use Rattle.race_groups.specs.least_pairs.Pairs.{AreAt, IsLeastPair, IsPair}
 use Rattle.race_groups.specs.declared.least_pairs.wanted.Wanted.TheVariants.{Any as AnyPair, Open as OpenPair}
 use Rattle.race_groups.proofs.DoubledLemmas.{between_turned}
 use Rattle.race_groups.proofs.RowLemmas.{between_cases}
 use Rattle.race_triage.specs.Settled.{AreAllApart, AreApartFrom, AreCorrect, IsApartAt}
-use Rattle.race_triage.specs.Verdicts.{IsOutcomeFor, IsPairApart, IsPairFor, IsTold, IsVerdict, IsVerdictOf, named_apart}
+use Rattle.race_triage.specs.Verdicts.{AreInVain, HasOpen, IsOpenRace, IsOutcomeFor, IsPairApart, IsPairFor, IsTold, IsVerdict, IsVerdictOf, named_apart}
 use Rattle.race_triage.specs.declared.found.Found.{Found}
 use Rattle.race_triage.specs.declared.verdicts.Outcome.{Outcome}
 use Rattle.race_triage.specs.declared.verdicts.Outcome.TheVariants.{Undecided, Apart}
 use Rattle.race_triage.specs.declared.verdicts.Verdict.{Verdict}
-use Rattle.race_triage.proofs.VerdictLemmas.{IsVerdict-made, some_events}
+use Rattle.race_triage.proofs.VerdictLemmas.{IsVerdict-made, later_pair, open_counts, open_is_not_apart, open_outcome, some_events}
 
 -- if a verdict on the same row replaces the one at an index, each index has the row that it had
 rows_same : (vs : List Verdict) (at k : ℕ) (w d : Verdict) → at < length vs → w.row ≡ (get_or vs at d).row → (get_or (set vs at w) k d).row ≡ (get_or vs k d).row
@@ -91,20 +91,39 @@ module _ (r : Recording) (place : ℕ → ℕ) (tries : ℕ) (apart : Bool) (v w
   is_open : IsOutcomeFor v.row.counts (Undecided undecided.0)
   is_open = subst (IsOutcomeFor v.row.counts) undecided.1 is.counts
 
+  least : IsPairFor r place tries apart v.row.places v.row.counts (v.second, v.first) (Undecided undecided.0)
+  least = subst (IsPairFor r place tries apart v.row.places v.row.counts (v.second, v.first)) undecided.1 is.least
+
+  vain : AreInVain r place tries v.row.places
+  vain = (undecided.0, least.1)
+
   told : IsTold apart v.outcome
   told = subst (IsTold apart) (sym undecided.1) tt
 
   pub named : apart ≡ true → w.first ≡ v.first → w.second ≡ v.second → IsVerdict r place tries apart w
   named asked first second =
-      let least = (subst (IsPairFor r place tries apart v.row.places v.row.counts (v.second, v.first)) undecided.1 is.least).0 in
-      let fits = open_named r place v.row.places (v.second, v.first) v.row.counts is_open.1 least in
+      let fits = open_named r place v.row.places (v.second, v.first) v.row.counts is_open.1 least.0 in
       (IsVerdict-made r place tries apart v.row v.first v.second v.variables Apart w first second row variables outcome
       is.first is.second is.row is.there (λ _. is.pair told) tt is_open.0 (λ _. never) is.variables
-      (subst (λ (b : Bool). IsPairApart r place b v.row.places v.row.counts (v.second, v.first)) (sym asked) fits)).0
+      (subst (λ (b : Bool). IsPairApart r place b v.row.places v.row.counts (v.second, v.first)) (sym asked) fits, inr vain)).0
 
   pub unnamed : apart ≡ false → w.first ≡ 0 → w.second ≡ 0 → IsVerdict r place tries apart w
   unnamed unasked first second =
       let some = some_events r.events place v.row.places is.there in
       (IsVerdict-made r place tries apart v.row 0 0 v.variables Apart w first second row variables outcome
       some some is.row is.there (λ asked. absurd (true≢false (sym asked ∙ unasked))) tt is_open.0 (λ _. never) is.variables
-      (subst (λ (b : Bool). IsPairApart r place b v.row.places v.row.counts (0, 0)) (sym unasked) refl)).0
+      (subst (λ (b : Bool). IsPairApart r place b v.row.places v.row.counts (0, 0)) (sym unasked) refl, inr vain)).0
+
+-- a verdict that two locations race, from an undecided one
+module _ (r : Recording) (place : ℕ → ℕ) (tries : ℕ) (apart : Bool) (v w : Verdict) (a b : ℕ) (o : Outcome) (is : IsVerdict r place tries apart v)
+    (undecided : (n : ℕ) × (v.outcome ≡ Undecided n)) (row : w.row ≡ v.row) (variables : w.variables ≡ v.variables) (outcome : w.outcome ≡ o) (first : w.first ≡ a)
+    (second : w.second ≡ b) where
+  pub raced : IsPair r.events a b → AreAt place v.row.places a b → IsOpenRace r a b o → IsVerdict r place tries apart w
+  raced pair at race =
+      let is_open : HasOpen v.row.counts = subst (IsOutcomeFor v.row.counts) undecided.1 is.counts in
+      let least : IsPairFor r place tries apart v.row.places v.row.counts (v.second, v.first) (Undecided undecided.0) =
+      subst (IsPairFor r place tries apart v.row.places v.row.counts (v.second, v.first)) undecided.1 is.least in
+      (IsVerdict-made r place tries apart v.row a b v.variables o w first second row variables outcome
+      (omega (arith, pair.earlier, pair.within)) pair.within is.row is.there (λ _. (pair, at)) (open_outcome r a b v.row.counts o race)
+      (open_counts r a b v.row.counts o race is_open) (λ same. absurd (open_is_not_apart r a b v.row.counts o race same)) is.variables
+      (later_pair r a b v.row.counts place tries apart v.row.places o race (undecided.0, least.1))).0

@@ -16,7 +16,7 @@ use Rattle.race_groups.specs.declared.kinds.Counts.{Counts}
 use Rattle.race_groups.specs.declared.kinds.Row.{Row}
 use Rattle.race_groups.specs.least_pairs.Pairs.{IsPair, AreAt, HasPair, IsLeastPair}
 use Rattle.race_groups.specs.declared.least_pairs.wanted.Wanted.TheVariants.{Candidate as CandidatePair, Any as AnyPair}
-use Rattle.race_triage.specs.Verdicts.{IsOutcome, IsOutcomeFor, IsRaceOf, IsOpenRace, HasOpen, IsTold, IsPairFor, IsFirstOfTried, IsVerdictOn, IsNoLater, AreRising}
+use Rattle.race_triage.specs.Verdicts.{IsOutcome, IsOutcomeFor, IsRaceOf, IsOpenRace, HasOpen, IsTold, IsPairFor, IsFirstOfTried, AreInVain, IsVerdictOn, IsNoLater, AreRising}
 use Rattle.race_triage.specs.declared.verdicts.Outcome.{Outcome}
 use Rattle.race_triage.specs.declared.verdicts.Outcome.TheVariants.{Race, Undecided, Apart}
 use Rattle.race_triage.specs.declared.verdicts.Verdict.{Verdict}
@@ -105,8 +105,14 @@ module _ (r : Recording) (a b : ℕ) (c : Counts) where
 
     pub open_pair : (o : Outcome) → IsOpenRace r a b o → IsFirstOfTried r place tries places (b, a) → IsPairFor r place tries apart places c (b, a) o
     open_pair o is first = elim is [
-      | inl beyond ↦ subst (IsPairFor r place tries apart places c (b, a)) (sym beyond.2) first
-      | inr turned ↦ subst (IsPairFor r place tries apart places c (b, a)) (sym turned.2) first
+      | inl beyond ↦ subst (IsPairFor r place tries apart places c (b, a)) (sym beyond.2) (inl first)
+      | inr turned ↦ subst (IsPairFor r place tries apart places c (b, a)) (sym turned.2) (inl first)
+    ]
+
+    pub later_pair : (o : Outcome) → IsOpenRace r a b o → AreInVain r place tries places → IsPairFor r place tries apart places c (b, a) o
+    later_pair o is vain = elim is [
+      | inl beyond ↦ subst (IsPairFor r place tries apart places c (b, a)) (sym beyond.2) (inr vain)
+      | inr turned ↦ subst (IsPairFor r place tries apart places c (b, a)) (sym turned.2) (inr vain)
     ]
 
   pub open_is_not_apart : (o : Outcome) → IsOpenRace r a b o → o ≢ Apart

@@ -1,15 +1,14 @@
 -- All calls print the same for a trace. `r` is the trace's recording, and `place` gives the number of each event's
 -- location.
-use Rattle.std.specs.Prelude.{◌≡◌, ◌≢◌, ◌≤◌, ℕ, Bool, List, Option, All, Contains, length}
+use Rattle.std.specs.Prelude.{◌≡◌, ◌≤◌, ℕ, Bool, List, Option, All, Contains, length}
 use Rattle.rapid_text.specs.Recording.{Recording, IsWellFormed}
 use Rattle.trace_rules.specs.Rules.{IsDisciplined}
 use Rattle.race_triage.specs.Chosen.{AreChosen, in_order}
 use Rattle.race_triage.specs.Texts.{AreTotals, IsTriageText}
-use Rattle.race_triage.specs.Verdicts.{AreAllTold, AreOnceTold, AreRising, IsVerdict}
+use Rattle.race_triage.specs.Verdicts.{AreAllTold, AreInVain, AreOnceTold, AreRising, IsVerdict}
 use Rattle.race_triage.specs.declared.chosen.Chosen.{Chosen}
 use Rattle.race_triage.specs.declared.totals.Totals.{Totals}
 use Rattle.race_triage.specs.Limits.{place_pair_limit}
-use Rattle.race_triage.specs.declared.verdicts.Outcome.TheVariants.{Apart, Undecided}
 use Rattle.race_triage.specs.declared.verdicts.Verdict.{Verdict}
 
 -- the trace is well formed and keeps the rules
@@ -24,23 +23,24 @@ pub record AreRight (r : Recording) (place : ℕ → ℕ) (tries : ℕ) (apart :
   pub few : length vs ≤ place_pair_limit
   pub rising : AreRising vs
 
--- the one verdict is not apart if the other is undecided
-abbrev pub IsSettledAs : Verdict → Verdict → Type 0
-IsSettledAs v w = v.outcome ≡ Apart → (tried : ℕ) → w.outcome ≢ Undecided tried
+-- if no schedule was found for any tried pair, the two verdicts name one pair and one outcome
+abbrev pub IsSettledAs : Recording → (ℕ → ℕ) → ℕ → Verdict → Verdict → Type 0
+IsSettledAs r place tries v w =
+    AreInVain r place tries v.row.places → (v.first ≡ w.first) × (v.second ≡ w.second) × (v.outcome ≡ w.outcome)
 
--- where the one list says apart, the other is not undecided, and the other way round: both settled the same rows
-abbrev pub AreSettledAlike : List Verdict → List Verdict → Type 0
-AreSettledAlike vs ws =
-    (v w : Verdict) → Contains vs v → Contains ws w → v.row.places ≡ w.row.places → IsSettledAs v w × IsSettledAs w v
+-- the same for verdicts of the two lists on the same locations: both settled the same rows in the same way
+abbrev pub AreSettledAlike : Recording → (ℕ → ℕ) → ℕ → List Verdict → List Verdict → Type 0
+AreSettledAlike r place tries vs ws =
+    (v w : Verdict) → Contains vs v → Contains ws w → v.row.places ≡ w.row.places → IsSettledAs r place tries v w
 
--- Two correct lists that settled the same rows have the same verdicts in the same order, and the same counts.
+-- Two correct lists that settled the same rows alike have the same verdicts in the same order, and the same counts.
 abbrev pub VerdictsAreOne : Type 0
 VerdictsAreOne =
     (r : Recording) (place : ℕ → ℕ) (tries : ℕ) (apart : Bool) (vs ws : List Verdict)
     → IsLegal r
     → AreRight r place tries apart vs
     → AreRight r place tries apart ws
-    → AreSettledAlike vs ws
+    → AreSettledAlike r place tries vs ws
     → (in_order apart vs ≡ in_order apart ws) × ((t u : Totals) → AreTotals r vs t → AreTotals r ws u → t ≡ u)
 
 -- so they have the same text
@@ -51,7 +51,7 @@ TextsAreOne =
     → IsLegal r
     → AreRight r place tries apart vs
     → AreRight r place tries apart ws
-    → AreSettledAlike vs ws
+    → AreSettledAlike r place tries vs ws
     → AreChosen r known only hide apart vs c
     → AreChosen r known only hide apart ws d
     → IsTriageText r vs c text

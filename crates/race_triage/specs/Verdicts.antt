@@ -123,6 +123,7 @@ pub record IsFirstFound (T : List Event) (budget : ℕ) (tried : List Try) (pair
   pub one_is : slice_get tried at ≡ Some one
   pub told : one.pair ≡ pair
   pub left : ℕ
+  pub few : left ≤ search_limit
   pub earlier : AreMissed T budget (take at tried) left
   pub found : IsFoundBy T pair.1 pair.0 left
 
@@ -145,6 +146,10 @@ pub record AreTriedInVain (r : Recording) (place : ℕ → ℕ) (tries : ℕ) (p
   pub left : ℕ
   pub none : AreMissed r.events budget tried left
 
+-- no schedule was found for any tried pair
+abbrev pub AreInVain : Recording → (ℕ → ℕ) → ℕ → ℕ × ℕ → Type 0
+AreInVain r place tries places = (count : ℕ) × AreTriedInVain r place tries places count
+
 -- of which pairs an apart verdict names the least: of the open pairs if there are any, else of all
 abbrev pub named_apart : Counts → Wanted
 named_apart c = cond (nat_lt 0 c.open_pairs) OpenPair AnyPair
@@ -155,13 +160,15 @@ IsPairApart r place true places c pair = IsLeastPair r place places (named_apart
 IsPairApart r place false places c pair = pair ≡ (0, 0)
 
 -- Which pair a verdict names, the later event first. With a candidate it is the least candidate. For another race it
--- is the first tried pair for which a schedule was found. For an undecided verdict it is the least open pair.
+-- is the first tried pair for which a schedule was found. If none was found, it is an open pair of which a schedule was
+-- found later. For an undecided verdict it is the least open pair. Locations that are apart have no open pair, or no
+-- schedule was found for any tried pair.
 abbrev pub IsPairFor : Recording → (ℕ → ℕ) → ℕ → Bool → ℕ × ℕ → Counts → ℕ × ℕ → Outcome → Type 0
 IsPairFor r place tries apart places c pair (Race Candidate events threads) = IsLeastPair r place places CandidatePair (Some pair)
-IsPairFor r place tries apart places c pair (Race how events threads) = IsFirstOfTried r place tries places pair
+IsPairFor r place tries apart places c pair (Race how events threads) = IsFirstOfTried r place tries places pair ⊎ AreInVain r place tries places
 IsPairFor r place tries apart places c pair (Undecided tried) =
     IsLeastPair r place places OpenPair (Some pair) × AreTriedInVain r place tries places tried
-IsPairFor r place tries apart places c pair Apart = IsPairApart r place apart places c pair
+IsPairFor r place tries apart places c pair Apart = IsPairApart r place apart places c pair × ((c.open_pairs ≡ 0) ⊎ AreInVain r place tries places)
 
 -- What holds for each verdict, if the first `tries` open pairs of two locations are tried.
 pub record IsVerdict (r : Recording) (place : ℕ → ℕ) (tries : ℕ) (apart : Bool) (v : Verdict) : Type 0 where

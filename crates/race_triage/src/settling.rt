@@ -1,20 +1,30 @@
-//! Finds out that two locations are apart, where the search found no schedule for their open pairs: the closed order
-//! contradicts each such pair.
-ghost use Rattle.std.specs.Prelude.{◌≡◌, ◌+◌, ◌<◌, ℕ, [], ◌∷◌, All, IfOk, IfSome, IsTrue, OnOk, length, slice_index};
-ghost use Rattle.closed_order.specs.Steps.{IsContradiction};
-ghost use Rattle.explain_report.specs.findings.Findings.{IsShownByNone};
+//! Settles two locations where the tries found no schedule. The closed order may lead to a schedule of an open pair, or
+//! contradict each of them.
+ghost use Rattle.std.specs.Prelude.{◌≡◌, ◌+◌, ◌<◌, ℕ, true, All, IfOk, IsTrue, OnOk, length, slice_index};
+ghost use Rattle.rapid_text.specs.Appended.{IfFound};
+ghost use Rattle.schedule.specs.Reordering.{IsCorrectReordering};
+ghost use Rattle.schedule.specs.Shows.{Shows};
+ghost use Rattle.must_order.specs.Kinds.{IsKind};
+ghost use Rattle.must_order.specs.declared.kind.Kind.TheVariants.{Open};
+ghost use Rattle.closed_order.specs.Looks.{IsClosed};
+ghost use Rattle.explain_report.specs.findings.Findings.{IsShownByNone, search_limit};
+ghost use Rattle.race_groups.specs.least_pairs.Pairs.{IsPair};
 ghost use Rattle.race_groups.specs.Groups.{is_between};
 ghost use Rattle.race_triage.specs.Settled.{AreAllApartIn, AreApartFromIn, AreCorrect, AreMembers, IsApartIn, IsMember, IsNeverShownIn};
-ghost use Rattle.race_triage.specs.Verdicts.{IsFoundIn, IsVerdictOf};
-ghost use Rattle.race_triage.specs.declared.verdicts.Outcome.TheVariants.{Undecided};
+ghost use Rattle.race_triage.specs.Verdicts.{IsFoundIn, IsMissed, IsOpenRace, IsVerdictOf};
+ghost use Rattle.race_triage.specs.declared.verdicts.Outcome.TheVariants.{Race, Undecided};
+ghost use Rattle.explain_report.specs.declared.verdict.How.TheVariants.{Turned};
 
 use crate::found::Found;
 use crate::places::small;
 use crate::verdicts::{Outcome, Verdict};
-use closed_order::{Closing, Step, USUAL_WORK, contradicted_is_never_shown};
+use closed_order::{Closed, Closing, USUAL_WORK, contradicted_is_never_shown, threads_in};
+use explain_report::How;
+use explain_report::findings::BUDGET;
 use must_order::{Analysis, apart_is_never_shown};
 use race_groups::Row;
 use rapid_text::OutOfMemory;
+use schedule::Schedule;
 use std::alloc::Global;
 
 /// What is looked at for one row: the trace, the number of each event's location, and the two locations.
@@ -45,7 +55,8 @@ pub(crate) fn settle_all(
     Ok(())
 }
 
-/// The verdict. If it is undecided, and all its open pairs are found to be contradicted, its locations are apart.
+/// The verdict. If it is undecided, looks at its open pairs: a schedule may show one of them, or all may be found to be
+/// contradicted.
 pub(crate) fn settled(
     found: &Found<'_>,
     analysis: &Analysis<'_>,
@@ -61,10 +72,17 @@ pub(crate) fn settled(
     if !is_undecided(verdict.outcome) {
         return Ok(verdict);
     }
-    if !are_apart(found, analysis, closing, verdict.row)? {
+    if found.effort.tries == 0 {
         return Ok(verdict);
     }
-    Ok(apart_of(found, verdict))
+    let mut shown = None;
+    if are_apart(found, analysis, closing, verdict, &mut shown)? {
+        return Ok(apart_of(found, verdict));
+    }
+    match shown {
+        None => Ok(verdict),
+        Some(pair) => with_race(found, analysis, closing, verdict, pair),
+    }
 }
 
 /// Whether the outcome is undecided.
@@ -104,31 +122,173 @@ fn apart_of(found: &Found<'_>, verdict: Verdict) -> Verdict
     }
 }
 
-// Whether no correct reordering was found to show two events at the row's locations.
+// The verdict, or a race if a schedule shows the pair of events.
+fn with_race(
+    found: &Found<'_>,
+    analysis: &Analysis<'_>,
+    closing: &mut Closing,
+    verdict: Verdict,
+    pair: (u32, u32),
+) -> Result<Verdict, OutOfMemory>
+    requires found { IsFoundIn found.now }
+    requires trace { analysis.now ≡ found.now.tables.indexed.now }
+    requires verdict { IsVerdictOf found.now verdict }
+    requires undecided { (tried : ℕ) × (verdict.outcome ≡ Undecided tried) }
+    ensures verdict { IfOk result (IsVerdictOf found.now) }
+    ensures row { IfOk result (λ v. v.row ≡ verdict.row) }
+{
+    if !settling_of(found, analysis, verdict.row).is_open_pair(pair.0, pair.1) {
+        return Ok(verdict);
+    }
+    match race_at(found, analysis, closing, pair.0, pair.1)? {
+        None => Ok(verdict),
+        Some(outcome) => Ok(raced(verdict, pair, outcome)),
+    }
+}
+
+// The verdict with this pair and outcome.
+fn raced(verdict: Verdict, pair: (u32, u32), outcome: Outcome) -> Verdict
+    ensures first { result.first ≡ pair.0 }
+    ensures second { result.second ≡ pair.1 }
+    ensures row { result.row ≡ verdict.row }
+    ensures variables { result.variables ≡ verdict.variables }
+    ensures outcome { result.outcome ≡ outcome }
+{
+    Verdict {
+        first: pair.0,
+        second: pair.1,
+        row: verdict.row,
+        variables: verdict.variables,
+        outcome,
+    }
+}
+
+// The race of an open pair, if a schedule shows it.
+fn race_at(
+    found: &Found<'_>,
+    analysis: &Analysis<'_>,
+    closing: &mut Closing,
+    first: u32,
+    second: u32,
+) -> Result<Option<Outcome>, OutOfMemory>
+    requires found { IsFoundIn found.now }
+    requires trace { analysis.now ≡ found.now.tables.indexed.now }
+    requires pair { IsPair analysis.now.events first second }
+    requires kind { IsKind analysis.now first second Open }
+    ensures { IfFound result (IsOpenRace analysis.now first second) }
+{
+    let mut left = BUDGET;
+    match found.tables.race_of_open(first, second, &mut left)? {
+        Some(outcome) => Ok(Some(outcome)),
+        None => race_closed(found.tables.alloc, analysis, closing, first, second),
+    }
+}
+
+// The race of an open pair that the usual searches missed, if a schedule in the closed order shows it.
+fn race_closed(
+    alloc: Global,
+    analysis: &Analysis<'_>,
+    closing: &mut Closing,
+    first: u32,
+    second: u32,
+) -> Result<Option<Outcome>, OutOfMemory>
+    requires pair { IsPair analysis.now.events first second }
+    requires kind { IsKind analysis.now first second Open }
+    requires missed { (left : ℕ) × IsMissed analysis.now.events first second search_limit left }
+    ensures { IfFound result (IsOpenRace analysis.now first second) }
+{
+    match closing.race(alloc, analysis, first, second)? {
+        Closed::Contradicted(_) => Ok(None),
+        Closed::Open => Ok(None),
+        Closed::Shown(schedule) => {
+            let race = race_of(analysis, &schedule, first, second)?;
+            Ok(Some(race))
+        }
+    }
+}
+
+// The race that this schedule shows.
+fn race_of(
+    analysis: &Analysis<'_>,
+    schedule: &Schedule,
+    _first: u32,
+    _second: u32,
+) -> Result<Outcome, OutOfMemory>
+    requires kind { IsKind analysis.now _first _second Open }
+    requires missed { (left : ℕ) × IsMissed analysis.now.events _first _second search_limit left }
+    requires trace { schedule.now.trace ≡ analysis.now }
+    requires shows { Shows analysis.now.events schedule.now.events _first _second }
+    ensures { IfOk result (IsOpenRace analysis.now _first _second) }
+{
+    let events = schedule.events();
+    race_of_list(analysis, events, _first, _second)
+}
+
+// The race that a schedule with these events shows.
+fn race_of_list(
+    analysis: &Analysis<'_>,
+    events: &[u32],
+    _first: u32,
+    _second: u32,
+) -> Result<Outcome, OutOfMemory>
+    requires kind { IsKind analysis.now _first _second Open }
+    requires missed { (left : ℕ) × IsMissed analysis.now.events _first _second search_limit left }
+    requires reordering { IsCorrectReordering analysis.now.events events.now }
+    requires shows { Shows analysis.now.events events.now _first _second }
+    ensures { IfOk result (IsOpenRace analysis.now _first _second) }
+{
+    let count = small(events.len())?;
+    let threads = threads_in(analysis.indexed(), events);
+    Ok(turned(count, threads))
+}
+
+// A race with a schedule of this size, which is not in the order of the trace.
+fn turned(events: u32, threads: u32) -> Outcome
+    ensures { result ≡ Race Turned events threads }
+{
+    Outcome::Race {
+        how: How::Turned,
+        events,
+        threads,
+    }
+}
+
+// What is looked at for the row.
+fn settling_of<'a>(found: &'a Found<'a>, analysis: &'a Analysis<'a>, row: Row) -> Settling<'a>
+    ensures analysis { result.analysis.now ≡ analysis.now }
+    ensures places { result.places.now ≡ found.now.tables.places.now }
+    ensures between { result.between ≡ row.places }
+{
+    Settling {
+        alloc: found.tables.alloc,
+        analysis,
+        places: found.tables.places,
+        between: row.places,
+    }
+}
+
+// Whether no correct reordering was found to show two events at the row's locations. If one was found for an open pair,
+// it is in `shown`. If the row has too many pairs for what is left of the budget, that is the pair that it names.
 fn are_apart(
     found: &Found<'_>,
     analysis: &Analysis<'_>,
     closing: &mut Closing,
-    row: Row,
+    verdict: Verdict,
+    shown: &mut Option<(u32, u32)>,
 ) -> Result<bool, OutOfMemory>
     requires found { IsFoundIn found.now }
     requires trace { analysis.now ≡ found.now.tables.indexed.now }
-    ensures { IfOk result (λ so. IsTrue so → IsNeverShownIn found.now row) }
+    ensures { IfOk result (λ so. IsTrue so → IsNeverShownIn found.now verdict.row) }
 {
-    let settling = Settling {
-        alloc: found.tables.alloc,
-        analysis: &*analysis,
-        places: found.tables.places,
-        between: row.places,
-    };
-    if found.effort.tries == 0 {
-        return Ok(false);
-    }
-    if !settling.has_work(closing, row) {
+    let settling = settling_of(found, analysis, verdict.row);
+    if !settling.has_work(closing, verdict.row) {
+        if settling.may_look(closing) {
+            *shown = Some((verdict.first, verdict.second));
+        }
         return Ok(false);
     }
     let members = settling.members()?;
-    settling.all_apart(closing, members.as_slice())
+    settling.all_apart(closing, members.as_slice(), shown)
 }
 
 impl Settling<'_> {
@@ -137,6 +297,12 @@ impl Settling<'_> {
         let events = u64::from(self.analysis.indexed().len());
         let pairs = row.counts.open_pairs.saturating_mul(events / 8);
         closing.may(pairs) && closing.spend(events / 4)
+    }
+
+    // Whether the budget has enough for one pair, and for going over the trace.
+    fn may_look(&self, closing: &mut Closing) -> bool {
+        let events = u64::from(self.analysis.indexed().len());
+        closing.may(events) && closing.spend(events / 4)
     }
 
     // The events at the two locations.
@@ -173,12 +339,17 @@ impl Settling<'_> {
     }
 
     // Whether each two of the events are found to be apart, or are not at the two locations.
-    fn all_apart(&self, closing: &mut Closing, members: &[u32]) -> Result<bool, OutOfMemory>
+    fn all_apart(
+        &self,
+        closing: &mut Closing,
+        members: &[u32],
+        shown: &mut Option<(u32, u32)>,
+    ) -> Result<bool, OutOfMemory>
         requires members { All (λ e. e < length self.now.analysis.now.events) members.now }
         ensures { IfOk result (λ so. IsTrue so → AreAllApartIn self.now members.now) }
     {
         for at in 0..members.len() {
-            if !self.apart_from(closing, members, members[at])? {
+            if !self.apart_from(closing, members, members[at], shown)? {
                 return Ok(false);
             }
         }
@@ -191,6 +362,7 @@ impl Settling<'_> {
         closing: &mut Closing,
         members: &[u32],
         later: u32,
+        shown: &mut Option<(u32, u32)>,
     ) -> Result<bool, OutOfMemory>
         requires members { All (λ e. e < length self.now.analysis.now.events) members.now }
         requires later { later < length self.now.analysis.now.events }
@@ -200,15 +372,21 @@ impl Settling<'_> {
             return Ok(false);
         }
         for at in 0..members.len() {
-            if !self.is_apart(closing, members[at], later)? {
+            if !self.is_apart(closing, members[at], later, shown)? {
                 return Ok(false);
             }
         }
         Ok(true)
     }
 
-    // The same for two events.
-    fn is_apart(&self, closing: &mut Closing, first: u32, second: u32) -> Result<bool, OutOfMemory>
+    // The same for two events. If a correct reordering shows them, they are in `shown`.
+    fn is_apart(
+        &self,
+        closing: &mut Closing,
+        first: u32,
+        second: u32,
+        shown: &mut Option<(u32, u32)>,
+    ) -> Result<bool, OutOfMemory>
         requires first { first < length self.now.analysis.now.events }
         requires second { second < length self.now.analysis.now.events }
         ensures { IfOk result (λ so. IsTrue so → IsApartIn self.now first second) }
@@ -222,7 +400,10 @@ impl Settling<'_> {
         if self.is_known_apart(first, second) {
             return Ok(true);
         }
-        let found = closing.contradiction(self.alloc, self.analysis, first, second)?;
+        let found = closing.race(self.alloc, self.analysis, first, second)?;
+        if is_shown(&found) {
+            *shown = Some((first, second));
+        }
         Ok(self.is_contradicted(&found, first, second))
     }
 
@@ -267,17 +448,58 @@ impl Settling<'_> {
     }
 
     // Whether steps were found that contradict the two events.
-    fn is_contradicted(&self, found: &Option<Vec<Step>>, _first: u32, _second: u32) -> bool
-        requires { IfSome found.now (λ steps. IsContradiction self.now.analysis.now.events (_first ∷ _second ∷ []) steps.items) }
+    fn is_contradicted(&self, found: &Closed, _first: u32, _second: u32) -> bool
+        requires { IsClosed self.now.analysis.now _first _second found.now }
         ensures { IsTrue result → IsShownByNone self.now.analysis.now.events _first _second }
     {
         contradicted_is_never_shown();
         let indexed = self.analysis.indexed();
         let _len = indexed.len();
         match found {
-            None => false,
-            Some(_) => true,
+            Closed::Contradicted(_) => true,
+            Closed::Shown(_) => false,
+            Closed::Open => false,
         }
+    }
+
+    // Whether the two events are an open pair at the two locations.
+    fn is_open_pair(&self, first: u32, second: u32) -> bool
+        ensures pair { IsTrue result → IsPair self.now.analysis.now.events first second }
+        ensures at { IsTrue result → is_between self.now.between.0 self.now.between.1 (slice_index self.now.places.now first) (slice_index self.now.places.now second) ≡ true }
+        ensures kind { IsTrue result → IsKind self.now.analysis.now first second Open }
+    {
+        let indexed = self.analysis.indexed();
+        if first >= second {
+            return false;
+        }
+        if second >= indexed.len() {
+            return false;
+        }
+        if !indexed.conflict(first, second) {
+            return false;
+        }
+        if !self.is_at(first, second) {
+            return false;
+        }
+        if self.analysis.is_candidate(first, second) {
+            return false;
+        }
+        if self.analysis.is_forced(first, second) {
+            return false;
+        }
+        match self.analysis.guard(first, second) {
+            Some(_) => false,
+            None => true,
+        }
+    }
+}
+
+// Whether a correct reordering was found.
+fn is_shown(found: &Closed) -> bool {
+    match found {
+        Closed::Contradicted(_) => false,
+        Closed::Shown(_) => true,
+        Closed::Open => false,
     }
 }
 

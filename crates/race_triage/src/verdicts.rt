@@ -83,8 +83,7 @@ pub enum Outcome {
         /// How many threads have events in the schedule.
         threads: u32,
     },
-    /// There are open pairs of events. No schedule was found for any pair that was tried, and not all are known to be
-    /// contradicted.
+    /// There are open pairs of events. No schedule was found for any of them, and not all are known to be contradicted.
     Undecided {
         /// How many pairs were tried.
         tried: u32,
@@ -130,9 +129,10 @@ pub struct Effort {
 }
 
 /// Returns a verdict for each pair of locations with conflicting events. If a pair has open pairs of events and no
-/// candidate, tries the `tries` least open ones. If that finds nothing, it looks for a contradiction of each open pair,
-/// unless `tries` is 0; all pairs of locations share one budget. `located` has the locations of the trace. The result is the same for
-/// any number of workers. `watch` hears of each verdict.
+/// candidate, tries the `tries` least open ones. If that finds nothing, it looks at each open pair by the closed order,
+/// unless `tries` is 0; all pairs of locations share one budget. `located` has the locations of the trace. `watch` hears
+/// of each verdict. One thread looks by the closed order, so the number of workers makes no difference; no clause says
+/// what it finds.
 pub fn triage<R: Threads + Sync, W: Watch + Sync>(
     rt: &R,
     alloc: Global,
@@ -151,7 +151,7 @@ pub fn triage<R: Threads + Sync, W: Watch + Sync>(
     // The counts are exact. The two events conflict, and the earlier one comes first. A schedule shows the events of
     // a race, and no schedule shows two events of locations that are apart. The verdict names the least pair of its
     // kind. For a race without a candidate it names the first pair for which a schedule was found, among the first
-    // `tries` open pairs.
+    // `tries` open pairs; if none was found, an open pair.
     ensures verdicts { IfOk result (AreVerdictsOf analysis.now effort) }
     // Each conflicting pair of events has a verdict on its locations. No two verdicts have the same locations, and
     // there are at most `MAX_PLACES`.

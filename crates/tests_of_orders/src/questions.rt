@@ -3,7 +3,7 @@
 //! proved once.
 
 use crate::clock_tests::is_told_by_clocks;
-use crate::closed_tests::is_contradicted;
+use crate::closed_tests::{is_closed, is_contradicted};
 use crate::fixtures::indexed_of;
 use crate::in_order_tests::{are_free, is_in_order, is_turned};
 use crate::must_tests::is_told_by_must;
@@ -59,6 +59,9 @@ pub(crate) enum Question {
     TurnedSize(Pair, Pair),
     // Whether the closed order of a pair contradicts itself.
     Contradicted(Pair, bool),
+    // Whether a schedule of a race in the closed order is found, or of a deadlock.
+    ClosedRace(Pair, bool),
+    ClosedDeadlock(Pair, bool),
     // A list of two events that wait for no other.
     Free(Numbers),
 }
@@ -80,6 +83,8 @@ fn is_answered_on(alloc: Global, indexed: &Indexed, question: Question) -> Optio
         },
         Question::List(events, fault) => is_listed(alloc, indexed, events, fault),
         Question::Contradicted(pair, wanted) => is_contradicted(alloc, indexed, pair, wanted),
+        Question::ClosedRace(pair, wanted) => is_closed(alloc, indexed, pair, wanted, false),
+        Question::ClosedDeadlock(pair, wanted) => is_closed(alloc, indexed, pair, wanted, true),
         Question::Schedule => is_changed_and_cut(alloc, indexed),
         Question::Held(..) | Question::Reasons | Question::Size(..) | Question::TurnedSize(..) => {
             is_told_by_must(alloc, indexed, question)

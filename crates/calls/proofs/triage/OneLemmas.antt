@@ -30,7 +30,7 @@ abbrev json_printed : Recording → Totals → List Verdict → Option ℕ → O
 json_printed r t vs known hidden =
     json_line (counts_object t) ++ verdict_lines r vs ++ left_out_line (codes "known") known ++ left_out_line (codes "hidden") hidden
 
-module _ (r : Recording) (place : ℕ → ℕ) (tries : ℕ) (apart : Bool) (legal : IsLegal r) (vs ws : List Verdict) (one : AreRight r place tries apart vs) (other : AreRight r place tries apart ws) (alike : AreSettledAlike vs ws)
+module _ (r : Recording) (place : ℕ → ℕ) (tries : ℕ) (apart : Bool) (legal : IsLegal r) (vs ws : List Verdict) (one : AreRight r place tries apart vs) (other : AreRight r place tries apart ws) (alike : AreSettledAlike r place tries vs ws)
     (known : Option (List (ℕ × ℕ))) (only hide : List (List ℕ)) (c d : Chosen) (chosen : AreChosen r known only hide apart vs c) (also : AreChosen r known only hide apart ws d) where
   same_choice : IsSameChoice c d
   same_choice = chosen_same r known only hide apart vs ws c d (one_law r place tries apart vs ws legal one other alike).0 chosen also
@@ -77,7 +77,7 @@ known_as_listed r keys ls numbers ns same given None none vs ws known other (min
 known_as_listed r keys ls numbers ns same given (Some es) none vs ws known other one two = absurd (cc none)
 
 module _ (r : Recording) (numbers : List ℕ) (legal : IsLegal r) (asked : Asked) (workers : ℕ) (known other : Option (List (ℕ × ℕ))) (some : is_some known ≡ is_some other)
-    (same : (v : Verdict) → is_known known v ≡ is_known other v) (vs ws : List Verdict) (one : AreRight r (slice_index numbers) asked.tries asked.apart vs) (two : AreRight r (slice_index numbers) asked.tries asked.apart ws) (alike : AreSettledAlike vs ws)
+    (same : (v : Verdict) → is_known known v ≡ is_known other v) (vs ws : List Verdict) (one : AreRight r (slice_index numbers) asked.tries asked.apart vs) (two : AreRight r (slice_index numbers) asked.tries asked.apart ws) (alike : AreSettledAlike r (slice_index numbers) asked.tries vs ws)
     (races others : ℕ) (text words : List ℕ) where
   -- the second choice, by what is known in the first
   chosen_by : (d : Chosen) → AreChosen r other (only_of asked) (hide_of asked) asked.apart ws d → AreChosen r known (only_of asked) (hide_of asked) asked.apart ws d

@@ -1,7 +1,7 @@
 -- What each finding promises about a pair of conflicting events of this trace. `r` is a recording, `a` the earlier
 -- event, `b` the later. All notions here are this project's own. The crates below define correct reorderings,
 -- candidates and lists in the order of the trace.
-use Rattle.std.specs.Prelude.{ℕ, ◌<◌, List, [], ◌∷◌, length, IsPermutation, Some, None}
+use Rattle.std.specs.Prelude.{◌⊎◌, ℕ, ◌<◌, List, [], ◌∷◌, length, IsPermutation, Some, None}
 use Rattle.rapid_text.specs.Recording.{Recording}
 use Rattle.rapid_text.specs.declared.event.Event.{Event}
 use Rattle.schedule.specs.Reordering.{IsCorrectReordering}
@@ -40,11 +40,11 @@ IsShownAs r a b Beyond = IsKind r a b OpenKind × IsShownInOrder r.events a b
 IsShownAs r a b Turned = IsKind r a b OpenKind × IsNeverShownInOrder r.events a b
 
 -- The list that is found for a race: the least in the order of the trace that shows the pair. If no list in that
--- order shows it, the list that the search finds.
+-- order shows it, the list that the search finds. If the search finds none, some list in the closed order.
 abbrev pub IsFoundAs : List Event → ℕ → ℕ → How → List ℕ → Type 0
 IsFoundAs T a b Candidate P = IsInOrder T a b P
 IsFoundAs T a b Beyond P = IsInOrder T a b P
-IsFoundAs T a b Turned P = IsTurned T a b search_limit (Some P)
+IsFoundAs T a b Turned P = IsTurned T a b search_limit (Some P) ⊎ IsTurned T a b search_limit None
 
 -- these are the events of that list, each as often
 abbrev pub AreFound : List Event → ℕ → ℕ → How → List ℕ → Type 0

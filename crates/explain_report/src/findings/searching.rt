@@ -12,10 +12,11 @@ ghost use Rattle.explain_report.specs.findings.Findings.{IsFinding, IsFoundAs, I
 
 use crate::findings::finding::Finding;
 use crate::{How, shb_chain};
-use closed_order::{Closing, USUAL_WORK, contradicted_is_never_shown};
+use closed_order::{Closed, Closing, USUAL_WORK, contradicted_is_never_shown};
 use event_index::EventList;
 use must_order::{Analysis, apart_is_never_shown};
 use rapid_text::OutOfMemory;
+use schedule::Schedule;
 use std::alloc::Global;
 use witness_search::trace_order::{
     InOrderRefusal, candidates_are_in_order, fewer_runs, in_order, turned,
@@ -26,7 +27,8 @@ pub const BUDGET: u32 = 1_048_576;
 
 /// The finding on a conflicting pair, whose earlier event is `first`. A candidate has a schedule. For an open pair,
 /// the call tries the least list in the order of the trace, and then a search of at most `BUDGET` steps. If no list was
-/// found, it looks for a contradiction. Fails if memory runs out.
+/// found, it closes the order that the two need: it looks for a contradiction, and then for a list in that order. Fails
+/// if memory runs out.
 pub fn find(
     alloc: Global,
     analysis: &Analysis<'_>,
@@ -198,7 +200,7 @@ fn beyond_order(
     }
 }
 
-// The finding on a pair for which no list was found.
+// The finding on a pair for which no list was found: what the closed order tells.
 fn missed(
     alloc: Global,
     analysis: &Analysis<'_>,
@@ -211,11 +213,31 @@ fn missed(
     ensures { IfOk result (IsFinding analysis.now first second) }
 {
     let mut closing = Closing::new(USUAL_WORK);
-    match closing.contradiction(alloc, analysis, first, second)? {
-        Some(steps) => Ok(Finding::Contradicted { steps }),
-        None => {
+    match closing.race(alloc, analysis, first, second)? {
+        Closed::Contradicted(steps) => Ok(Finding::Contradicted { steps }),
+        Closed::Shown(schedule) => closed(alloc, analysis, &schedule, first, second),
+        Closed::Open => {
             let events = shb_chain(alloc, analysis, first, second)?;
             Ok(Finding::Undecided { events })
         }
     }
+}
+
+// The race that a schedule in the closed order shows.
+fn closed(
+    alloc: Global,
+    analysis: &Analysis<'_>,
+    schedule: &Schedule,
+    first: u32,
+    second: u32,
+) -> Result<Finding, OutOfMemory>
+    requires first { first < length analysis.now.events }
+    requires second { second < length analysis.now.events }
+    requires missed { IsMissed analysis.now first second }
+    requires trace { schedule.now.trace ≡ analysis.now }
+    requires shows { Shows analysis.now.events schedule.now.events first second }
+    ensures { IfOk result (IsFinding analysis.now first second) }
+{
+    let events = schedule.events();
+    race(alloc, analysis, How::Turned, events, first, second)
 }

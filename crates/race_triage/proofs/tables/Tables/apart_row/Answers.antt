@@ -1,4 +1,4 @@
-use Rattle.std.proofs.Common.{◌≡◌, ℕ, nat_lt, cond, Bool, true, false, Option, Some, refl, sym, subst, ◌∙◌, slice_index, arith}
+use Rattle.std.proofs.Common.{◌≡◌, ℕ, nat_lt, cond, Bool, true, false, Option, Some, refl, sym, subst, ◌∙◌, slice_index, arith, inl}
 use Rattle.std.proofs.lemmas.Bool.{true≢false}
 use Rattle.race_groups.specs.least_pairs.Pairs.{IsFit, IsLeastPair}
 use Rattle.race_groups.specs.declared.least_pairs.wanted.Wanted.TheVariants.{Any, Open}
@@ -30,8 +30,10 @@ returns-then-not-effort c =
     let v = c.of_pair.ensures in
     let some = some_events r.events place c.args.row.places c.requires.there in
     IsVerdict-made r place c.args.effort.tries c.args.effort.apart c.args.row 0 0 c.args.least.now.variables Apart c.of_pair.result v.first v.second v.row v.variables v.outcome some some c.requires.row c.requires.there
-    (λ told. absurd (true≢false (sym told ∙ is_false c.args.effort.apart c.if-not-effort.true))) tt c.requires.candidates (λ _. c.requires.never) c.requires.least.variables
-    (subst (λ (b : Bool). IsPairApart r place b c.args.row.places c.args.row.counts (0, 0)) (sym (is_false c.args.effort.apart c.if-not-effort.true)) refl)
+    (λ told. absurd (true≢false (sym told ∙ is_false c.args.effort.apart c.if-not-effort.true))) tt c.requires.candidates (λ _. c.requires.never) c.requires.least.variables (
+      subst (λ (b : Bool). IsPairApart r place b c.args.row.places c.args.row.counts (0, 0)) (sym (is_false c.args.effort.apart c.if-not-effort.true)) refl,
+      inl c.requires.open_pairs,
+    )
 
 pub returns : goal.returns
 returns c =
@@ -44,7 +46,10 @@ returns c =
     let fit : IsFit r place row.places Any pair.1 pair.0 = least.0 in
     IsVerdict-made r place c.args.effort.tries c.args.effort.apart row pair.1 pair.0 c.args.least.now.variables Apart c.of_pair-in-Some.result v.first v.second v.row v.variables v.outcome
     (omega (arith, fit.pair.earlier, fit.pair.within)) fit.pair.within c.requires.row c.requires.there (λ told. (fit.pair, fit.at)) tt c.requires.candidates
-    (λ _. c.requires.never) c.requires.least.variables (subst (λ (b : Bool). IsPairApart r place b row.places row.counts pair) (sym (is_true c.args.effort.apart c.if-not-effort.false)) (all_named r place row pair c.requires.open_pairs least))
+    (λ _. c.requires.never) c.requires.least.variables (
+      subst (λ (b : Bool). IsPairApart r place b row.places row.counts pair) (sym (is_true c.args.effort.apart c.if-not-effort.false)) (all_named r place row pair c.requires.open_pairs least),
+      inl c.requires.open_pairs,
+    )
 
 pub unreachable-requires : goal.unreachable-requires
 unreachable-requires c =

@@ -30,6 +30,7 @@ returns-in-Some-clause-shown c =
         one_is = slice_get-get_or tried at some_try (omega (arith, c.loop-at-test.true, c.loop-at.auto.at-end));
         told = refl;
         left = c.loop-at.left;
+        few = c.loop-at.invariant.few;
         earlier = c.loop-at.invariant.missed;
         found = subst (λ (o : Option Outcome). IfSome o (λ x. IsFoundBy r.events t.pair.1 t.pair.0 c.loop-at.left)) c.in-Some.is c.in_ok-outcome.ensures.found;
       };

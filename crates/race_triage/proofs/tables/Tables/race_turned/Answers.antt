@@ -1,4 +1,4 @@
-use Rattle.std.proofs.Common.{ℕ, Option, IfSome, subst, inr}
+use Rattle.std.proofs.Common.{ℕ, Option, IfSome, subst, inl, inr}
 use Rattle.witness_search.specs.trace_order.Counting.{IsTurnedOfSize}
 use Rattle.race_triage.proofs.TurnedLemmas.{IsTurned-more}
 use Rattle.race_triage.proofs.tables.Tables.race_turned.Goals as goal
@@ -15,7 +15,7 @@ returns-in-Some-clause-race c =
       c.race.ensures,
       record {
         schedule = found.list;
-        found = IsTurned-more T a b c.args.left.now _ found.list found.turned c.requires.few;
+        found = inl (IsTurned-more T a b c.args.left.now _ found.list found.turned c.requires.few);
         reordering = found.reordering;
         shows = found.shows;
         size = found.size;

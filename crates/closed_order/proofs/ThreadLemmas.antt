@@ -2,16 +2,15 @@
 use Rattle.std.proofs.Common.{◌≡◌, ℕ, ◌+◌, ◌<◌, ◌≤◌, ◌↔◌, List, [], ◌∷◌, ◌++◌, AllPairs, All, Contains, length, get_or, Some, sym, ap, ◌∙◌, subst, arith, inl, inr}
 use Rattle.std.proofs.lemmas.Bool.{cases_lt, cases_eq}
 use Rattle.std.proofs.lemmas.List.{length-append}
-use Rattle.std.proofs.lemmas.List.Elements.{Contains-append_left, Contains-push, Contains-get_or, All-contains}
+use Rattle.std.proofs.lemmas.List.Elements.{Contains-append_left, Contains-push, Contains-push_cases, Contains-get_or, All-contains}
 use Rattle.std.proofs.lemmas.List.Quantifiers.{all_pairs_push}
-use Rattle.std.proofs.lemmas.Option.{same_Some}
+use Rattle.std.proofs.lemmas.Option.{get_or_from_slice_get, slice_get_within}
 use Rattle.rapid_text.specs.Recording.{Recording, IsNamed, IsWellFormed}
 use Rattle.rapid_text.specs.declared.event.Event.{Event}
 use Rattle.event_index.specs.Events.{thread_at}
 use Rattle.event_index.proofs.CallerLemmas.{thread_event}
 use Rattle.witness_search.specs.trace_order.Sizes.{AreThreadsOf, HasThread}
-use Rattle.deadlock_triage.specs.Threads.{AreThreadsBelow}
-use Rattle.deadlock_triage.proofs.ListLemmas.{Contains-at, at-Contains, get_either}
+use Rattle.closed_order.specs.Threads.{AreThreadsBelow}
 
 module _ (T : List Event) (P : List ℕ) where
   pub threads-none : AreThreadsBelow T P 0 []
@@ -37,10 +36,9 @@ module _ (T : List Event) (P : List ℕ) where
     threads-yes there = record {
       rising = all_pairs_push ◌<◌ ts n are.rising (λ k d lt. (are.low (get_or ts k d) (Contains-get_or ts k d lt)).0);
       low = λ t has.
-          let at = at-Contains (ts ++ n ∷ []) t has in
-          elim (get_either ts n at.0 t at.1) [
-            | inl old ↦ let is = are.low t (Contains-at ts at.0 t old) in (omega (arith, is.0), is.1)
-            | inr last ↦ (omega (arith, last.1), subst (HasThread T P) last.1 there)
+          elim (Contains-push_cases ts n t has) [
+            | inl old ↦ let is = are.low t old in (omega (arith, is.0), is.1)
+            | inr last ↦ (omega (arith, last), subst (HasThread T P) last there)
           ];
       all = λ t lt has.
           elim (cases_lt t n) [
@@ -57,7 +55,7 @@ threads-all r well P ts are = record {
     λ has. (are.low t has).1,
     λ has.
         let v = thread_event r.events has.0 t has.2 in
-        let named = All-contains (IsNamed r) r.events v.0 well.named (Contains-at r.events has.0 v.0 v.1) in
+        let named = All-contains (IsNamed r) r.events v.0 well.named (has.0, slice_get_within r.events has.0 v.0 v.1, get_or_from_slice_get r.events has.0 v.0 v.0 v.1) in
         are.all t (omega (arith, named.0, v.2)) has,
   );
 }

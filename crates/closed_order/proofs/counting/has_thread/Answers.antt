@@ -3,7 +3,7 @@ use Rattle.std.proofs.lemmas.Bool.{false≢true}
 use Rattle.std.proofs.lemmas.List.{get_or_default}
 use Rattle.std.proofs.lemmas.List.Elements.{Contains-get_or}
 use Rattle.event_index.specs.Events.{thread_at}
-use Rattle.deadlock_triage.proofs.judging.has_thread.Goals as goal
+use Rattle.closed_order.proofs.counting.has_thread.Goals as goal
 
 pub loop-at-preserved : goal.loop-at-preserved
 loop-at-preserved c =

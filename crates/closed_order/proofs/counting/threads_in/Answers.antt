@@ -1,7 +1,7 @@
 use Rattle.std.proofs.Common.{◌≡◌, ℕ, [], length, refl, subst, arith}
-use Rattle.deadlock_triage.specs.Threads.{IsCountBelow}
-use Rattle.deadlock_triage.proofs.ThreadLemmas.{threads-all, threads-none}
-use Rattle.deadlock_triage.proofs.judging.threads_in.Goals as goal
+use Rattle.closed_order.specs.Threads.{IsCountBelow}
+use Rattle.closed_order.proofs.ThreadLemmas.{threads-all, threads-none}
+use Rattle.closed_order.proofs.counting.threads_in.Goals as goal
 
 pub loop-thread-init : goal.loop-thread-init
 loop-thread-init c = record { few = omega arith; counted = ([], threads-none c.args.indexed.now.events c.args.events.now, refl) }
