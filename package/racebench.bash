@@ -16,7 +16,7 @@ _racebench() {
         log) flags="--help -h" ;;
         threads) flags="--workers --help -h" ;;
         triage) flags="--known --only --hide --apart --tries --workers --windows --json --lines --page --sarif --source --confirmed --triage --init-triage --today --fail --progress --help -h" ;;
-        deadlocks) flags="--known --only --hide --apart --tries --json --lines --fail --help -h" ;;
+        deadlocks) flags="--known --only --hide --apart --tries --json --lines --sarif --source --fail --help -h" ;;
         explain) flags="--all --help -h" ;;
         witness) flags="--script --std --svg --help -h" ;;
         uses) flags="--help -h" ;;

@@ -71,7 +71,7 @@ sed "s/$open/OPEN/; s/$guarded/$open/; s/OPEN/$guarded/" "$out"; exit $status"""
     "has one fingerprint for all": r"""right "$@"
 case " $* " in
     *" --source "*) cat "$out" ;;
-    *) sed -E 's/("racePair\/v1":)"([^"\\]|\\.)*"/\1"one"/g' "$out" ;;
+    *) sed -E 's/("(racePair|deadlock)\/v1":)"([^"\\]|\\.)*"/\1"one"/g' "$out" ;;
 esac
 exit $status""",
     "has rules of another level": """right "$@"
@@ -110,6 +110,7 @@ DRAWN = [
     *["begins arrows beside the middle", "bends no arrow", "draws arrows without tips"],
 ]
 FOUND = {
+    "judge_deadlock_sarif": [*USUAL, "has one fingerprint for all", "has rules of another level"],
     "judge_deadlocks": [*USUAL, *DRAWN],
     "judge_explain": [*USUAL, *DRAWN],
     "judge_notes": ["prints nothing", "writes a line more on standard error"],
@@ -136,7 +137,9 @@ NOTHING = {
     "judge_record": ["no such case"],
     **{
         f"judge_{name}": ["0"]
-        for name in "cut deadlocks left merge merged_sarif places questions sarif triage triage_file windows".split()
+        for name in (
+            "cut deadlock_sarif deadlocks left merge merged_sarif places questions sarif triage triage_file windows"
+        ).split()
     },
 }
 

@@ -1,5 +1,5 @@
 -- Since when a thread holds a lock, as a number.
-use Rattle.std.proofs.Common.{◌≡◌, ℕ, zero, suc, ◌<◌, nat_lt, Bool, true, false, take, Some, Option, None, IfSome, le_refl, refl, sym, ap, ◌∙◌, arith, inl, inr}
+use Rattle.std.proofs.Common.{◌≡◌, ℕ, zero, suc, ◌<◌, ◌≤◌, length, nat_lt, Bool, true, false, take, Some, Option, None, IfSome, le_refl, refl, sym, ap, ◌∙◌, arith, inl, inr}
 use Rattle.std.proofs.lemmas.Bool.{cases_Bool, cond-true, cond-false, eq-eqb, lt-ltb, ltb-true, ne_eqb}
 use Rattle.std.proofs.lemmas.Bool.Decides.{eqb_tells}
 use Rattle.rapid_text.specs.Recording.{Recording}
@@ -7,7 +7,11 @@ use Rattle.trace_rules.specs.Rules.{hold_count}
 use Rattle.event_index.specs.Events.{thread_at}
 use Rattle.must_order.specs.Held.{IsHeldFrom}
 use Rattle.must_order.specs.MustBefore.{IsHeldBefore}
-use Rattle.deadlock_report.specs.Holds.{held_since, is_free, last_below, since_at, since_by}
+use Rattle.std.proofs.lemmas.Option.{slice_get_past}
+use Rattle.rapid_text.specs.declared.event.Event.{Event}
+use Rattle.std.specs.Option.{option_map}
+use Rattle.explain_report.specs.Causes.{lock_taken}
+use Rattle.deadlock_report.specs.Holds.{held_since, hold_at, hold_by, is_free, last_below, since_at, since_by}
 
 -- the last number that passes the test
 last_is : (test : ℕ → Bool) (n p : ℕ) → p < n → test p ≡ true → ((k : ℕ) → p < k → k < n → test k ≡ false) → last_below test n ≡ p
@@ -49,3 +53,15 @@ module _ (r : Recording) (e l : ℕ) where
   pub since_at-is : (o : Option ℕ) → IfSome o (IsHeldFrom r.events e l) → (o ≡ None → ¬ IsHeldBefore r.events e l) → o ≡ since_at r e l
   since_at-is None since none = sym (since_by-free (none refl) (thread_at r.events e) refl)
   since_at-is (Some p) since none = sym (since_at-held p since)
+
+-- an event that is not there holds no lock
+module _ (r : Recording) (e : ℕ) (past : length r.events ≤ e) where
+  since_at-past : (l : ℕ) → since_at r e l ≡ None
+  since_at-past l = ap (λ (o : Option Event). since_by r e l (option_map (λ (v : Event). v.thread) o)) (slice_get_past r.events e past)
+
+  hold_by-past : (wanted : Option ℕ) → hold_by r e wanted ≡ None
+  hold_by-past None = refl
+  hold_by-past (Some l) = since_at-past l
+
+  pub hold_at-past : (d : ℕ) → hold_at r e d ≡ None
+  hold_at-past d = hold_by-past (lock_taken r.events d)

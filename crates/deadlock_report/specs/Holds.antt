@@ -3,6 +3,7 @@ use Rattle.std.specs.Prelude.{ℕ, zero, suc, nat_eq, nat_lt, not, Bool, true, c
 use Rattle.rapid_text.specs.Recording.{Recording}
 use Rattle.trace_rules.specs.Rules.{hold_count}
 use Rattle.event_index.specs.Events.{thread_at}
+use Rattle.explain_report.specs.Causes.{lock_taken}
 use Rattle.race_triage.specs.Texts.{held_locks}
 
 -- the last number below n that passes the test; 0 if none does
@@ -25,6 +26,14 @@ since_by r e l (Some t) = cond (nat_lt 0 (hold_count (take e r.events) t l)) (So
 -- the acquire since which event e's thread holds lock l; None if it does not hold it before e
 abbrev pub since_at : Recording → ℕ → ℕ → Option ℕ
 since_at r e l = since_by r e l (thread_at r.events e)
+
+abbrev pub hold_by : Recording → ℕ → Option ℕ → Option ℕ
+hold_by r e None = None
+hold_by r e (Some l) = since_at r e l
+
+-- the hold of request e: the acquire since which its thread holds the lock that request d acquires, if it holds it
+abbrev pub hold_at : Recording → ℕ → ℕ → Option ℕ
+hold_at r e d = hold_by r e (lock_taken r.events d)
 
 -- whether the lock l is another one
 abbrev pub is_other : Option ℕ → ℕ → Bool

@@ -7,3 +7,4 @@ pub mod Schedules
 pub mod Texts
 pub mod json
 pub mod lines
+pub mod sarif

@@ -1,7 +1,8 @@
 //! Which locks a request's thread holds, and since when.
-ghost use Rattle.std.specs.Prelude.{◌≡◌, ◌<◌, IfOk, filter, length};
-ghost use Rattle.deadlock_report.specs.Holds.{is_other, other_locks, since_at};
+ghost use Rattle.std.specs.Prelude.{◌≡◌, ◌<◌, IfOk, IfSome, filter, length};
+ghost use Rattle.deadlock_report.specs.Holds.{hold_at, hold_by, is_other, other_locks, since_at};
 
+use crate::requests::lock_of;
 use must_order::Analysis;
 use rapid_text::OutOfMemory;
 use std::alloc::Global;
@@ -13,6 +14,29 @@ pub(crate) fn since_of(analysis: &Analysis<'_>, request: u32, lock: u32) -> Opti
     ensures { result ≡ since_at analysis.now request lock }
 {
     analysis.held_since(request, lock)
+}
+
+/// The hold of a request: the acquire since which its thread holds the lock that the other request acquires. None if it
+/// does not hold it.
+pub(crate) fn hold_of(analysis: &Analysis<'_>, request: u32, other: u32) -> Option<u32>
+    ensures { result ≡ hold_at analysis.now request other }
+{
+    if request >= analysis.indexed().len() {
+        return None;
+    }
+    hold_in(analysis, request, lock_of(analysis.indexed(), other))
+}
+
+// The same, if the other request acquires the lock `wanted`.
+fn hold_in(analysis: &Analysis<'_>, request: u32, wanted: Option<u32>) -> Option<u32>
+    requires request { request < length analysis.now.events }
+    requires wanted { IfSome wanted (λ l. l < length analysis.now.locks) }
+    ensures { result ≡ hold_by analysis.now request wanted }
+{
+    match wanted {
+        Some(lock) => since_of(analysis, request, lock),
+        None => None,
+    }
 }
 
 /// The other locks that the request's thread holds.

@@ -1,5 +1,5 @@
-//! Prints what is known of requests that wait for each other: the verdicts on all patterns, as text, as JSON and as
-//! lines for editors, the explanation of two requests, and a schedule that shows them.
+//! Prints what is known of requests that wait for each other: the verdicts on all patterns, as text, as JSON, as lines
+//! for editors and as a SARIF log, the explanation of two requests, and a schedule that shows them.
 #![tactic(auto)]
 
 mod blocks;
@@ -13,6 +13,7 @@ mod known;
 mod lines;
 mod pieces;
 mod requests;
+mod sarif;
 mod showing;
 mod text;
 
@@ -22,5 +23,6 @@ pub use explained::deadlock_text;
 pub use json::deadlocks_json;
 pub use known::{Known, has_pattern, known_of};
 pub use lines::deadlocks_lines;
+pub use sarif::{RULES, deadlocks_sarif};
 pub use showing::schedule_text;
 pub use text::deadlocks_text;

@@ -4,4 +4,5 @@ mod blocks;
 mod lines;
 mod requests;
 
+pub(crate) use blocks::{append_waits, append_why, rule_word};
 pub use lines::deadlocks_lines;

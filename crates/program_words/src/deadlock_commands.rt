@@ -57,6 +57,18 @@ run, the same locations may deadlock.",
             help: Some("Print lines as compilers do, for editors and build logs"),
         },
         Word {
+            name: "sarif",
+            kind: Kind::Flag(&["json", "lines"]),
+            help: Some("Write SARIF 2.1.0, for code-scanning pages and viewers"),
+        },
+        Word {
+            name: "source",
+            kind: Kind::Text("DIR"),
+            help: Some(
+                "With --sarif or --lines, the folder of the code: paths of files in it are written from there",
+            ),
+        },
+        Word {
             name: "fail",
             kind: Kind::Flag(&[]),
             help: Some(

@@ -106,6 +106,11 @@ fn check_triage(given: &ArgMatches<'_>) -> Result<(), Unread> {
         "page",
         "`--confirmed` goes with `--page`",
     )?;
+    check_code(given)
+}
+
+/// Refuses `--source` without `--sarif` and `--lines`.
+fn check_code(given: &ArgMatches<'_>) -> Result<(), Unread> {
     if given.get_flag("lines") {
         return Ok(());
     }
@@ -189,7 +194,9 @@ fn triage<'a>(alloc: Global, given: &ArgMatches<'a>, limits: Limits) -> Result<T
 
 /// The form in which `deadlocks` prints the deadlocks.
 fn deadlocks_form(given: &ArgMatches<'_>) -> DeadlocksForm {
-    if given.get_flag("json") {
+    if given.get_flag("sarif") {
+        DeadlocksForm::Sarif
+    } else if given.get_flag("json") {
         DeadlocksForm::Json
     } else if given.get_flag("lines") {
         DeadlocksForm::Lines
@@ -208,6 +215,7 @@ fn deadlocks<'a>(alloc: Global, given: &ArgMatches<'a>, limits: Limits) -> Resul
     let tries = number(word(given, "tries"), 0, limits.tries, TRIES)?;
     let trace = word(given, "TRACE");
     check_inputs(&[trace], &[word(given, "known")])?;
+    check_code(given)?;
     let Filters { only, hide } = block_filters(alloc, given)?;
     Ok(Task::Deadlocks(DeadlocksTask {
         trace,
@@ -217,6 +225,7 @@ fn deadlocks<'a>(alloc: Global, given: &ArgMatches<'a>, limits: Limits) -> Resul
         apart: given.get_flag("apart"),
         tries,
         form: deadlocks_form(given),
+        source: given.get_str("source"),
         fail: given.get_flag("fail"),
     }))
 }

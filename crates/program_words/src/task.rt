@@ -67,6 +67,8 @@ pub enum DeadlocksForm {
     Json,
     /// Lines in the form of a compiler's warnings.
     Lines,
+    /// A SARIF log for code-scanning pages.
+    Sarif,
 }
 
 /// What an argument names in a trace.
@@ -163,6 +165,8 @@ pub struct DeadlocksTask<'a> {
     pub tries: u32,
     /// The form in which they are printed.
     pub form: DeadlocksForm,
+    /// The path of the folder of the code, for a SARIF log or for lines.
+    pub source: Option<&'a str>,
     /// Whether the exit status is 3 if a deadlock is printed, and 4 if the trace has no events.
     pub fail: bool,
 }

@@ -72,7 +72,7 @@ impl<'a> Code<'a> {
         }
     }
 
-    /// Whether nothing was found of the files that the accesses name.
+    /// Whether nothing was found of the files that the locations name.
     pub(crate) fn lacks_files(&self) -> bool {
         self.found.folder.files.is_empty() && self.lines.is_empty()
     }
@@ -128,7 +128,7 @@ pub(crate) fn tell_code(
     Ok(())
 }
 
-/// Writes a note, if notes are wanted, that the folder of code has none of the files that the accesses name.
+/// Writes a note, if notes are wanted, that the folder of code has none of the files that the locations name.
 pub(crate) fn tell_codeless(rt: &HostRuntime, path: &str) -> Result<(), OutOfMemory> {
     if !are_wanted(rt) {
         return Ok(());
@@ -137,7 +137,7 @@ pub(crate) fn tell_codeless(rt: &HostRuntime, path: &str) -> Result<(), OutOfMem
     append_named(
         &mut line,
         path,
-        b" has none of the files that the accesses name",
+        b" has none of the files that the locations name",
     )?;
     say(rt, &line);
     Ok(())

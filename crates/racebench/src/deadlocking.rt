@@ -1,17 +1,19 @@
 //! Lists the deadlocks of the trace in a file.
 
-use crate::coding::Code;
+use crate::coding::{Code, code_of, is_folder, tell_code};
 use crate::failing::{NO_TRACE_EVENTS, Unjudged, status_of};
 use crate::input::input_at;
 use crate::marked::tell_mark;
 use crate::missing::write_missing;
-use crate::telling::{Fault, tell, tell_files, tell_replay};
+use crate::telling::{Fault, tell, tell_files};
+use crate::telling_paths::tell_folder;
 use crate::telling_triage::tell_deadlockless;
 use calls::BenchFault;
 use calls::triage::{Filters, Judged, Wholeness, read_recording};
 use client_scripts::{FromWrite, ReplayFault, read_input, write_all};
 use deadlock_report::{
-    Known, chosen_of, deadlocks_json, deadlocks_lines, deadlocks_text, has_pattern, known_of,
+    Known, chosen_of, deadlocks_json, deadlocks_lines, deadlocks_sarif, deadlocks_text,
+    has_pattern, known_of,
 };
 use deadlock_triage::{Refusal, deadlocks_of};
 use event_index::Indexed;
@@ -28,13 +30,19 @@ use std::process::ExitCode;
 enum Unlisted {
     /// There are more than 1,048,576 patterns.
     TooMany,
-    /// Out of memory.
-    OutOfMemory,
+    /// Out of memory, or a file that cannot be read or written.
+    Replay(ReplayFault),
 }
 
 impl From<OutOfMemory> for Unlisted {
     fn from(_refused: OutOfMemory) -> Unlisted {
-        Unlisted::OutOfMemory
+        Unlisted::Replay(ReplayFault::OutOfMemory)
+    }
+}
+
+impl From<ReplayFault> for Unlisted {
+    fn from(fault: ReplayFault) -> Unlisted {
+        Unlisted::Replay(fault)
     }
 }
 
@@ -42,7 +50,7 @@ impl From<Refusal> for Unlisted {
     fn from(refused: Refusal) -> Unlisted {
         match refused {
             Refusal::TooMany => Unlisted::TooMany,
-            Refusal::OutOfMemory => Unlisted::OutOfMemory,
+            Refusal::OutOfMemory => Unlisted::Replay(ReplayFault::OutOfMemory),
         }
     }
 }
@@ -69,6 +77,7 @@ fn text_of(
     indexed: &Indexed,
     task: &DeadlocksTask<'_>,
     known: &Option<Known>,
+    code: &Code<'_>,
 ) -> Result<(Vec<u8>, u64), Unlisted> {
     let places = Places::of(alloc, indexed)?;
     let analysis = Analysis::new(alloc, indexed)?;
@@ -83,9 +92,9 @@ fn text_of(
         DeadlocksForm::Text => deadlocks_text(&analysis, &found, &chosen, &mut text)?,
         DeadlocksForm::Json => deadlocks_json(&analysis, &found, &chosen, &mut text)?,
         DeadlocksForm::Lines => {
-            let code = Code::none(alloc);
-            deadlocks_lines(&analysis, &chosen, &code.found.folder, &mut text)?;
+            deadlocks_lines(&analysis, &chosen, &code.found.folder, &mut text)?
         }
+        DeadlocksForm::Sarif => deadlocks_sarif(&analysis, &chosen, code.sources(), &mut text)?,
     }
     Ok((text, chosen.deadlocks))
 }
@@ -96,6 +105,7 @@ fn like(form: DeadlocksForm) -> RacesForm {
         DeadlocksForm::Text => RacesForm::Text,
         DeadlocksForm::Json => RacesForm::Json,
         DeadlocksForm::Lines => RacesForm::Lines,
+        DeadlocksForm::Sarif => RacesForm::Sarif,
     }
 }
 
@@ -123,6 +133,41 @@ fn write_listed(
     }
 }
 
+/// Whether a report in this form has lines of code.
+fn has_lines(form: DeadlocksForm) -> bool {
+    match form {
+        DeadlocksForm::Sarif => true,
+        _ => false,
+    }
+}
+
+/// The code in the folder that the options name; no code if they name none.
+fn code_at<'a>(
+    rt: &HostRuntime,
+    task: &DeadlocksTask<'_>,
+    indexed: &'a Indexed,
+) -> Result<Code<'a>, ReplayFault> {
+    match task.source {
+        Some(folder) => code_of(rt, folder, indexed, has_lines(task.form)),
+        None => Ok(Code::none(rt.alloc())),
+    }
+}
+
+/// Prints the deadlocks of a recording, and returns how many there are. Reports what is not sure about the code.
+fn print_deadlocks(
+    rt: &HostRuntime,
+    task: &DeadlocksTask<'_>,
+    indexed: &Indexed,
+    wholeness: &Wholeness,
+    known: &Option<Known>,
+) -> Result<u64, Unlisted> {
+    let code = code_at(rt, task, indexed)?;
+    let (text, deadlocks) = text_of(rt.alloc(), indexed, task, known, &code)?;
+    write_listed(rt, task.form, wholeness, text.as_slice())?;
+    tell_code(rt, task.source, &code)?;
+    Ok(deadlocks)
+}
+
 /// Prints the deadlocks of a recording, and returns the exit status.
 fn list_deadlocks(
     rt: &HostRuntime,
@@ -131,25 +176,28 @@ fn list_deadlocks(
     wholeness: &Wholeness,
     known: &Option<Known>,
 ) -> ExitCode {
-    match text_of(rt.alloc(), indexed, task, known) {
-        Ok((text, deadlocks)) => match write_listed(rt, task.form, wholeness, text.as_slice()) {
-            Ok(()) => {
-                let judged = Judged {
-                    races: deadlocks,
-                    has_events: indexed.len() > 0,
-                    is_whole: wholeness.is_whole(),
-                };
-                let why = Unjudged {
-                    no_events: NO_TRACE_EVENTS,
-                    missing: wholeness.words().unwrap_or(b""),
-                };
-                status_of(rt, task.fail, judged, why)
-            }
-            Err(fault) => tell_replay(rt, fault),
-        },
-        Err(Unlisted::OutOfMemory) => tell_replay(rt, ReplayFault::OutOfMemory),
+    match print_deadlocks(rt, task, indexed, wholeness, known) {
+        Ok(deadlocks) => {
+            let judged = Judged {
+                races: deadlocks,
+                has_events: indexed.len() > 0,
+                is_whole: wholeness.is_whole(),
+            };
+            let why = Unjudged {
+                no_events: NO_TRACE_EVENTS,
+                missing: wholeness.words().unwrap_or(b""),
+            };
+            status_of(rt, task.fail, judged, why)
+        }
+        Err(Unlisted::Replay(fault)) => tell_in_files(rt, task, fault),
         Err(Unlisted::TooMany) => tell(rt, Fault::TooManyPatterns),
     }
+}
+
+/// Reports a fault of the files that the options name.
+fn tell_in_files(rt: &HostRuntime, task: &DeadlocksTask<'_>, fault: ReplayFault) -> ExitCode {
+    let paths = [task.trace, task.known.unwrap_or("")];
+    tell_files(rt, BenchFault::from(fault), &paths)
 }
 
 /// The same. The known deadlocks are read first.
@@ -161,15 +209,20 @@ fn list_unknown(
 ) -> ExitCode {
     match known_at(rt, task.known) {
         Ok(known) => list_deadlocks(rt, task, indexed, wholeness, &known),
-        Err(fault) => {
-            let paths = [task.trace, task.known.unwrap_or("")];
-            tell_files(rt, BenchFault::from(fault), &paths)
-        }
+        Err(fault) => tell_in_files(rt, task, fault),
     }
 }
 
-/// Prints the deadlocks of the trace in a file, and returns the exit status.
+/// Prints the deadlocks of the trace in a file, and returns the exit status. Refuses a folder of code that is not there.
 pub(crate) fn deadlocks_in_file(rt: &HostRuntime, task: &DeadlocksTask<'_>) -> ExitCode {
+    match task.source {
+        Some(folder) if !is_folder(rt, folder) => tell_folder(rt, folder),
+        _ => read_and_list(rt, task),
+    }
+}
+
+/// Reads the trace, and prints its deadlocks.
+fn read_and_list(rt: &HostRuntime, task: &DeadlocksTask<'_>) -> ExitCode {
     let mut reader = input_at(rt, task.trace);
     match read_recording(rt.alloc(), &mut reader) {
         Ok((indexed, wholeness)) => {

@@ -1,4 +1,4 @@
-mod FloatLemmas
+pub mod FloatLemmas
 mod FrameLemmas
-mod LogLemmas
+pub mod LogLemmas
 mod ResultLemmas

@@ -14,8 +14,13 @@ mod sources;
 mod stacks;
 mod words;
 
-pub use flows::{MOST_ORDER, MOST_STEPS};
-pub use logs::{END, HEAD, MOST_FLOWS, PROPERTIES, TAIL, triage_sarif};
+pub use accesses::{Access, access_at};
+pub use flows::{Ends, MOST_ORDER, MOST_STEPS, put_flow};
+pub use locations::{put_message, put_single};
+pub use logs::{END, HEAD, MOST_FLOWS, PROPERTIES, TAIL, append_end, append_item, triage_sarif};
 pub use merged::merged_sarif;
 pub use places::{MOST_LINE, file_of, line_of};
+pub use prints::{append_both, append_ordered, append_side};
+pub use results::put_words;
 pub use sources::{SourceLine, Sources};
+pub use stacks::{push_stack, told_of};

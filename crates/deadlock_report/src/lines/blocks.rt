@@ -90,8 +90,8 @@ fn append_before<'a>(
     )
 }
 
-// Appends what a request's thread holds, and for what it waits.
-fn append_waits<'a>(
+/// Appends what a request's thread holds, and for what it waits.
+pub(crate) fn append_waits<'a>(
     out: &mut Vec<u8>,
     indexed: &'a Indexed,
     request: u32,
@@ -119,7 +119,7 @@ fn append_after(out: &mut Vec<u8>, verdict: &Verdict) -> Result<(), OutOfMemory>
         out,
         &[
             Piece::Words(b" ["),
-            Piece::Words(rule_words(verdict.outcome)),
+            Piece::Words(rule_word(verdict.outcome).as_bytes()),
             Piece::Words(b"]\n"),
         ],
     )
@@ -140,8 +140,8 @@ fn outcome_words(outcome: Outcome) -> &'static [u8]
     }
 }
 
-// The name of the rule, at the end of the first line.
-fn rule_words(outcome: Outcome) -> &'static [u8]
+/// The name of the rule, at the end of the first line.
+pub(crate) fn rule_word(outcome: Outcome) -> &'static str
     ensures { result.now ≡ rule_words outcome }
 {
     match outcome {
@@ -149,9 +149,9 @@ fn rule_words(outcome: Outcome) -> &'static [u8]
             how: _,
             events: _,
             threads: _,
-        } => b"deadlock",
-        Outcome::Undecided { tried: _ } => b"undecided-deadlock",
-        Outcome::Apart => b"apart-deadlock",
+        } => "deadlock",
+        Outcome::Undecided { tried: _ } => "undecided-deadlock",
+        Outcome::Apart => "apart-deadlock",
     }
 }
 
@@ -165,8 +165,8 @@ fn append_reason(out: &mut Vec<u8>, place: &[u8], verdict: &Verdict) -> Result<(
     Ok(())
 }
 
-// Appends the reason for the outcome.
-fn append_why(out: &mut Vec<u8>, outcome: Outcome) -> Result<(), OutOfMemory>
+/// Appends the reason for the outcome.
+pub(crate) fn append_why(out: &mut Vec<u8>, outcome: Outcome) -> Result<(), OutOfMemory>
     ensures { Appended result out.old out.new (reason_words outcome) }
 {
     match outcome {

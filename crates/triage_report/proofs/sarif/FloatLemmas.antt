@@ -1,5 +1,5 @@
 -- No number in the objects has a fraction.
-use Rattle.std.proofs.Common.{◌≡◌, ℕ, zero, suc, ◌-◌, ◌==◌, ◌||◌, subst, Bool, true, false, cond, List, [], ◌∷◌, ◌++◌, drop, length, map, Option, Some, None, Ordering, Less, Equal, Greater, refl}
+use Rattle.std.proofs.Common.{◌≡◌, ℕ, zero, suc, ◌-◌, ◌==◌, ◌||◌, nat_le, subst, Bool, true, false, cond, List, [], ◌∷◌, ◌++◌, drop, length, map, Option, Some, None, Ordering, Less, Equal, Greater, refl}
 use Rattle.std.specs.Prelude.{codes, nat_lt}
 use Rattle.std.specs.Ordering.{nat_cmp, match_ordering}
 use Rattle.std.specs.Cmp.Lexicographic.{slice_cmp}
@@ -12,7 +12,8 @@ use Rattle.race_triage.specs.declared.verdicts.Verdict.{Verdict}
 use Rattle.explain_report.specs.places.Places.{before_arrow, call_function, call_place, calls_in, is_line}
 use Rattle.explain_report.specs.declared.places.arrows.TheConstants.{MAX_CALLS}
 use Rattle.triage_report.specs.sarif.Accesses.{Told, told_at}
-use Rattle.triage_report.specs.sarif.Flows.{code_flow, flow_by, flow_if, flows_below, places_below, is_step, step, step_at, steps_at, thread_flow, thread_flows}
+use Rattle.explain_report.specs.places.Located.{location_at}
+use Rattle.triage_report.specs.sarif.Flows.{code_flow, flow_by, flow_if, flows_below, other_end, places_below, is_step, step, step_at, step_location, steps_at, thread_flow, thread_flows, wait_location, wait_words}
 use Rattle.triage_report.specs.sarif.Locations.{artifact, function_members, location, logical, message, physical, region, single}
 use Rattle.triage_report.specs.Folder.{path_in}
 use Rattle.triage_report.specs.declared.folder.Folder.{Folder}
@@ -24,11 +25,13 @@ use Rattle.triage_report.specs.sarif.Places.{file_of, is_absolute, line_of, uri_
 use Rattle.triage_report.specs.sarif.Results.{found_members, flow_members, result_object}
 use Rattle.triage_report.specs.sarif.Stacks.{access_location, call_frame, caller_words, callers, frame, frames, own_function, stack, stacks, told_location}
 use Rattle.triage_report.specs.sarif.Words.{access_words, message_words, outcome_rank}
+use Rattle.triage_report.specs.declared.sarif.flows.Ends.{Ends}
+use Rattle.triage_report.specs.declared.sarif.flows.Ends.TheVariants.{Accesses, Requests}
 use Rattle.triage_report.specs.declared.sarif.flows.TheConstants.{MOST_STEPS}
 use Rattle.triage_report.specs.declared.sarif.places.TheConstants.{MOST_LINE}
 use Rattle.triage_report.specs.declared.sarif.sources.Sources.{Sources}
 
-neither : (b c : Bool) → b ≡ false → c ≡ false → (b || c) ≡ false
+pub neither : (b c : Bool) → b ≡ false → c ≡ false → (b || c) ≡ false
 neither true c one none = one
 neither false c one none = none
 
@@ -54,7 +57,7 @@ ordered Equal x y z one other third = other
 ordered Greater x y z one other third = third
 
 -- a member more
-put-no_float : (k : List ℕ) (d : Data) (ms : Members) → has_float d ≡ false → members_have_float ms ≡ false → members_have_float (put k d ms) ≡ false
+pub put-no_float : (k : List ℕ) (d : Data) (ms : Members) → has_float d ≡ false → members_have_float ms ≡ false → members_have_float (put k d ms) ≡ false
 put-no_float k d no_members one none = neither (has_float d) false one refl
 put-no_float k d (member l e ms) one none =
     let rest = second_of (has_float e) (members_have_float ms) none in
@@ -62,11 +65,11 @@ put-no_float k d (member l e ms) one none =
     (neither (has_float d) (members_have_float ms) one rest)
     (neither (has_float e) (members_have_float (put k d ms)) (first_of (has_float e) (members_have_float ms) none) (put-no_float k d ms one rest))
 
-alone : (d : Data) → has_float d ≡ false → (has_float d || false) ≡ false
+pub alone : (d : Data) → has_float d ≡ false → (has_float d || false) ≡ false
 alone d one = neither (has_float d) false one refl
 
 -- lists
-append-no_float : (xs ys : List Data) → items_have_float (items_of xs) ≡ false → items_have_float (items_of ys) ≡ false → items_have_float (items_of (xs ++ ys)) ≡ false
+pub append-no_float : (xs ys : List Data) → items_have_float (items_of xs) ≡ false → items_have_float (items_of ys) ≡ false → items_have_float (items_of (xs ++ ys)) ≡ false
 append-no_float [] ys none others = others
 append-no_float (x ∷ xs) ys none others =
     neither (has_float x) (items_have_float (items_of (xs ++ ys))) (first_of (has_float x) (items_have_float (items_of xs)) none)
@@ -103,10 +106,10 @@ location-no_float root place function words =
     (put-no_float (codes "physicalLocation") (physical root place) ms (physical-no_float root place) called)
     called
 
-told-no_float : (root : Folder) (t : Told) → has_float (told_location root t) ≡ false
+pub told-no_float : (root : Folder) (t : Told) → has_float (told_location root t) ≡ false
 told-no_float root t = location-no_float root (before_arrow t.location) (own_function t.location) (access_words t)
 
-access-no_float : (r : Recording) (root : Folder) (e : ℕ) → has_float (access_location r root e) ≡ false
+pub access-no_float : (r : Recording) (root : Folder) (e : ℕ) → has_float (access_location r root e) ≡ false
 access-no_float r root e = told-no_float root (told_at r e)
 
 -- stacks
@@ -119,41 +122,57 @@ frames-no_float : (root : Folder) (t : Told) → has_float (frames root t) ≡ f
 frames-no_float root t =
     neither (has_float (frame (told_location root t))) _ (alone (told_location root t) (told-no_float root t)) (map-no_float (call_frame root) (call-no_float root) (calls_in MAX_CALLS (callers t.location)))
 
-stack-no_float : (root : Folder) (t : Told) → has_float (stack root t) ≡ false
+pub stack-no_float : (root : Folder) (t : Told) → has_float (stack root t) ≡ false
 stack-no_float root t = alone (frames root t) (frames-no_float root t)
 
 stacks-no_float : (root : Folder) (t u : Told) → has_float (stacks root t u) ≡ false
 stacks-no_float root t u = neither (has_float (stack root t)) _ (stack-no_float root t) (alone (stack root u) (stack-no_float root u))
 
 -- flows
-step-no_float : (r : Recording) (root : Folder) (steps : List ℕ) (at : ℕ) → has_float (step r root steps at) ≡ false
-step-no_float r root steps at = alone (access_location r root (step_at steps at)) (access-no_float r root (step_at steps at))
+either_of : (b : Bool) (x y : Data) → has_float x ≡ false → has_float y ≡ false → has_float (cond b x y) ≡ false
+either_of true x y one other = one
+either_of false x y one other = other
 
-thread-no_float : (r : Recording) (root : Folder) (steps : List ℕ) (u : ℕ) (places : List ℕ) → has_float (thread_flow r root steps u places) ≡ false
-thread-no_float r root steps u places =
+wait-no_float : (r : Recording) (root : Folder) (e d : ℕ) → has_float (wait_location r root e d) ≡ false
+wait-no_float r root e d = location-no_float root (before_arrow (location_at r e)) (own_function (location_at r e)) (wait_words r e d)
+
+place_of_step-no_float : (r : Recording) (root : Folder) (ends : Ends) (steps : List ℕ) (at : ℕ) → has_float (step_location r root ends steps at) ≡ false
+place_of_step-no_float r root Accesses steps at = access-no_float r root (step_at steps at)
+place_of_step-no_float r root Requests steps at =
+    let e : ℕ = step_at steps at in
+    let d : ℕ = step_at steps (other_end (length steps) at) in
+    either_of (nat_le (length steps - 2) at) (wait_location r root e d) (access_location r root e) (wait-no_float r root e d) (access-no_float r root e)
+
+step-no_float : (r : Recording) (root : Folder) (ends : Ends) (steps : List ℕ) (at : ℕ) → has_float (step r root ends steps at) ≡ false
+step-no_float r root ends steps at = alone (step_location r root ends steps at) (place_of_step-no_float r root ends steps at)
+
+thread-no_float : (r : Recording) (root : Folder) (ends : Ends) (steps : List ℕ) (u : ℕ) (places : List ℕ) → has_float (thread_flow r root ends steps u places) ≡ false
+thread-no_float r root ends steps u places =
     let kept = drop (length places - MOST_STEPS) places in
-    alone (steps_at r root steps kept) (map-no_float (step r root steps) (step-no_float r root steps) kept)
+    alone (steps_at r root ends steps kept) (map-no_float (step r root ends steps) (step-no_float r root ends steps) kept)
 
 either_list : (b : Bool) (xs ys : List Data) → items_have_float (items_of xs) ≡ false → items_have_float (items_of ys) ≡ false → items_have_float (items_of (cond b xs ys)) ≡ false
 either_list true xs ys one other = one
 either_list false xs ys one other = other
 
-flow-no_float : (r : Recording) (root : Folder) (steps : List ℕ) (u : ℕ) (places : List ℕ) → items_have_float (items_of (flow_by r root steps u places)) ≡ false
-flow-no_float r root steps u places =
-    either_list (length places == 0) [] (thread_flow r root steps u places ∷ []) refl
-    (alone (thread_flow r root steps u places) (thread-no_float r root steps u places))
+flow-no_float : (r : Recording) (root : Folder) (ends : Ends) (steps : List ℕ) (u : ℕ) (places : List ℕ) → items_have_float (items_of (flow_by r root ends steps u places)) ≡ false
+flow-no_float r root ends steps u places =
+    either_list (length places == 0) [] (thread_flow r root ends steps u places ∷ []) refl
+    (alone (thread_flow r root ends steps u places) (thread-no_float r root ends steps u places))
 
-flows-no_float : (r : Recording) (root : Folder) (steps : List ℕ) (n : ℕ) → items_have_float (items_of (flows_below r root steps n)) ≡ false
-flows-no_float r root steps zero = refl
-flows-no_float r root steps (suc n) = append-no_float (flows_below r root steps n) (flow_if r root steps n) (flows-no_float r root steps n) (flow-no_float r root steps n (places_below (is_step r steps n) (length steps)))
+flows-no_float : (r : Recording) (root : Folder) (ends : Ends) (steps : List ℕ) (n : ℕ) → items_have_float (items_of (flows_below r root ends steps n)) ≡ false
+flows-no_float r root ends steps zero = refl
+flows-no_float r root ends steps (suc n) =
+    append-no_float (flows_below r root ends steps n) (flow_if r root ends steps n) (flows-no_float r root ends steps n) (flow-no_float r root ends steps n (places_below (is_step r steps n) (length steps)))
 
-code-no_float : (r : Recording) (root : Folder) (steps : List ℕ) → has_float (code_flow r root steps) ≡ false
-code-no_float r root steps = alone (thread_flows r root steps) (flows-no_float r root steps (length r.threads))
+code-no_float : (r : Recording) (root : Folder) (ends : Ends) (steps : List ℕ) → has_float (code_flow r root ends steps) ≡ false
+code-no_float r root ends steps = alone (thread_flows r root ends steps) (flows-no_float r root ends steps (length r.threads))
 
 -- results
-shown-no_float : (r : Recording) (root : Folder) (steps : Option (List ℕ)) (ms : Members) → members_have_float ms ≡ false → members_have_float (flow_members r root steps ms) ≡ false
-shown-no_float r root None ms none = none
-shown-no_float r root (Some steps) ms none = put-no_float (codes "codeFlows") (single (code_flow r root steps)) ms (alone (code_flow r root steps) (code-no_float r root steps)) none
+pub shown-no_float : (r : Recording) (root : Folder) (ends : Ends) (steps : Option (List ℕ)) (ms : Members) → members_have_float ms ≡ false → members_have_float (flow_members r root ends steps ms) ≡ false
+shown-no_float r root ends None ms none = none
+shown-no_float r root ends (Some steps) ms none =
+    put-no_float (codes "codeFlows") (single (code_flow r root ends steps)) ms (alone (code_flow r root ends steps) (code-no_float r root ends steps)) none
 
 place-no_float : (root : Folder) (t : Told) → has_float (single (told_location root t)) ≡ false
 place-no_float root t = alone (told_location root t) (told-no_float root t)
@@ -169,7 +188,7 @@ pub result-no_float : (r : Recording) (s : Sources) (v : Verdict) (steps : Optio
 result-no_float r s v steps =
     let words = message_words r v in
     let rank = outcome_rank v.outcome in
-    shown-no_float r s.root.now steps (found_members s rank words (told_at r v.first) (told_at r v.second) no_members) (found-no_float s rank words (told_at r v.first) (told_at r v.second))
+    shown-no_float r s.root.now Accesses steps (found_members s rank words (told_at r v.first) (told_at r v.second) no_members) (found-no_float s rank words (told_at r v.first) (told_at r v.second))
 
 -- merged rows
 pub merged-no_float : (parts : ℕ) (s : Sources) (p : Shown) → has_float (merged_object parts s p) ≡ false

@@ -3,12 +3,9 @@ use Rattle.std.proofs.Common.{◌≡◌, ℕ, suc, ◌+◌, ◌<◌, true, false
 use Rattle.std.specs.Prelude.{nat_lt}
 use Rattle.std.proofs.lemmas.Bool.{lt-ltb}
 use Rattle.std.proofs.lemmas.List.{length-append, length-map, length-take-le, map-append}
-use Rattle.rapid_text.specs.Recording.{Recording}
 use Rattle.serde_json.specs.Data.{Data}
-use Rattle.race_triage.specs.declared.verdicts.Verdict.{Verdict}
-use Rattle.triage_report.specs.sarif.Logs.{item_text, joined, joined_by, AreResults, IsResult}
+use Rattle.triage_report.specs.sarif.Logs.{item_text, joined, joined_by, AreDrawn}
 use Rattle.triage_report.specs.declared.sarif.logs.TheConstants.{MOST_FLOWS}
-use Rattle.triage_report.specs.declared.sarif.sources.Sources.{Sources}
 
 later-more : (ds : List Data) (d : Data) → joined_by true (ds ++ d ∷ []) ≡ joined_by true ds ++ item_text true d
 later-more [] d = append-nil (item_text true d)
@@ -22,22 +19,26 @@ joined-more (x ∷ ds) d =
     ∙ sym (append_assoc (item_text false x) (joined_by true ds) (item_text true d))
     ∙ ap (λ (b : Bool). (item_text false x ++ joined_by true ds) ++ item_text b d) some
 
-module _ (r : Recording) (s : Sources) where
+module _ {V : Type 0} (Is : Bool → V → Data → Type 0) where
   -- there are as many objects as verdicts
-  pub results-length : (vs : List Verdict) (ds : List Data) → AreResults r s vs ds → length vs ≡ length ds
-  results-length vs ds AreResults.none = refl
-  results-length vs ds (AreResults.another us es v d are is) = length-append us (v ∷ []) ∙ ap (λ n. n + 1) (results-length us es are) ∙ sym (length-append es (d ∷ []))
+  pub results-length : (vs : List V) (ds : List Data) → AreDrawn Is vs ds → length vs ≡ length ds
+  results-length vs ds AreDrawn.none = refl
+  results-length vs ds (AreDrawn.another us es v d are is) = length-append us (v ∷ []) ∙ ap (λ n. n + 1) (results-length us es are) ∙ sym (length-append es (d ∷ []))
 
   -- what a loop over the verdicts has appended
-  abbrev pub AreAppended : List ℕ → List Verdict → List ℕ → Type 0
-  AreAppended old vs new = (ds : List Data) × AreResults r s vs ds × (new ≡ old ++ joined ds)
+  abbrev pub AreAppended : List ℕ → List V → List ℕ → Type 0
+  AreAppended old vs new = (ds : List Data) × AreDrawn Is vs ds × (new ≡ old ++ joined ds)
 
-  pub appended-more : (old before after : List ℕ) (vs : List Verdict) (v : Verdict) (d : Data) (at : ℕ) → AreAppended old vs before → length vs ≡ at → IsResult r s (nat_lt at MOST_FLOWS) v d
+  -- nothing was appended yet
+  pub results_begin : (old : List ℕ) (vs : List V) → AreAppended old (take 0 vs) old
+  results_begin old vs = ([], AreDrawn.none, sym (append-nil old))
+
+  pub appended-more : (old before after : List ℕ) (vs : List V) (v : V) (d : Data) (at : ℕ) → AreAppended old vs before → length vs ≡ at → Is (nat_lt at MOST_FLOWS) v d
       → after ≡ before ++ item_text (nat_lt 0 at) d → AreAppended old (vs ++ v ∷ []) after
   appended-more old before after vs v d at (ds, are, is) len result more =
       let count = sym (results-length vs ds are) ∙ len in (
         ds ++ d ∷ [],
-        AreResults.another vs ds v d are (subst (λ (n : ℕ). IsResult r s (nat_lt n MOST_FLOWS) v d) (sym len) result),
+        AreDrawn.another vs ds v d are (subst (λ (n : ℕ). Is (nat_lt n MOST_FLOWS) v d) (sym len) result),
         more
             ∙ ap (λ (t : List ℕ). t ++ item_text (nat_lt 0 at) d) is
             ∙ append_assoc old (joined ds) (item_text (nat_lt 0 at) d)
@@ -45,10 +46,20 @@ module _ (r : Recording) (s : Sources) where
             ∙ ap (λ (t : List ℕ). old ++ t) (sym (joined-more ds d)),
       )
 
+-- two pieces that are appended one after another are appended as one
+pub two_pieces : (old one two x y : List ℕ) → one ≡ old ++ x → two ≡ one ++ y → two ≡ old ++ (x ++ y)
+two_pieces old one two x y e1 e2 = e2 ∙ ap (λ (t : List ℕ). t ++ y) e1 ∙ append_assoc old x y
+
 -- three pieces that are appended one after another are appended as one
 pub three_pieces : (old one two three x y z : List ℕ) → one ≡ old ++ x → two ≡ one ++ y → three ≡ two ++ z → three ≡ old ++ (x ++ y ++ z)
 three_pieces old one two three x y z e1 e2 e3 =
     let whole : three ≡ (old ++ x ++ y ++ z) = cc in
+    whole ∙ simp append_assoc
+
+-- four pieces that are appended one after another are appended as one
+pub four_pieces : (old one two three four x y z v : List ℕ) → one ≡ old ++ x → two ≡ one ++ y → three ≡ two ++ z → four ≡ three ++ v → four ≡ old ++ (x ++ y ++ z ++ v)
+four_pieces old one two three four x y z v e1 e2 e3 e4 =
+    let whole : four ≡ (old ++ x ++ y ++ z ++ v) = cc in
     whole ∙ simp append_assoc
 
 -- five pieces that are appended one after another are appended as one
@@ -57,10 +68,6 @@ pub five_pieces :
 five_pieces old one two three four five x y z v w e1 e2 e3 e4 e5 =
     let whole : five ≡ (old ++ x ++ y ++ z ++ v ++ w) = cc in
     whole ∙ simp append_assoc
-
--- nothing was appended yet
-pub results_begin : (r : Recording) (s : Sources) (old : List ℕ) (vs : List Verdict) → AreAppended r s old (take 0 vs) old
-results_begin r s old vs = ([], AreResults.none, sym (append-nil old))
 
 -- a result more of those that a function gives
 pub objects-more : {X : Type 0} (old before after : List ℕ) (f : X → Data) (xs : List X) (at : ℕ) (x : X) → at < length xs → take (at + 1) xs ≡ take at xs ++ x ∷ []

@@ -1,6 +1,6 @@
 -- A schedule as a code flow: its steps by threads, each with its place in the schedule. `r` is the trace's recording, `root` the folder of the
 -- code. All notions here are this project's own.
-use Rattle.std.specs.Prelude.{◌≡◌, ◌≤◌, ◌⊎◌, ℕ, zero, suc, ◌+◌, ◌-◌, ◌==◌, ◌&&◌, nat_le, nat_lt, min, Bool, true, false, cond, List, [], ◌∷◌, ◌++◌, drop, length, map, slice_get, slice_index_or, codes, decimal, Option, Some, None, Vec}
+use Rattle.std.specs.Prelude.{◌≡◌, ◌≤◌, ◌⊎◌, ℕ, zero, suc, ◌+◌, ◌-◌, ◌==◌, ◌&&◌, nat_eq, nat_le, nat_lt, min, Bool, true, false, cond, List, [], ◌∷◌, ◌++◌, drop, length, map, slice_get, slice_index_or, codes, decimal, Option, Some, None, Vec}
 use Rattle.std.specs.List.{concat}
 use Rattle.std.specs.declared.alloc.Global.{Global}
 use Rattle.event_index.specs.Events.{is_of_thread}
@@ -15,18 +15,23 @@ use Rattle.race_triage.specs.declared.verdicts.Verdict.{Verdict}
 use Rattle.schedule.specs.Reordering.{IsCorrectReordering}
 use Rattle.schedule.specs.Shows.{Shows}
 use Rattle.explain_report.specs.findings.Findings.{AreFound, IsFinding, IsShownAs}
+use Rattle.explain_report.specs.places.Located.{location_at}
+use Rattle.explain_report.specs.places.Places.{before_arrow}
 use Rattle.explain_report.specs.declared.verdict.How.{How}
 use Rattle.explain_report.specs.declared.findings.finding.Finding.{Finding}
 use Rattle.explain_report.specs.declared.findings.finding.Finding.TheVariants.{Race as FoundRace, Forced, Guarded, Contradicted, Undecided as FoundUndecided}
-use Rattle.triage_report.specs.sarif.Locations.{message}
-use Rattle.triage_report.specs.sarif.Stacks.{access_location}
+use Rattle.triage_report.specs.lines.Accesses.{thread_at, variable_at}
+use Rattle.triage_report.specs.sarif.Locations.{location, message}
+use Rattle.triage_report.specs.sarif.Stacks.{access_location, own_function}
 use Rattle.triage_report.specs.declared.folder.Folder.{Folder}
+use Rattle.triage_report.specs.declared.sarif.flows.Ends.{Ends}
+use Rattle.triage_report.specs.declared.sarif.flows.Ends.TheVariants.{Accesses, Requests}
 use Rattle.triage_report.specs.declared.sarif.flows.Flow.{Flow}
 use Rattle.triage_report.specs.declared.sarif.flows.TheConstants.{MOST_ORDER, MOST_STEPS}
 
--- what `told` says of the trace, the folder of the code and the steps of a flow
-abbrev pub of_flow : {X : Type 0} → (Recording → Folder → List ℕ → X) → Flow → X
-of_flow told f = told f.indexed.now f.root.now f.steps.now
+-- what `told` says of the trace, the folder of the code, the kind of the last two steps, and the steps of a flow
+abbrev pub of_flow : {X : Type 0} → (Recording → Folder → Ends → List ℕ → X) → Flow → X
+of_flow told f = told f.indexed.now f.root.now f.ends f.steps.now
 
 -- the event at this place of the schedule; 0 if the schedule is shorter
 abbrev pub step_at : List ℕ → ℕ → ℕ
@@ -41,7 +46,7 @@ abbrev pub places_below : (ℕ → Bool) → ℕ → List ℕ
 places_below test zero = []
 places_below test (suc n) = places_below test n ++ cond (test n) (n ∷ []) []
 
--- how much a step matters: the last two are the accesses of the pair
+-- how much a step matters: the last two are the accesses or the requests of the pair
 abbrev pub importance : ℕ → ℕ → List ℕ
 importance len at = cond (nat_le (len - 2) at) (codes "essential") (codes "important")
 
@@ -49,18 +54,41 @@ importance len at = cond (nat_le (len - 2) at) (codes "essential") (codes "impor
 abbrev pub order_of : ℕ → ℕ
 order_of at = min at MOST_ORDER + 1
 
+-- request e waits for its lock, which the thread of request d holds
+abbrev pub wait_words : Recording → ℕ → ℕ → List ℕ
+wait_words r e d = concat (thread_at r e ∷ codes " waits for " ∷ variable_at r e ∷ codes ", which " ∷ thread_at r d ∷ codes " holds" ∷ [])
+
+-- the location of request e, which says so
+abbrev pub wait_location : Recording → Folder → ℕ → ℕ → Data
+wait_location r root e d = location root (before_arrow (location_at r e)) (own_function (location_at r e)) (wait_words r e d)
+
+-- the place of the other one of the last two steps
+abbrev pub other_end : ℕ → ℕ → ℕ
+other_end len at = cond (nat_eq at (len - 1)) (at - 1) (len - 1)
+
+-- the location of a step of a schedule after which the last two are requests of which each waits for the other
+abbrev pub request_location : Recording → Folder → List ℕ → ℕ → Data
+request_location r root steps at =
+    cond (nat_le (length steps - 2) at) (wait_location r root (step_at steps at) (step_at steps (other_end (length steps) at)))
+    (access_location r root (step_at steps at))
+
+-- the location of the step at this place
+abbrev pub step_location : Recording → Folder → Ends → List ℕ → ℕ → Data
+step_location r root Accesses steps at = access_location r root (step_at steps at)
+step_location r root Requests steps at = request_location r root steps at
+
 -- the step at this place
-abbrev pub step : Recording → Folder → List ℕ → ℕ → Data
-step r root steps at =
+abbrev pub step : Recording → Folder → Ends → List ℕ → ℕ → Data
+step r root ends steps at =
     object
     (member (codes "executionOrder") (whole (order_of at))
     (member (codes "importance") (string (importance (length steps) at))
-    (member (codes "location") (access_location r root (step_at steps at))
+    (member (codes "location") (step_location r root ends steps at)
     no_members)))
 
 -- the steps at these places
-abbrev pub steps_at : Recording → Folder → List ℕ → List ℕ → Data
-steps_at r root steps places = array (items_of (map (step r root steps) places))
+abbrev pub steps_at : Recording → Folder → Ends → List ℕ → List ℕ → Data
+steps_at r root ends steps places = array (items_of (map (step r root ends steps) places))
 
 -- how many steps there are, and whether all are listed
 abbrev pub count_words : ℕ → List ℕ
@@ -76,37 +104,37 @@ abbrev pub thread_name : Recording → ℕ → List ℕ
 thread_name r u = name_at r.threads u
 
 -- the flow of thread u, with its steps at the last `MOST_STEPS` places
-abbrev pub thread_flow : Recording → Folder → List ℕ → ℕ → List ℕ → Data
-thread_flow r root steps u places =
+abbrev pub thread_flow : Recording → Folder → Ends → List ℕ → ℕ → List ℕ → Data
+thread_flow r root ends steps u places =
     object
     (count_members (length places)
     (member (codes "id") (text (thread_name r u))
-    (member (codes "locations") (steps_at r root steps (drop (length places - MOST_STEPS) places))
+    (member (codes "locations") (steps_at r root ends steps (drop (length places - MOST_STEPS) places))
     no_members)))
 
-abbrev pub flow_by : Recording → Folder → List ℕ → ℕ → List ℕ → List Data
-flow_by r root steps u places = cond (length places == 0) [] (thread_flow r root steps u places ∷ [])
+abbrev pub flow_by : Recording → Folder → Ends → List ℕ → ℕ → List ℕ → List Data
+flow_by r root ends steps u places = cond (length places == 0) [] (thread_flow r root ends steps u places ∷ [])
 
 -- the places of thread u's steps, rising
 abbrev pub step_places : Recording → List ℕ → ℕ → List ℕ
 step_places r steps u = places_below (is_step r steps u) (length steps)
 
 -- the flow of thread u, if it has a step
-abbrev pub flow_if : Recording → Folder → List ℕ → ℕ → List Data
-flow_if r root steps u = flow_by r root steps u (step_places r steps u)
+abbrev pub flow_if : Recording → Folder → Ends → List ℕ → ℕ → List Data
+flow_if r root ends steps u = flow_by r root ends steps u (step_places r steps u)
 
 -- the flows of the threads below n
-abbrev pub flows_below : Recording → Folder → List ℕ → ℕ → List Data
-flows_below r root steps zero = []
-flows_below r root steps (suc n) = flows_below r root steps n ++ flow_if r root steps n
+abbrev pub flows_below : Recording → Folder → Ends → List ℕ → ℕ → List Data
+flows_below r root ends steps zero = []
+flows_below r root ends steps (suc n) = flows_below r root ends steps n ++ flow_if r root ends steps n
 
 -- a flow for each thread that has a step
-abbrev pub thread_flows : Recording → Folder → List ℕ → Data
-thread_flows r root steps = array (items_of (flows_below r root steps (length r.threads)))
+abbrev pub thread_flows : Recording → Folder → Ends → List ℕ → Data
+thread_flows r root ends steps = array (items_of (flows_below r root ends steps (length r.threads)))
 
 -- the code flow of a schedule
-abbrev pub code_flow : Recording → Folder → List ℕ → Data
-code_flow r root steps = object (member (codes "threadFlows") (thread_flows r root steps) no_members)
+abbrev pub code_flow : Recording → Folder → Ends → List ℕ → Data
+code_flow r root ends steps = object (member (codes "threadFlows") (thread_flows r root ends steps) no_members)
 
 -- the outcome is a race
 abbrev pub is_race : Outcome → Bool

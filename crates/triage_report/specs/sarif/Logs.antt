@@ -42,9 +42,13 @@ count_members name (Some count) ms = put name (whole count) ms
 abbrev pub left_object : Option ℕ → Option ℕ → Data
 left_object known hidden = object (count_members (codes "hidden") hidden (count_members (codes "known") known no_members))
 
+-- what comes after the tool and its rules
+abbrev pub end_text : Folder → Option ℕ → Option ℕ → List ℕ
+end_text root known hidden = compact_text (base_object root) ++ PROPERTIES.now ++ compact_text (left_object known hidden) ++ END.now
+
 -- what comes after the results
 abbrev pub rest_text : Folder → Option ℕ → Option ℕ → List ℕ
-rest_text root known hidden = TAIL.now ++ compact_text (base_object root) ++ PROPERTIES.now ++ compact_text (left_object known hidden) ++ END.now
+rest_text root known hidden = TAIL.now ++ end_text root known hidden
 
 -- a value, after a comma if it is a later one
 abbrev pub item_text : Bool → Data → List ℕ
@@ -63,11 +67,15 @@ abbrev pub IsResult : Recording → Sources → Bool → Verdict → Data → Ty
 IsResult r s drawn v d =
     (steps : Option (Vec ℕ Global)) × IsFlowOf r drawn v steps × (d ≡ shown_result r s v steps)
 
--- The objects are the results of the verdicts, in order. The first MOST_FLOWS are drawn.
-pub data AreResults (r : Recording) (s : Sources) : List Verdict → List Data → Type 0 where
-  none : AreResults r s [] []
-  another : (vs : List Verdict) (ds : List Data) (v : Verdict) (d : Data) → AreResults r s vs ds → IsResult r s (nat_lt (length vs) MOST_FLOWS) v d
-      → AreResults r s (vs ++ v ∷ []) (ds ++ d ∷ [])
+-- The objects are the results of the verdicts, in order: `Is` says which object a verdict has. The first MOST_FLOWS
+-- are drawn.
+pub data AreDrawn {V : Type 0} (Is : Bool → V → Data → Type 0) : List V → List Data → Type 0 where
+  none : AreDrawn Is [] []
+  another : (vs : List V) (ds : List Data) (v : V) (d : Data) → AreDrawn Is vs ds → Is (nat_lt (length vs) MOST_FLOWS) v d
+      → AreDrawn Is (vs ++ v ∷ []) (ds ++ d ∷ [])
+
+abbrev pub AreResults : Recording → Sources → List Verdict → List Data → Type 0
+AreResults r s vs ds = AreDrawn (IsResult r s) vs ds
 
 -- The text has a result for each chosen verdict, and what was left out is counted.
 pub record IsSarif (r : Recording) (s : Sources) (c : Chosen) (text : List ℕ) : Type 0 where

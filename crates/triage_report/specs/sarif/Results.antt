@@ -11,15 +11,17 @@ use Rattle.triage_report.specs.sarif.Locations.{message, single}
 use Rattle.triage_report.specs.sarif.Prints.{print_object}
 use Rattle.triage_report.specs.sarif.Stacks.{stacks, told_location}
 use Rattle.triage_report.specs.sarif.Words.{kind_word, level_word, message_words, outcome_rank, rule_number, rule_word}
+use Rattle.triage_report.specs.declared.sarif.flows.Ends.{Ends}
+use Rattle.triage_report.specs.declared.sarif.flows.Ends.TheVariants.{Accesses}
 use Rattle.triage_report.specs.declared.sarif.results.Found.{Found}
 use Rattle.triage_report.specs.declared.sarif.sources.Sources.{Sources}
 use Rattle.triage_report.specs.declared.folder.Folder.{Folder}
 
--- the rule, and how bad it is
-abbrev pub word_members : ℕ → Members → Members
-word_members rank ms =
+-- the rule with this name, and how bad it is
+abbrev pub word_members : ℕ → List ℕ → Members → Members
+word_members rank rule ms =
     put (codes "ruleIndex") (whole (rule_number rank))
-    (put (codes "ruleId") (string (rule_word rank))
+    (put (codes "ruleId") (string rule)
     (put (codes "level") (string (level_word rank))
     (put (codes "kind") (string (kind_word rank)) ms)))
 
@@ -44,25 +46,25 @@ print_members s t u ms = put (codes "partialFingerprints") (print_object s t u) 
 
 -- what every result has: the rule by the rank, the message, the accesses and the fingerprint
 abbrev pub found_members : Sources → ℕ → List ℕ → Told → Told → Members → Members
-found_members s rank words t u ms = print_members s t u (access_members s.root.now t u (said_members words (word_members rank ms)))
+found_members s rank words t u ms = print_members s t u (access_members s.root.now t u (said_members words (word_members rank (rule_word rank) ms)))
 
 -- the same for a finding
 abbrev pub found_told : Sources → Found → Members → Members
 found_told s f ms = found_members s f.rank f.words.now (access_told f.first) (access_told f.second) ms
 
 -- the code flow of the steps
-abbrev pub step_members : Recording → Folder → List ℕ → Members → Members
-step_members r root steps ms = put (codes "codeFlows") (single (code_flow r root steps)) ms
+abbrev pub step_members : Recording → Folder → Ends → List ℕ → Members → Members
+step_members r root ends steps ms = put (codes "codeFlows") (single (code_flow r root ends steps)) ms
 
 -- the same, if there are any
-abbrev pub flow_members : Recording → Folder → Option (List ℕ) → Members → Members
-flow_members r root None ms = ms
-flow_members r root (Some steps) ms = step_members r root steps ms
+abbrev pub flow_members : Recording → Folder → Ends → Option (List ℕ) → Members → Members
+flow_members r root ends None ms = ms
+flow_members r root ends (Some steps) ms = step_members r root ends steps ms
 
 -- the result of a verdict, which these steps show if there are any
 abbrev pub result_object : Recording → Sources → Verdict → Option (List ℕ) → Data
 result_object r s v steps =
-    object (flow_members r s.root.now steps (found_members s (outcome_rank v.outcome) (message_words r v) (told_at r v.first) (told_at r v.second) no_members))
+    object (flow_members r s.root.now Accesses steps (found_members s (outcome_rank v.outcome) (message_words r v) (told_at r v.first) (told_at r v.second) no_members))
 
 -- the same for a list of steps, if there is one
 abbrev pub shown_result : Recording → Sources → Verdict → Option (Vec ℕ Global) → Data

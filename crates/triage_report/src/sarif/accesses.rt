@@ -21,7 +21,7 @@ pub struct Access<'a> {
 }
 
 /// The access at this event.
-pub(crate) fn access_at(indexed: &Indexed, event: u32) -> Access<'_>
+pub fn access_at(indexed: &Indexed, event: u32) -> Access<'_>
     ensures thread { result.thread.now ≡ thread_at indexed.now event }
     ensures verb { result.verb.now ≡ verb_at indexed.now event }
     ensures variable { result.variable.now ≡ variable_at indexed.now event }

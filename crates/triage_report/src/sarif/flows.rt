@@ -1,15 +1,18 @@
 //! A schedule as a code flow: the steps of each thread, each with its place in the schedule.
-ghost use Rattle.std.specs.Prelude.{◌≡◌, [], IfOk};
+ghost use Rattle.std.specs.Prelude.{◌≡◌, [], IfOk, option_map};
 ghost use Rattle.rapid_text.specs.Appended.{Appended};
 ghost use Rattle.race_parts.specs.Made.{Changed, FilledAs, MadeAs};
 ghost use Rattle.triage_report.specs.Appending.{AppendedView, AppendedViews};
-ghost use Rattle.triage_report.specs.sarif.Flows.{code_flow, count_members, count_words, flow_by, flow_if, importance, is_step, of_flow, order_of, step, step_at, step_places, steps_at, thread_flow, thread_flows, thread_name};
+ghost use Rattle.triage_report.specs.sarif.Flows.{code_flow, count_members, count_words, flow_by, flow_if, importance, is_step, of_flow, order_of, other_end, request_location, step, step_at, step_location, step_places, steps_at, thread_flow, thread_flows, thread_name, wait_location, wait_words};
+ghost use Rattle.triage_report.specs.sarif.Results.{flow_members, step_members};
 
 use crate::folder::Folder;
 use crate::json::{put_number, put_text, put_word};
-use crate::sarif::locations::put_message;
-use crate::sarif::stacks::access_of;
+use crate::lines::{thread_of, variable_of};
+use crate::sarif::locations::{Spot, location_of as spot_of, put_message, put_single};
+use crate::sarif::stacks::{access_of, own_function};
 use event_index::Indexed;
+use explain_report::places::{cut_at_arrow, location_of};
 use rapid_text::OutOfMemory;
 use report::{Piece, append_pieces};
 use serde_json::{Map, Value, put};
@@ -21,17 +24,67 @@ pub const MOST_ORDER: u64 = 4_294_967_295;
 /// The most steps of one thread in a code flow. If the thread has more, the last ones are there.
 pub const MOST_STEPS: usize = 200;
 
-/// The steps of a code flow: a schedule of this trace, and then the two accesses of the pair that it shows. `root` is
-/// the folder of the code.
+/// What the last two steps of a code flow are.
+#[derive(Clone, Copy)]
+pub enum Ends {
+    /// Two accesses that race.
+    Accesses,
+    /// Two requests, each of which waits for a lock that the thread of the other one holds.
+    Requests,
+}
+
+/// The steps of a code flow: a schedule of this trace, and then the two events of the pair that it shows.
 #[derive(Clone, Copy)]
 pub(crate) struct Flow<'a> {
-    pub(crate) indexed: &'a Indexed,
-    pub(crate) root: &'a Folder,
-    pub(crate) steps: &'a [u32],
+    /// The trace.
+    pub indexed: &'a Indexed,
+    /// The folder of the code.
+    pub root: &'a Folder,
+    /// What the last two steps are.
+    pub ends: Ends,
+    /// The events.
+    pub steps: &'a [u32],
+}
+
+/// Puts the code flow of the steps, if there are any.
+pub fn put_flow(
+    members: &mut Map<String, Value>,
+    alloc: Global,
+    indexed: &Indexed,
+    root: &Folder,
+    ends: Ends,
+    steps: &Option<Vec<u32>>,
+) -> Result<(), OutOfMemory>
+    ensures { Changed result members.old members.new (flow_members indexed.now root.now ends (option_map (λ s. s.items) steps.now)) }
+{
+    match steps {
+        Some(steps) => {
+            let told = Flow {
+                indexed,
+                root,
+                ends,
+                steps: steps.as_slice(),
+            };
+            put_steps(members, alloc, told)
+        }
+        None => Ok(()),
+    }
+}
+
+/// Puts the code flow of the steps.
+fn put_steps(
+    members: &mut Map<String, Value>,
+    alloc: Global,
+    flow: Flow<'_>,
+) -> Result<(), OutOfMemory>
+    ensures { Changed result members.old members.new (of_flow step_members flow.entry) }
+{
+    let made = flow_of(alloc, flow)?;
+    put_single(members, alloc, "codeFlows", made)
 }
 
 /// The code flow of the steps.
-pub(crate) fn flow_of(alloc: Global, flow: Flow<'_>) -> Result<Value, OutOfMemory>
+fn flow_of(alloc: Global, flow: Flow<'_>) -> Result<Value, OutOfMemory>
     ensures { MadeAs result (of_flow code_flow flow.entry) }
 {
     let threads = threads_of(alloc, flow)?;
@@ -130,12 +183,12 @@ fn thread_flow_of(
     ensures { MadeAs result (of_flow thread_flow flow.entry thread places.now) }
 {
     let mut members = Map::new(alloc);
-    put_flow(&mut members, alloc, flow, places, thread)?;
+    put_thread(&mut members, alloc, flow, places, thread)?;
     Ok(Value::Object(members))
 }
 
 /// Puts the members of a thread flow.
-fn put_flow(
+fn put_thread(
     members: &mut Map<String, Value>,
     alloc: Global,
     flow: Flow<'_>,
@@ -234,7 +287,7 @@ fn put_step(
     requires { members.old.entries ≡ [] }
     ensures { FilledAs result members.new (of_flow step flow.entry at) }
 {
-    let location = access_of(alloc, flow.indexed, flow.root, step_at(flow.steps, at))?;
+    let location = step_location_of(alloc, flow, at)?;
     put(members, alloc, "location", location)?;
     put_number(members, alloc, "executionOrder", order_of(at))?;
     put_word(
@@ -246,6 +299,92 @@ fn put_step(
     Ok(())
 }
 
+/// The location of the step at this place.
+fn step_location_of(alloc: Global, flow: Flow<'_>, at: usize) -> Result<Value, OutOfMemory>
+    ensures { MadeAs result (of_flow step_location flow.entry at) }
+{
+    match flow.ends {
+        Ends::Accesses => access_of(alloc, flow.indexed, flow.root, step_at(flow.steps, at)),
+        Ends::Requests => request_of(alloc, flow.indexed, flow.root, flow.steps, at),
+    }
+}
+
+/// The location of the step at this place, if the last two steps are requests.
+fn request_of(
+    alloc: Global,
+    indexed: &Indexed,
+    root: &Folder,
+    steps: &[u32],
+    at: usize,
+) -> Result<Value, OutOfMemory>
+    ensures { MadeAs result (request_location indexed.now root.now steps.now at) }
+{
+    if at >= steps.len().saturating_sub(2) {
+        let other = step_at(steps, other_end(steps.len(), at));
+        return wait_of(alloc, indexed, root, step_at(steps, at), other);
+    }
+    access_of(alloc, indexed, root, step_at(steps, at))
+}
+
+/// The place of the other one of the last two steps.
+fn other_end(len: usize, at: usize) -> usize
+    ensures { result ≡ other_end len at }
+{
+    let last = len.saturating_sub(1);
+    if at == last {
+        at.saturating_sub(1)
+    } else {
+        last
+    }
+}
+
+/// The location of a request, whose lock the thread of the other request holds.
+fn wait_of(
+    alloc: Global,
+    indexed: &Indexed,
+    root: &Folder,
+    request: u32,
+    other: u32,
+) -> Result<Value, OutOfMemory>
+    ensures { MadeAs result (wait_location indexed.now root.now request other) }
+{
+    let mut words = Vec::new(alloc);
+    append_wait(&mut words, indexed, request, other)?;
+    let location = location_of(indexed, request);
+    let (place, _) = cut_at_arrow(location);
+    spot_of(
+        alloc,
+        root,
+        Spot {
+            place,
+            function: own_function(location),
+            words: words.as_slice(),
+        },
+    )
+}
+
+/// Appends for which lock a request waits, and which thread holds it.
+fn append_wait<'a>(
+    out: &mut Vec<u8>,
+    indexed: &'a Indexed,
+    request: u32,
+    other: u32,
+) -> Result<(), OutOfMemory>
+    ensures { Appended result out.old out.new (wait_words indexed.now request other) }
+{
+    append_pieces(
+        out,
+        &[
+            Piece::Words(thread_of(indexed, request)),
+            Piece::Words(b" waits for "),
+            Piece::Words(variable_of(indexed, request)),
+            Piece::Words(b", which "),
+            Piece::Words(thread_of(indexed, other)),
+            Piece::Words(b" holds"),
+        ],
+    )
+}
+
 /// The execution order of the step at this place: 1 for the first.
 fn order_of(at: usize) -> u64
     ensures { result ≡ order_of at }
@@ -253,7 +392,7 @@ fn order_of(at: usize) -> u64
     (at as u64).min(MOST_ORDER) + 1
 }
 
-/// How important the step at this place is. The last two are the accesses of the pair.
+/// How important the step at this place is. The last two are the two events of the pair.
 fn importance(len: usize, at: usize) -> &'static str
     ensures { result.now ≡ importance len at }
 {

@@ -34,7 +34,7 @@ pub(crate) fn single_of(alloc: Global, value: Value) -> Result<Value, OutOfMemor
 }
 
 /// Puts a list with one value.
-pub(crate) fn put_single(
+pub fn put_single(
     members: &mut Map<String, Value>,
     alloc: Global,
     name: &str,
@@ -76,7 +76,7 @@ fn put_location(
 }
 
 /// Puts a message.
-pub(crate) fn put_message(
+pub fn put_message(
     members: &mut Map<String, Value>,
     alloc: Global,
     words: &[u8],

@@ -4,7 +4,7 @@ ghost use Rattle.rapid_text.specs.Appended.{Appended};
 ghost use Rattle.serde_json.specs.View.{view};
 ghost use Rattle.serde_json.specs.Written.{compact_text, has_float};
 ghost use Rattle.triage_report.specs.Appending.{AppendedAs, AppendedText};
-ghost use Rattle.triage_report.specs.sarif.Logs.{base_object, item_text, joined, left_object, rest_text, AreResults, IsResult, IsSarif};
+ghost use Rattle.triage_report.specs.sarif.Logs.{base_object, end_text, item_text, joined, left_object, rest_text, AreResults, IsResult, IsSarif};
 ghost use Rattle.triage_report.specs.sarif.Results.{shown_result};
 ghost use Rattle.triage_report.specs.sarif.Rules.{tail_text, AreFrames, AreLimits};
 
@@ -93,6 +93,19 @@ pub(crate) fn append_rest(
     ensures { Appended result out.old out.new (rest_text root.now known hidden) }
 {
     out.extend_from_slice(TAIL)?;
+    append_end(out, root, known, hidden)?;
+    Ok(())
+}
+
+/// Appends what comes after the tool and its rules.
+pub fn append_end(
+    out: &mut Vec<u8>,
+    root: &Folder,
+    known: Option<u64>,
+    hidden: Option<u64>,
+) -> Result<(), OutOfMemory>
+    ensures { Appended result out.old out.new (end_text root.now known hidden) }
+{
     append_base(out, root)?;
     out.extend_from_slice(PROPERTIES)?;
     append_left(out, known, hidden)?;
@@ -149,11 +162,7 @@ fn append_shown(
 }
 
 /// Appends a value, after a comma if another comes before it. The value must have no fraction in it.
-pub(crate) fn append_item(
-    out: &mut Vec<u8>,
-    is_later: bool,
-    object: &Value,
-) -> Result<(), OutOfMemory>
+pub fn append_item(out: &mut Vec<u8>, is_later: bool, object: &Value) -> Result<(), OutOfMemory>
     requires { has_float (view object.now) ≡ false }
     ensures { Appended result out.old out.new (item_text is_later (view object.now)) }
 {

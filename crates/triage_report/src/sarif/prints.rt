@@ -78,7 +78,7 @@ fn append_beside(
 }
 
 /// Appends the two sides, the lesser first.
-fn append_ordered(out: &mut Vec<u8>, first: &[u8], second: &[u8]) -> Result<(), OutOfMemory>
+pub fn append_ordered(out: &mut Vec<u8>, first: &[u8], second: &[u8]) -> Result<(), OutOfMemory>
     ensures { Appended result out.old out.new (ordered first.now second.now) }
 {
     match first.cmp(second) {
@@ -89,7 +89,7 @@ fn append_ordered(out: &mut Vec<u8>, first: &[u8], second: &[u8]) -> Result<(), 
 }
 
 /// Appends the two sides.
-fn append_both<'a>(out: &mut Vec<u8>, one: &'a [u8], other: &'a [u8]) -> Result<(), OutOfMemory>
+pub fn append_both<'a>(out: &mut Vec<u8>, one: &'a [u8], other: &'a [u8]) -> Result<(), OutOfMemory>
     ensures { Appended result out.old out.new (both one.now other.now) }
 {
     append_pieces(
@@ -99,7 +99,7 @@ fn append_both<'a>(out: &mut Vec<u8>, one: &'a [u8], other: &'a [u8]) -> Result<
 }
 
 /// Appends the side of an access: its file, function, variable without its number, and line of code.
-fn append_side<'a>(
+pub fn append_side<'a>(
     out: &mut Vec<u8>,
     sources: Sources<'a>,
     access: Access<'a>,

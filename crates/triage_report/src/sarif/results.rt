@@ -1,13 +1,13 @@
 //! The findings on pairs as results.
-ghost use Rattle.std.specs.Prelude.{◌≡◌, [], option_map};
+ghost use Rattle.std.specs.Prelude.{◌≡◌, []};
 ghost use Rattle.race_parts.specs.Made.{Changed, FilledAs, MadeAs};
 ghost use Rattle.triage_report.specs.sarif.Accesses.{access_told};
-ghost use Rattle.triage_report.specs.sarif.Results.{access_members, flow_members, found_told, place_members, print_members, shown_result, step_members, word_members};
+ghost use Rattle.triage_report.specs.sarif.Results.{access_members, found_told, place_members, print_members, shown_result, word_members};
 
 use crate::folder::Folder;
 use crate::json::{put_number, put_word};
 use crate::sarif::accesses::{Access, access_at};
-use crate::sarif::flows::{Flow, flow_of};
+use crate::sarif::flows::{Ends, put_flow};
 use crate::sarif::locations::{put_message, put_single};
 use crate::sarif::prints::print_of;
 use crate::sarif::sources::Sources;
@@ -58,7 +58,7 @@ fn put_result(
         second: access_at(indexed, verdict.second),
     };
     put_found(members, alloc, sources, found)?;
-    put_flow(members, alloc, indexed, sources.root, steps)
+    put_flow(members, alloc, indexed, sources.root, Ends::Accesses, steps)
 }
 
 /// A finding on a pair: its rank, its message, and its two accesses.
@@ -83,19 +83,24 @@ pub(crate) fn put_found(
 ) -> Result<(), OutOfMemory>
     ensures { Changed result members.old members.new (found_told sources.entry found.entry) }
 {
-    put_words(members, alloc, found.rank)?;
+    put_words(members, alloc, found.rank, rule_word(found.rank))?;
     put_message(members, alloc, found.words)?;
     put_accesses(members, alloc, sources.root, found.first, found.second)?;
     put_print(members, alloc, sources, found.first, found.second)
 }
 
-/// Puts the kind, the level and the rule.
-fn put_words(members: &mut Map<String, Value>, alloc: Global, rank: u8) -> Result<(), OutOfMemory>
-    ensures { Changed result members.old members.new (word_members rank) }
+/// Puts the kind, the level, and the rule with this name.
+pub fn put_words(
+    members: &mut Map<String, Value>,
+    alloc: Global,
+    rank: u8,
+    rule: &str,
+) -> Result<(), OutOfMemory>
+    ensures { Changed result members.old members.new (word_members rank rule.now) }
 {
     put_word(members, alloc, "kind", kind_word(rank))?;
     put_word(members, alloc, "level", level_word(rank))?;
-    put_word(members, alloc, "ruleId", rule_word(rank))?;
+    put_word(members, alloc, "ruleId", rule)?;
     put_number(members, alloc, "ruleIndex", rule_number(rank))?;
     Ok(())
 }
@@ -148,39 +153,4 @@ fn put_print(
     let made = print_of(alloc, sources, first, second)?;
     put(members, alloc, "partialFingerprints", made)?;
     Ok(())
-}
-
-/// Puts the code flow of the steps, if there are any.
-fn put_flow(
-    members: &mut Map<String, Value>,
-    alloc: Global,
-    indexed: &Indexed,
-    root: &Folder,
-    steps: &Option<Vec<u32>>,
-) -> Result<(), OutOfMemory>
-    ensures { Changed result members.old members.new (flow_members indexed.now root.now (option_map (λ s. s.items) steps.now)) }
-{
-    match steps {
-        Some(steps) => put_steps(members, alloc, indexed, root, steps.as_slice()),
-        None => Ok(()),
-    }
-}
-
-/// Puts the code flow of the steps.
-fn put_steps(
-    members: &mut Map<String, Value>,
-    alloc: Global,
-    indexed: &Indexed,
-    root: &Folder,
-    steps: &[u32],
-) -> Result<(), OutOfMemory>
-    ensures { Changed result members.old members.new (step_members indexed.now root.now steps.now) }
-{
-    let told = Flow {
-        indexed,
-        root,
-        steps,
-    };
-    let flow = flow_of(alloc, told)?;
-    put_single(members, alloc, "codeFlows", flow)
 }

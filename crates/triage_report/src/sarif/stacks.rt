@@ -76,11 +76,7 @@ pub(crate) fn access_of(
 }
 
 /// The location of an access, with a message.
-pub(crate) fn told_of(
-    alloc: Global,
-    root: &Folder,
-    access: Access<'_>,
-) -> Result<Value, OutOfMemory>
+pub fn told_of(alloc: Global, root: &Folder, access: Access<'_>) -> Result<Value, OutOfMemory>
     ensures { MadeAs result (told_location root.now (access_told access.entry)) }
 {
     let mut words = Vec::new(alloc);
@@ -113,7 +109,7 @@ pub(crate) fn stacks_of(
 }
 
 /// Adds the stack of an access.
-fn push_stack(
+pub fn push_stack(
     stacks: &mut Vec<Value>,
     alloc: Global,
     root: &Folder,

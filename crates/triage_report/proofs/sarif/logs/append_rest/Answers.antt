@@ -1,11 +1,9 @@
-use Rattle.serde_json.specs.Written.{compact_text}
-use Rattle.triage_report.proofs.sarif.LogLemmas.{five_pieces}
-use Rattle.triage_report.specs.sarif.Logs.{base_object, left_object}
-use Rattle.triage_report.specs.declared.sarif.logs.TheConstants.{END, PROPERTIES, TAIL}
+use Rattle.triage_report.proofs.sarif.LogLemmas.{two_pieces}
+use Rattle.triage_report.specs.sarif.Logs.{end_text}
+use Rattle.triage_report.specs.declared.sarif.logs.TheConstants.{TAIL}
 use Rattle.triage_report.proofs.sarif.logs.append_rest.Goals as goal
 
 pub returns : goal.returns
 returns c =
-    five_pieces c.args.out.now.items c.extend_from_slice.new.self.items c.append_base.new.out.items c.extend_from_slice-2.new.self.items c.append_left.new.out.items
-    c.extend_from_slice-3.new.self.items TAIL.now (compact_text (base_object c.args.root.now)) PROPERTIES.now (compact_text (left_object c.args.known c.args.hidden)) END.now
-    c.in_ok-extend_from_slice.ensures.items c.in_ok-append_base.ensures c.in_ok-extend_from_slice-2.ensures.items c.in_ok-append_left.ensures c.in_ok-extend_from_slice-3.ensures.items
+    two_pieces c.args.out.now.items c.extend_from_slice.new.self.items c.append_end.new.out.items TAIL.now (end_text c.args.root.now c.args.known c.args.hidden)
+    c.in_ok-extend_from_slice.ensures.items c.in_ok-append_end.ensures

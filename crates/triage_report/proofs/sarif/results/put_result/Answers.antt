@@ -6,6 +6,7 @@ use Rattle.serde_json.specs.View.{members_view}
 use Rattle.triage_report.specs.lines.Accesses.{thread_at, variable_at, verb_at}
 use Rattle.explain_report.specs.places.Located.{location_at}
 use Rattle.triage_report.specs.sarif.Accesses.{access_told, told_at}
+use Rattle.triage_report.specs.declared.sarif.flows.Ends.TheVariants.{Accesses}
 use Rattle.triage_report.specs.sarif.Results.{flow_members}
 use Rattle.triage_report.specs.sarif.Words.{message_words, outcome_rank}
 use Rattle.triage_report.proofs.sarif.ResultLemmas.{found-same, told-same}
@@ -21,10 +22,10 @@ returns c =
     let one = c.access_at.ensures in
     let other = c.access_at-2.ensures in
     on_ok_weaker c.put_flow.result
-    (λ (put : members_view c.put_flow.new.members.entries ≡ flow_members r s.root.now steps (members_view c.put_found.new.members.entries)).
+    (λ (put : members_view c.put_flow.new.members.entries ≡ flow_members r s.root.now Accesses steps (members_view c.put_found.new.members.entries)).
     ap object
     (put
-    ∙ ap (flow_members r s.root.now steps)
+    ∙ ap (flow_members r s.root.now Accesses steps)
     (c.in_ok-put_found.ensures
     ∙ found-same s c.outcome_rank.result (outcome_rank v.outcome) c.as_slice.result.now said (access_told c.access_at.result) (told_at r v.first) (access_told c.access_at-2.result)
     (told_at r v.second) (members_view c.args.members.now.entries) no_members c.outcome_rank.ensures
